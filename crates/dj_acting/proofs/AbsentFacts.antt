@@ -32,7 +32,7 @@ use Rattle.dj_acting.specs.declared.acted.Acted.{Acted}
 use Rattle.dj_acting.specs.declared.acted.Acted.TheVariants as acts
 use Rattle.dj_acting.specs.Absent.{ReplacesTop, cast_acted, is_absent_of}
 use Rattle.dj_acting.specs.Acting.{Acts, ActsOnHeap, IsTopAbsent, machine, part_of}
-use Rattle.dj_acting.proofs.Told.{types, with_locals}
+use Rattle.dj_acting.proofs.Reported.{types, with_locals}
 use Rattle.dj_acting.proofs.Takings.{none_past}
 
 -- ---- in the model
@@ -59,21 +59,21 @@ module _ (program : Program) (prefix : Prefix) (f : ℕ → Ty) (heap : Heap ℕ
     instance_so : (r : ℕ) → length heap.objects < r → is_instance program prefix p.heap r ty ≡ absent_of ty
     instance_so r past = ap (λ (h : Heap Ty). is_instance program prefix h r ty) typed ∙ absent_instance r ty past
 
-    cast_told : (operands : List Value) → IsTopAbsent heap operands → check_cast program prefix p ty operands ≡ Some (cast_effect p (absent_of ty))
-    cast_told [] past = absurd past
-    cast_told (values.Int z ∷ rest) past = absurd past
-    cast_told (values.Long z ∷ rest) past = absurd past
-    cast_told (values.Ref r ∷ rest) past = ap (λ (b : Bool). Some (cast_effect p b)) (instance_so r past)
+    cast_reported : (operands : List Value) → IsTopAbsent heap operands → check_cast program prefix p ty operands ≡ Some (cast_effect p (absent_of ty))
+    cast_reported [] past = absurd past
+    cast_reported (values.Int z ∷ rest) past = absurd past
+    cast_reported (values.Long z ∷ rest) past = absurd past
+    cast_reported (values.Ref r ∷ rest) past = ap (λ (b : Bool). Some (cast_effect p b)) (instance_so r past)
 
-    abbrev told_value : Value
-    told_value = values.Int (instance_number (absent_of ty))
+    abbrev reported_value : Value
+    reported_value = values.Int (instance_number (absent_of ty))
 
-    instance_told : (operands new : List Value) → IsTopAbsent heap operands → ((w : Value) (rest : List Value) → operands ≡ w ∷ rest → new ≡ told_value ∷ rest)
+    instance_reported : (operands new : List Value) → IsTopAbsent heap operands → ((w : Value) (rest : List Value) → operands ≡ w ∷ rest → new ≡ reported_value ∷ rest)
         → instance_of program prefix p ty operands ≡ Some (record { part = record p { operands = new }; flow = Goes Next })
-    instance_told [] new past is = absurd past
-    instance_told (values.Int z ∷ rest) new past is = absurd past
-    instance_told (values.Long z ∷ rest) new past is = absurd past
-    instance_told (values.Ref r ∷ rest) new past is =
+    instance_reported [] new past is = absurd past
+    instance_reported (values.Int z ∷ rest) new past is = absurd past
+    instance_reported (values.Long z ∷ rest) new past is = absurd past
+    instance_reported (values.Ref r ∷ rest) new past is =
         ap (λ (b : Bool). Some (pushes p rest (values.Int (if b then pos 0 else instance_number (is_instance program prefix p.heap r ty))))) (some_reference r past)
         ∙ (ap (λ (b : Bool). Some (pushes p rest (values.Int (instance_number b)))) (instance_so r past)
         ∙ ap (λ (operands : List Value). Some (record { part = record p { operands = operands }; flow = Goes Next })) (sym (is (values.Ref r) rest refl)))
@@ -94,11 +94,11 @@ no_throwable program prefix =
     rw (a, b, c) refl
 
 module _ (program : Program) (prefix : Prefix) (f : ℕ → Ty) (heap : Heap ℕ) (p : Part) (typed : p.heap ≡ heap_map f heap) where
-  throw_told : (operands : List Value) → IsTopAbsent heap operands → throw_top program prefix p operands ≡ Some (goes p (End outcomes.Link))
-  throw_told [] past = absurd past
-  throw_told (values.Int z ∷ rest) past = absurd past
-  throw_told (values.Long z ∷ rest) past = absurd past
-  throw_told (values.Ref r ∷ rest) past =
+  throw_reported : (operands : List Value) → IsTopAbsent heap operands → throw_top program prefix p operands ≡ Some (goes p (End outcomes.Link))
+  throw_reported [] past = absurd past
+  throw_reported (values.Int z ∷ rest) past = absurd past
+  throw_reported (values.Long z ∷ rest) past = absurd past
+  throw_reported (values.Ref r ∷ rest) past =
       ap (λ (b : Bool). Some (if b then goes p (Goes (Raise raises.NullPointer)) else throw_effect prefix p r (is_instance program prefix p.heap r (class_type (throwable_name prefix))))) (some_reference program prefix f heap r past)
       ∙ (ap (λ (b : Bool). Some (throw_effect prefix p r b)) (instance_so program prefix f heap p typed (class_type (throwable_name prefix)) r past)
       ∙ ap (λ (b : Bool). Some (throw_effect prefix p r b)) (no_throwable program prefix))
@@ -117,7 +117,7 @@ module _ (imaged : Imaged) (ty : Ty) (k : ℕ) (at : types imaged k ≡ ty) wher
         by : (b : Bool) → is_absent_of imaged k ≡ b → Acts imaged (model.CheckCast ty) (machine frames (store heap statics literals)) (machine frames (store heap statics literals)) (cast_acted b)
         by true e = record {
           effect = λ terms own account answers limit.
-              cast_told (program_of imaged) imaged.prefix (types imaged) heap.heap (part_of imaged (machine frames (store heap statics literals)) account answers) refl ty (top_operands frames) past
+              cast_reported (program_of imaged) imaged.prefix (types imaged) heap.heap (part_of imaged (machine frames (store heap statics literals)) account answers) refl ty (top_operands frames) past
               ∙ ap (λ (b : Bool). Some (cast_effect (part_of imaged (machine frames (store heap statics literals)) account answers) b)) (sym same_absent ∙ e);
           limit = refl;
           frames = record { count = refl; method = refl; room = refl; below = refl };
@@ -126,7 +126,7 @@ module _ (imaged : Imaged) (ty : Ty) (k : ℕ) (at : types imaged k ≡ ty) wher
         }
         by false e = record {
           effect = λ terms own account answers limit.
-              cast_told (program_of imaged) imaged.prefix (types imaged) heap.heap (part_of imaged (machine frames (store heap statics literals)) account answers) refl ty (top_operands frames) past
+              cast_reported (program_of imaged) imaged.prefix (types imaged) heap.heap (part_of imaged (machine frames (store heap statics literals)) account answers) refl ty (top_operands frames) past
               ∙ ap (λ (b : Bool). Some (cast_effect (part_of imaged (machine frames (store heap statics literals)) account answers) b)) (sym same_absent ∙ e);
           limit = refl;
           frames = record { count = refl; method = refl; room = refl; below = refl };
@@ -139,7 +139,7 @@ module _ (imaged : Imaged) (ty : Ty) (k : ℕ) (at : types imaged k ≡ ty) wher
   unfolding effect
   instance_absent old new heap past replaces same statics literals are = record {
     effect = λ terms own account answers limit.
-        instance_told (program_of imaged) imaged.prefix (types imaged) heap.heap (part_of imaged (machine old (store heap statics literals)) account answers) refl ty (top_operands old) (top_operands new) past
+        instance_reported (program_of imaged) imaged.prefix (types imaged) heap.heap (part_of imaged (machine old (store heap statics literals)) account answers) refl ty (top_operands old) (top_operands new) past
         (λ w rest e. replaces w rest e ∙ ap (λ (b : Bool). values.Int (instance_number b) ∷ rest) same_absent)
         ∙ with_locals imaged old new (store heap statics literals) (top_operands new) (Goes Next) account answers same.locals;
     limit = refl;
@@ -152,7 +152,7 @@ pub throw_absent : (imaged : Imaged) (frames : List StackFrame) (heap : LimitedH
 unfolding effect
 throw_absent imaged frames heap past statics literals are = record {
   effect = λ terms own account answers limit.
-      throw_told (program_of imaged) imaged.prefix (types imaged) heap.heap (part_of imaged (machine frames (store heap statics literals)) account answers) refl (top_operands frames) past;
+      throw_reported (program_of imaged) imaged.prefix (types imaged) heap.heap (part_of imaged (machine frames (store heap statics literals)) account answers) refl (top_operands frames) past;
   limit = refl;
   frames = record { count = refl; method = refl; room = refl; below = refl };
   number = refl;

@@ -63,7 +63,7 @@ no_call i before after a = a.are
 
 -- and what is no call isn't reported as one
 push_no_call : IsActed image (model.Push (int (pos 3))) (machine (frames []) kept) (machine (frames []) kept) acts.Call → ⊥
-push_no_call told = let is = told.0 in absurd cc
+push_no_call reported = let is = reported.0 in absurd cc
 
 -- ---- room
 

@@ -14,7 +14,7 @@ use Rattle.dj_image.specs.Imaged.{Imaged}
 use Rattle.dj_initialising.specs.Store.{store}
 use Rattle.dj_acting.specs.Acting.{ActsOnHeap, HasRoom}
 use Rattle.dj_acting.specs.Flows.{way_acted}
-use Rattle.dj_acting.proofs.Told.{values_acted}
+use Rattle.dj_acting.proofs.Reported.{values_acted}
 use Rattle.dj_acting.proofs.Effects.{action_on_values, is_on_values}
 
 -- what an action leaves has room

@@ -43,7 +43,7 @@ pub begun_by : (imaged : Imaged) (i : Instruction) (old left new : List StackFra
     → ActsOnHeap imaged i old left before after acted → Follows acted left new begun → BeginsBy imaged i old new before after begun
 begun_by imaged i old left new before after acted begins.Went does gone = record { left = left; acted = acted; does = does; gone = gone }
 begun_by imaged i old left new before after acted begins.Nothing does follows = absurd follows
-begun_by imaged i old left new before after acted (begins.Left told) does follows =
+begun_by imaged i old left new before after acted (begins.Left reported) does follows =
     subst (λ (a : Acted). ActsOnHeap imaged i old new before after a) (sym follows.0)
     (subst (λ (frames : List StackFrame). ActsOnHeap imaged i old frames before after acted) (sym follows.1) does)
 
@@ -71,15 +71,15 @@ pub begun_known : (types : List Ty) (heap : LimitedHeap) (acted : Acted) (old ne
     → IsKnownThen types heap begun
 begun_known types heap acted old new begins.Went known gone = gone_known types heap acted old new known gone
 begun_known types heap acted old new begins.Nothing known follows = absurd follows
-begun_known types heap acted old new (begins.Left told) known follows = subst (IsKnownAfter types heap) (sym follows.0) known
+begun_known types heap acted old new (begins.Left reported) known follows = subst (IsKnownAfter types heap) (sym follows.0) known
 
 acted_known : (types : List Ty) (heap : LimitedHeap) (flow : Flow) → AreKnown types heap → IsKnownAfter types heap (flow_acted (Some flow))
 acted_known types heap (flows.Goes way) known = known
 acted_known types heap flows.Link known = known
 acted_known types heap (flows.HeapFull used size) known = known
 
-pub stored_known : (types : List Ty) (takes : ℕ → ℕ → Bool) (access : Access) (old new : List StackFrame) (before after : LimitedHeap) (told : Option Flow) (acted : Acted) → acted ≡ flow_acted told
-    → AreKnown types before → DoesOnHeap (arrays.store_element takes access) old new before after told → IsKnownAfter types after acted
+pub stored_known : (types : List Ty) (takes : ℕ → ℕ → Bool) (access : Access) (old new : List StackFrame) (before after : LimitedHeap) (reported : Option Flow) (acted : Acted) → acted ≡ flow_acted reported
+    → AreKnown types before → DoesOnHeap (arrays.store_element takes access) old new before after reported → IsKnownAfter types after acted
 stored_known types takes access old new before after None acted is known does = subst (IsKnownAfter types after) (sym is) tt
 stored_known types takes access old new before after (Some flow) acted is known does =
     subst (IsKnownAfter types after) (sym is) (acted_known types after flow (store_known types takes access old new before after flow known does))

@@ -42,7 +42,7 @@ use Rattle.dj_image.specs.Imaged.{Imaged, program_of, typed_of}
 use Rattle.dj_initialising.specs.Store.{AreTexts, IsStore}
 use Rattle.dj_acting.specs.Taking.{IsTaken}
 use Rattle.dj_acting.specs.Acting.{Machine, part_of, IsHeap, IsTopThere}
-use Rattle.dj_acting.proofs.Told.{IsOnValues, IsOnHeap, IsOnStatics, IsOnLiterals, IsThrown, types}
+use Rattle.dj_acting.proofs.Reported.{IsOnValues, IsOnHeap, IsOnStatics, IsOnLiterals, IsThrown, types}
 
 -- ---- on values
 
@@ -185,19 +185,19 @@ module _ (imaged : Imaged) (m : Machine) (there : IsTopThere m.store.heap.heap (
   abbrev below : ℕ → Bool
   below = below_of (program_of imaged) imaged.prefix (types_of (typed_of imaged)) k
 
-  tells : (j : ℕ) → below j ≡ is_subtype (program_of imaged) imaged.prefix (types imaged j) class
-  tells j = ap (is_subtype (program_of imaged) imaged.prefix (types imaged j)) at
+  says : (j : ℕ) → below j ≡ is_subtype (program_of imaged) imaged.prefix (types imaged j) class
+  says j = ap (is_subtype (program_of imaged) imaged.prefix (types imaged j)) at
 
   pub cast_is : IsOnHeap imaged (model.CheckCast class) m (check_cast_by below)
   unfolding effect
   cast_is terms own account answers limit =
-      check_cast_is (program_of imaged) imaged.prefix (types_of (typed_of imaged)) class below (part_of imaged m account answers) m.store.heap.heap tells refl
+      check_cast_is (program_of imaged) imaged.prefix (types_of (typed_of imaged)) class below (part_of imaged m account answers) m.store.heap.heap says refl
       (object_there m.store.heap.heap (top m) there)
 
   pub instance_is : IsOnHeap imaged (model.InstanceOf class) m (instance_of_by below)
   unfolding effect
   instance_is terms own account answers limit =
-      instance_of_is (program_of imaged) imaged.prefix (types_of (typed_of imaged)) class below (part_of imaged m account answers) m.store.heap.heap tells refl
+      instance_of_is (program_of imaged) imaged.prefix (types_of (typed_of imaged)) class below (part_of imaged m account answers) m.store.heap.heap says refl
       (object_there m.store.heap.heap (top m) there)
 
 pub throw_is : (imaged : Imaged) (m : Machine) → IsTopThere m.store.heap.heap (top m) → (k : ℕ) → types imaged k ≡ class_type (throwable_name imaged.prefix)
@@ -205,14 +205,14 @@ pub throw_is : (imaged : Imaged) (m : Machine) → IsTopThere m.store.heap.heap 
 unfolding effect
 throw_is imaged m there k at terms own account answers =
     throw_top_is (program_of imaged) imaged.prefix (types_of (typed_of imaged)) (below_of (program_of imaged) imaged.prefix (types_of (typed_of imaged)) k) (part_of imaged m account answers)
-    m.store.heap.heap (tells imaged m there (class_type (throwable_name imaged.prefix)) k at) refl (object_there m.store.heap.heap (top m) there)
+    m.store.heap.heap (says imaged m there (class_type (throwable_name imaged.prefix)) k at) refl (object_there m.store.heap.heap (top m) there)
 
 -- ---- on fields
 
 -- the names of instances' classes decide which of them have a field
-instances_tell : (imaged : Imaged) (m : Machine) → IsHeap imaged m.store.heap → (name : Name) (r class : ℕ) (fields : List ℕ) → object_at m.store.heap.heap.objects r ≡ Some (Instance class fields)
+instances_say : (imaged : Imaged) (m : Machine) → IsHeap imaged m.store.heap → (name : Name) (r class : ℕ) (fields : List ℕ) → object_at m.store.heap.heap.objects r ≡ Some (Instance class fields)
     → has_of (program_of imaged) (types_of (typed_of imaged)) name most_classes class ≡ is_among (chain (program_of imaged) (member_class imaged.prefix (types imaged class))) name
-instances_tell imaged m is name r class fields there =
+instances_say imaged m is name r class fields there =
     let own = is.instances r class fields there in
     ap (λ (ty : Ty). among_above (program_of imaged) name most_classes ty.dims ty.of) own.1
     ∙ ap (λ (ty : Ty). is_among (chain (program_of imaged) (member_class imaged.prefix ty)) name) (sym own.1)
@@ -227,24 +227,24 @@ module _ (imaged : Imaged) (m : Machine) (is : IsHeap imaged m.store.heap) (memb
   get_is terms own account answers limit =
       rw (resolves, kind_is)
       (get_field_is (program_of imaged) imaged.prefix (types_of (typed_of imaged)) has found (part_of imaged m account answers) m.store.heap.heap kind
-      (instances_tell imaged m is found.class) refl)
+      (instances_say imaged m is found.class) refl)
 
   pub put_is : IsOnHeap imaged (model.PutField member) m (put_field_by has kind (place_of (program_of imaged) found))
   unfolding effect
   put_is terms own account answers limit =
       rw (resolves, kind_is)
       (put_field_is (program_of imaged) imaged.prefix (types_of (typed_of imaged)) has found (part_of imaged m account answers) m.store.heap.heap kind
-      (instances_tell imaged m is found.class) refl)
+      (instances_say imaged m is found.class) refl)
 
 module _ (imaged : Imaged) (member : Member) (found : FoundField) (kind : Kind)
     (resolves : resolve_field (program_of imaged) imaged.prefix member ≡ Some found) (kind_is : field_kind member.desc ≡ Some kind) where
-  pub get_static_told : IsOnStatics imaged (model.GetStatic member) (get_static_by kind (place_of_static (program_of imaged) found))
+  pub get_static_reported : IsOnStatics imaged (model.GetStatic member) (get_static_by kind (place_of_static (program_of imaged) found))
   unfolding effect
-  get_static_told terms own p = rw (resolves, kind_is) (get_static_is (program_of imaged) p kind found)
+  get_static_reported terms own p = rw (resolves, kind_is) (get_static_is (program_of imaged) p kind found)
 
-  pub put_static_told : IsOnStatics imaged (model.PutStatic member) (put_static_by kind (place_of_static (program_of imaged) found))
+  pub put_static_reported : IsOnStatics imaged (model.PutStatic member) (put_static_by kind (place_of_static (program_of imaged) found))
   unfolding effect
-  put_static_told terms own p = rw (resolves, kind_is) (put_static_is (program_of imaged) p kind found)
+  put_static_reported terms own p = rw (resolves, kind_is) (put_static_is (program_of imaged) p kind found)
 
 -- ---- on texts
 

@@ -28,7 +28,7 @@ use Rattle.dj_initialising.specs.Store.{store}
 use Rattle.dj_acting.specs.declared.acted.Acted.{Acted}
 use Rattle.dj_acting.specs.Acting.{Acts, ActsOnHeap, IsTopThere, machine}
 use Rattle.dj_acting.specs.Flows.{flow_acted, thrown_acted}
-use Rattle.dj_acting.proofs.Told.{IsOnHeap, heap_acted, throw_acted}
+use Rattle.dj_acting.proofs.Reported.{IsOnHeap, heap_acted, throw_acted}
 use Rattle.dj_acting.proofs.Effects.{new_object_is, throw_is}
 use Rattle.dj_acting.proofs.KnownHeaps.{new_known}
 use Rattle.dj_acting.proofs.Standing.{class_there, type_is}
@@ -45,8 +45,8 @@ pub thrown_on_heap : (imaged : Imaged) (old new : List StackFrame) (heap : Limit
     → IsTopThere heap.heap (top_operands old) → type_at (types_of (typed_of imaged)) k ≡ class_type (throwable_name imaged.prefix)
     → t ≡ throw_by (below_of (program_of imaged) imaged.prefix (types_of (typed_of imaged)) k) heap.heap (top_operands old) → SameButOperands old new
     → ActsOnHeap imaged model.Throw old new heap heap acted
-thrown_on_heap imaged old new heap k t acted is there at told same statics literals are =
-    subst (Acts imaged model.Throw (machine old (store heap statics literals)) (machine new (store heap statics literals))) (sym (is ∙ ap thrown_acted told))
+thrown_on_heap imaged old new heap k t acted is there at reported same statics literals are =
+    subst (Acts imaged model.Throw (machine old (store heap statics literals)) (machine new (store heap statics literals))) (sym (is ∙ ap thrown_acted reported))
     (throw_acted imaged model.Throw old new (store heap statics literals) (throw_by (below_of (program_of imaged) imaged.prefix (types_of (typed_of imaged)) k) heap.heap (top_operands old))
     (throw_is imaged (machine old (store heap statics literals)) there k at) same are)
 

@@ -28,7 +28,7 @@ use Rattle.dj_acting.specs.declared.acted.Acted.TheVariants as acts
 use Rattle.dj_acting.specs.Accesses.{IsAccess, IsAccessTo}
 use Rattle.dj_acting.specs.Acting.{ActsOnHeap, IsHeap, IsMember, machine}
 use Rattle.dj_acting.specs.Flows.{flow_acted}
-use Rattle.dj_acting.proofs.Told.{heap_acted, stuck_acted}
+use Rattle.dj_acting.proofs.Reported.{heap_acted, stuck_acted}
 use Rattle.dj_acting.proofs.Effects.{get_is, put_is}
 
 abbrev place_by : Program → Name → Name → Desc → ℕ
@@ -94,20 +94,20 @@ module _ (imaged : Imaged) (member : Member) (found : FoundField) (n : ℕ) (is 
 
 -- ---- what is found of the field of a number
 
-pub access_none : (imaged : Imaged) (n : ℕ) (told : MemberOf) (kind : Option Kind) → IsFieldThere (typed_of imaged) n told
-    → ((d : Desc) → Describes told.desc.now d → kind ≡ field_kind d) → kind ≡ None → IsAccess imaged n None
-access_none imaged n told kind there tells none found at =
+pub access_none : (imaged : Imaged) (n : ℕ) (reported : MemberOf) (kind : Option Kind) → IsFieldThere (typed_of imaged) n reported
+    → ((d : Desc) → Describes reported.desc.now d → kind ≡ field_kind d) → kind ≡ None → IsAccess imaged n None
+access_none imaged n reported kind there says none found at =
     let same : there.found ≡ found = same_Some there.found found (sym there.there ∙ at) in
-    ap (λ (f : FoundField). field_kind f.field.desc) (sym same) ∙ (sym (tells there.found.field.desc there.desc) ∙ none)
+    ap (λ (f : FoundField). field_kind f.field.desc) (sym same) ∙ (sym (says there.found.field.desc there.desc) ∙ none)
 
-pub access_some : (imaged : Imaged) (n place : ℕ) (told : MemberOf) (kind : Kind) → IsFieldThere (typed_of imaged) n told
-    → ((d : Desc) → Describes told.desc.now d → Some kind ≡ field_kind d)
+pub access_some : (imaged : Imaged) (n place : ℕ) (reported : MemberOf) (kind : Kind) → IsFieldThere (typed_of imaged) n reported
+    → ((d : Desc) → Describes reported.desc.now d → Some kind ≡ field_kind d)
     → Some place ≡ option_map (place_of (program_of imaged)) (slice_get (all_fields (program_of imaged)) n)
-    → IsAccessTo imaged n (record { declaring = told.class; place = place; kind = kind })
-access_some imaged n place told kind there tells at = record {
+    → IsAccessTo imaged n (record { declaring = reported.class; place = place; kind = kind })
+access_some imaged n place reported kind there says at = record {
   found = there.found;
   there = there.there;
   class = there.class;
   place = same_Some place (place_of (program_of imaged) there.found) (at ∙ ap (option_map (place_of (program_of imaged))) there.there);
-  kind = sym (tells there.found.field.desc there.desc);
+  kind = sym (says there.found.field.desc there.desc);
 }

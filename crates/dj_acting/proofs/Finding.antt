@@ -179,15 +179,15 @@ text_taken instr units e = absurd cc
 
 pub pushes_int : (imaged : Imaged) (instr : Instr) (named : Named) (z : ℤ) → operands.Int z ≡ operand_of imaged instr named → instruction_of instr named ≡ model.Push (values.Int z)
 pushes_int imaged instr named z e =
-    let told = plainly imaged instr named (operands.Int z) refl (λ e. absurd cc) (sym e) in
-    let is = named_int imaged named z told.1 in
-    ap (instruction_of instr) is ∙ int_taken instr z (sym (ap (takes_named instr) is) ∙ told.0)
+    let reported = plainly imaged instr named (operands.Int z) refl (λ e. absurd cc) (sym e) in
+    let is = named_int imaged named z reported.1 in
+    ap (instruction_of instr) is ∙ int_taken instr z (sym (ap (takes_named instr) is) ∙ reported.0)
 
 pub pushes_long : (imaged : Imaged) (instr : Instr) (named : Named) (z : ℤ) → operands.Long z ≡ operand_of imaged instr named → instruction_of instr named ≡ model.Push (values.Long z)
 pushes_long imaged instr named z e =
-    let told = plainly imaged instr named (operands.Long z) refl (λ e. absurd cc) (sym e) in
-    let is = named_long imaged named z told.1 in
-    ap (instruction_of instr) is ∙ long_taken instr z (sym (ap (takes_named instr) is) ∙ told.0)
+    let reported = plainly imaged instr named (operands.Long z) refl (λ e. absurd cc) (sym e) in
+    let is = named_long imaged named z reported.1 in
+    ap (instruction_of instr) is ∙ long_taken instr z (sym (ap (takes_named instr) is) ∙ reported.0)
 
 -- ldc of a text of this number
 pub record Pushes (imaged : Imaged) (i : Instruction) (text : ℕ) : Type 0 where
@@ -197,11 +197,11 @@ pub record Pushes (imaged : Imaged) (i : Instruction) (text : ℕ) : Type 0 wher
 
 pub pushes_text : (imaged : Imaged) (instr : Instr) (named : Named) (text : ℕ) → operands.Text text ≡ operand_of imaged instr named → Pushes imaged (instruction_of instr named) text
 pushes_text imaged instr named text e =
-    let told = plainly imaged instr named (operands.Text text) refl (λ e. absurd cc) (sym e) in
-    let is = named_text imaged named text told.1 in
+    let reported = plainly imaged instr named (operands.Text text) refl (λ e. absurd cc) (sym e) in
+    let is = named_text imaged named text reported.1 in
     record {
       units = is.0;
-      is = ap (instruction_of instr) is.1 ∙ text_taken instr is.0 (sym (ap (takes_named instr) is.1) ∙ told.0);
+      is = ap (instruction_of instr) is.1 ∙ text_taken instr is.0 (sym (ap (takes_named instr) is.1) ∙ reported.0);
       number = is.2;
     }
 
@@ -296,14 +296,14 @@ resolved program (Some found) n e = (found, refl, e)
 
 pub uses_field : (imaged : Imaged) (instr : Instr) (named : Named) (n : ℕ) → operands.Field (record { number = n }) ≡ operand_of imaged instr named → UsesField imaged instr named n
 uses_field imaged instr named n e =
-    let told = plainly imaged instr named (operands.Field (record { number = n })) refl (λ e. absurd cc) (sym e) in
-    let is = named_field imaged named n told.1 in
+    let reported = plainly imaged instr named (operands.Field (record { number = n })) refl (λ e. absurd cc) (sym e) in
+    let is = named_field imaged named n reported.1 in
     let there = resolved (program_of imaged) (resolve_field (program_of imaged) imaged.prefix is.0) n is.2 in
     let like = alike (all_fields (program_of imaged)) there.0 n there.2 in
     record {
       member = is.0;
       names = is.1;
-      takes = sym (ap (takes_named instr) is.1) ∙ told.0;
+      takes = sym (ap (takes_named instr) is.1) ∙ reported.0;
       found = there.0;
       is = record {
         resolves = there.1;
@@ -332,9 +332,9 @@ named_class imaged named n e = absurd cc
 
 class_named : (imaged : Imaged) (instr : Instr) (named : Named) (n : ℕ) → makes_array (instruction_of instr named) ≡ false → operand_by imaged instr named ≡ operands.Class n → UsesClass imaged instr named n
 class_named imaged instr named n unmade_so e =
-    let told = taken imaged instr named (operands.Class n) (λ e. absurd cc) (λ e. absurd cc) e in
-    let is = named_class imaged named n told.1 in
-    Names is.0 is.1 (sym (ap (takes_named instr) is.1) ∙ told.0) unmade_so is.2
+    let reported = taken imaged instr named (operands.Class n) (λ e. absurd cc) (λ e. absurd cc) e in
+    let is = named_class imaged named n reported.1 in
+    Names is.0 is.1 (sym (ap (takes_named instr) is.1) ∙ reported.0) unmade_so is.2
 
 class_made : (imaged : Imaged) (instr : Instr) (named : Named) (n : ℕ) (i : Instruction) → instruction_of instr named ≡ i → made_operand imaged i (operand_by imaged instr named) ≡ operands.Class n
     → UsesClass imaged instr named n
@@ -388,9 +388,9 @@ interface_method_taken instr m e = absurd cc
 pub calls_method : (imaged : Imaged) (instr : Instr) (named : Named) (n : ℕ) → operands.Method (record { number = n }) ≡ operand_of imaged instr named
     → is_call_or_other (instruction_of instr named) ≡ true
 calls_method imaged instr named n e =
-    let told = plainly imaged instr named (operands.Method (record { number = n })) refl (λ e. absurd cc) (sym e) in
-    let is = named_method imaged named n told.1 in
+    let reported = plainly imaged instr named (operands.Method (record { number = n })) refl (λ e. absurd cc) (sym e) in
+    let is = named_method imaged named n reported.1 in
     elim is.1 [
-      | inl m ↦ ap (λ (x : Named). is_call_or_other (instruction_of instr x)) m ∙ method_taken instr is.0 (sym (ap (takes_named instr) m) ∙ told.0)
-      | inr m ↦ ap (λ (x : Named). is_call_or_other (instruction_of instr x)) m ∙ interface_method_taken instr is.0 (sym (ap (takes_named instr) m) ∙ told.0)
+      | inl m ↦ ap (λ (x : Named). is_call_or_other (instruction_of instr x)) m ∙ method_taken instr is.0 (sym (ap (takes_named instr) m) ∙ reported.0)
+      | inr m ↦ ap (λ (x : Named). is_call_or_other (instruction_of instr x)) m ∙ interface_method_taken instr is.0 (sym (ap (takes_named instr) m) ∙ reported.0)
     ]

@@ -10,24 +10,24 @@ use Rattle.dj_names.specs.trusted.Descriptors.{Describes, desc_text, type_kind, 
 use Rattle.dj_names.specs.trusted.Types.{field_kind}
 use Rattle.dj_acting.specs.Kinds.{kind_by}
 
-type_told : (dims : ℕ) (of : Of) → kind_by (type_text (record { dims = dims; of = of })) ≡ type_kind (record { dims = dims; of = of })
-type_told zero (ofs.Base bases.Boolean) = refl
-type_told zero (ofs.Base bases.Byte) = refl
-type_told zero (ofs.Base bases.Char) = refl
-type_told zero (ofs.Base bases.Short) = refl
-type_told zero (ofs.Base bases.Int) = refl
-type_told zero (ofs.Base bases.Long) = refl
-type_told zero (ofs.Base bases.Float) = refl
-type_told zero (ofs.Base bases.Double) = refl
-type_told zero (ofs.Class name) = refl
-type_told (suc n) of = refl
+type_reported : (dims : ℕ) (of : Of) → kind_by (type_text (record { dims = dims; of = of })) ≡ type_kind (record { dims = dims; of = of })
+type_reported zero (ofs.Base bases.Boolean) = refl
+type_reported zero (ofs.Base bases.Byte) = refl
+type_reported zero (ofs.Base bases.Char) = refl
+type_reported zero (ofs.Base bases.Short) = refl
+type_reported zero (ofs.Base bases.Int) = refl
+type_reported zero (ofs.Base bases.Long) = refl
+type_reported zero (ofs.Base bases.Float) = refl
+type_reported zero (ofs.Base bases.Double) = refl
+type_reported zero (ofs.Class name) = refl
+type_reported (suc n) of = refl
 
-desc_told : (desc : Desc) → kind_by (desc_text desc) ≡ field_kind desc
-desc_told (descs.Field ty) = type_told ty.dims ty.of
-desc_told (descs.Method params ret) = refl
+desc_reported : (desc : Desc) → kind_by (desc_text desc) ≡ field_kind desc
+desc_reported (descs.Field ty) = type_reported ty.dims ty.of
+desc_reported (descs.Method params ret) = refl
 
-pub kind_told : (text : List ℕ) (desc : Desc) → Describes text desc → kind_by text ≡ field_kind desc
-kind_told text desc d = ap kind_by d.text_is ∙ desc_told desc
+pub kind_reported : (text : List ℕ) (desc : Desc) → Describes text desc → kind_by text ≡ field_kind desc
+kind_reported text desc d = ap kind_by d.text_is ∙ desc_reported desc
 
 -- an array of ints is a reference, and a float has no kind
 by_letters : kind_by (codes "I") ≡ Some kinds.Int

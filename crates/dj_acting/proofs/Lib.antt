@@ -1,4 +1,4 @@
-pub mod Told
+pub mod Reported
 pub mod Effects
 pub mod Finding
 pub mod Standing

@@ -37,7 +37,7 @@ use Rattle.dj_image.specs.Codes.{HasInstr, IsOperandAt}
 use Rattle.dj_image.specs.declared.operand.Operand.{Operand}
 use Rattle.dj_image.specs.declared.operand.Operand.TheVariants as operands
 use Rattle.dj_image.specs.Operands.{made_operand, operand_by, operand_of}
-use Rattle.dj_activations.specs.Told.{IsCodeOf, TellsCode}
+use Rattle.dj_activations.specs.Reported.{IsCodeOf, SaysCode}
 use Rattle.dj_initialising.specs.Places.{Places}
 use Rattle.dj_initialising.specs.Store.{IsStore, store}
 use Rattle.dj_initialising.proofs.StoreLaws.{units_at}
@@ -47,7 +47,7 @@ use Rattle.dj_acting.specs.Flows.{way_acted}
 use Rattle.dj_acting.specs.Numbers.{literal_push, literal_value, push_of}
 use Rattle.dj_acting.specs.Operands.{IsInstrAt}
 use Rattle.dj_acting.specs.Used.{IsBeside, IsClassUsed, IsFieldUsed, IsMade, IsOperandUsed}
-use Rattle.dj_acting.proofs.Told.{acted_so, values_acted}
+use Rattle.dj_acting.proofs.Reported.{acted_so, values_acted}
 use Rattle.dj_acting.proofs.Effects.{push_on_values}
 use Rattle.dj_acting.proofs.KnownHeaps.{array_holds, classes_numbered, instance_named}
 use Rattle.dj_acting.proofs.Finding.{Pushes, calls_method, is_call_or_other, no_class, names_nothing, pushes_int, pushes_long, pushes_text, uses_class, uses_field}
@@ -56,7 +56,7 @@ use Rattle.dj_acting.proofs.Using.{no_index}
 
 -- ---- the instruction
 
-pub no_code : (imaged : Imaged) (method number : ℕ) → TellsCode imaged method None → HasInstruction imaged method number → ⊥
+pub no_code : (imaged : Imaged) (method number : ℕ) → SaysCode imaged method None → HasInstruction imaged method number → ⊥
 no_code imaged method number none has =
     none-some has.instruction (sym (ap (λ (o : Option Code). instruction_in o number) none) ∙ has.at)
 
@@ -67,9 +67,9 @@ no_instr imaged method number code is has none =
     sym (ap (λ (o : Option Code). instruction_in o number) is.is) ∙ has.at in
     none-some has.instruction (ap (option_map (naming.instruction_in is.pool)) none ∙ (sym (slice_get-map (naming.instruction_in is.pool) code.code.code number) ∙ at))
 
-pub instr_told : (imaged : Imaged) (method number : ℕ) (code : MethodCode) → IsCodeOf imaged method code → (instr : Instr) → slice_get code.code.code number ≡ Some instr
+pub instr_reported : (imaged : Imaged) (method number : ℕ) (code : MethodCode) → IsCodeOf imaged method code → (instr : Instr) → slice_get code.code.code number ≡ Some instr
     → (named : Named) × IsInstrAt imaged method number instr named
-instr_told imaged method number code is instr at = (
+instr_reported imaged method number code is instr at = (
   named_if is.pool (index_of instr),
   record { stands = stands_at imaged method number code is instr at; is = instruction_there imaged method number code is instr at },
 )
@@ -98,12 +98,12 @@ module _ (imaged : Imaged) (instr : Instr) (operand : Operand) (named : Named) (
 
   -- numbers
   literal_by : (x : Operand) → operand ≡ x → (v : Value) → literal_value x ≡ Some v → i ≡ model.Push v
-  literal_by (operands.Int z) e v told = pushes_int imaged instr named z (so (operands.Int z) e) ∙ ap model.Push (same_Some (values.Int z) v told)
-  literal_by (operands.Long z) e v told = pushes_long imaged instr named z (so (operands.Long z) e) ∙ ap model.Push (same_Some (values.Long z) v told)
-  literal_by x e v told = absurd (none-some v told)
+  literal_by (operands.Int z) e v reported = pushes_int imaged instr named z (so (operands.Int z) e) ∙ ap model.Push (same_Some (values.Int z) v reported)
+  literal_by (operands.Long z) e v reported = pushes_long imaged instr named z (so (operands.Long z) e) ∙ ap model.Push (same_Some (values.Long z) v reported)
+  literal_by x e v reported = absurd (none-some v reported)
 
   pub literal_is : (v : Value) → literal_value operand ≡ Some v → i ≡ model.Push v
-  literal_is v told = literal_by operand refl v told
+  literal_is v reported = literal_by operand refl v reported
 
   -- texts
   pushes : (text : ℕ) → operand ≡ operands.Text text → Pushes imaged i text
@@ -143,9 +143,9 @@ module _ (imaged : Imaged) (instr : Instr) (operand : Operand) (named : Named) (
 pub literal_acted : (imaged : Imaged) (operand : Operand) (v : Value) → literal_value operand ≡ Some v → (old new : List StackFrame) (heap : LimitedHeap) (statics : List ℕ) (literals : LiteralTable)
     (way : Option Way) → Does (literal_push operand) old new way → IsStore imaged (store heap statics literals)
     → Acts imaged (model.Push v) (machine old (store heap statics literals)) (machine new (store heap statics literals)) (way_acted way)
-literal_acted imaged operand v told old new heap statics literals way does are =
+literal_acted imaged operand v reported old new heap statics literals way does are =
     values_acted imaged (model.Push v) old new (store heap statics literals) way (push_on_values imaged v)
-    (subst (λ (o : Option Value). Does (push_of o) old new way) told does) are
+    (subst (λ (o : Option Value). Does (push_of o) old new way) reported does) are
 
 -- ---- the heap
 
@@ -175,14 +175,14 @@ module _ (imaged : Imaged) (table : Places) (thrown method number : ℕ) (m : Ma
   instr_there = has_instr imaged method number instr named at.stands
 
   pub operand_used : (operand : Operand) → IsOperandAt imaged method number operand → IsOperandUsed imaged instr operand named
-  operand_used operand told = record {
+  operand_used operand reported = record {
     plainly = λ e. nothing_named at.stands.code.pool (index_of instr) named at.stands.names (no_index instr e);
-    is = operand_is imaged method number instr named operand at.stands told;
+    is = operand_is imaged method number instr named operand at.stands reported;
     linked = linked_at imaged ready.sound method number (instruction_of instr named) at.is;
   }
 
   pub all_done : (after : Machine) (acted : Acted) → IsActed imaged (instruction_of instr named) m after acted → IsDone imaged method number m after acted
-  all_done after acted done i told = subst (λ (i : Instruction). IsActed imaged i m after acted) (same_Some (instruction_of instr named) i (sym at.is ∙ told)) done
+  all_done after acted done i reported = subst (λ (i : Instruction). IsActed imaged i m after acted) (same_Some (instruction_of instr named) i (sym at.is ∙ reported)) done
 
 pub beside : (imaged : Imaged) (table : Places) (thrown method number : ℕ) (m : Machine) → AreSettled (typed_of imaged) → ArePlain (types_of (typed_of imaged))
     → IsReady imaged table thrown method number m → IsBeside imaged table thrown

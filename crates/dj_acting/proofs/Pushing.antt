@@ -25,7 +25,7 @@ use Rattle.dj_initialising.specs.Store.{AreTexts, store}
 use Rattle.dj_acting.specs.declared.acted.Acted.{Acted}
 use Rattle.dj_acting.specs.Acting.{Acts, ActsOnLiterals, machine}
 use Rattle.dj_acting.specs.Flows.{flow_acted}
-use Rattle.dj_acting.proofs.Told.{literals_acted}
+use Rattle.dj_acting.proofs.Reported.{literals_acted}
 use Rattle.dj_acting.proofs.Effects.{push_is}
 use Rattle.dj_acting.proofs.Standing.{class_there, type_is}
 
@@ -48,18 +48,18 @@ pub string_within : (imaged : Imaged) (string : ℕ) → Some string ≡ string_
 string_within imaged string is =
     slice_get_within (types_of (typed_of imaged)) string (class_type (string_name imaged.prefix)) (string_there imaged string is)
 
-pub text_on_literals : (imaged : Imaged) (old new : List StackFrame) (before after : LimitedHeap) (table now : LiteralTable) (string text : ℕ) (units told : List ℕ) (flow : Flow) (acted : Acted)
+pub text_on_literals : (imaged : Imaged) (old new : List StackFrame) (before after : LimitedHeap) (table now : LiteralTable) (string text : ℕ) (units reported : List ℕ) (flow : Flow) (acted : Acted)
     → acted ≡ flow_acted (Some flow) → AreTexts imaged → text < length imaged.texts → Some string ≡ string_at (typed_of imaged)
-    → slice_get imaged.texts text ≡ Some told → slice_get imaged.texts text ≡ Some units
-    → DoesOnLiterals (push_text_by (Some before.limit) string text told) old new before after table now flow
+    → slice_get imaged.texts text ≡ Some reported → slice_get imaged.texts text ≡ Some units
+    → DoesOnLiterals (push_text_by (Some before.limit) string text reported) old new before after table now flow
     → ActsOnLiterals imaged (model.PushText units) old new before after table now acted
-text_on_literals imaged old new before after table now string text units told flow acted is texts known string_is at spells does statics store_is =
-    let same : told ≡ units = same_Some told units (sym at ∙ spells) in
+text_on_literals imaged old new before after table now string text units reported flow acted is texts known string_is at spells does statics store_is =
+    let same : reported ≡ units = same_Some reported units (sym at ∙ spells) in
     let type : type_at (types_of (typed_of imaged)) string ≡ class_type (string_name imaged.prefix) =
     type_is (typed_of imaged) string (class_type (string_name imaged.prefix)) (string_there imaged string string_is) in
     let kept : literals.AreTexts (length imaged.texts) now.made =
     subst (literals.AreTexts (length imaged.texts)) (ap (λ (e : OnLiterals). e.literals) does.effect)
-    (texts_pushed (Some before.limit) string text (length imaged.texts) told before.heap table.made (top_operands old) (object_of table.made text) store_is.texts known) in
+    (texts_pushed (Some before.limit) string text (length imaged.texts) reported before.heap table.made (top_operands old) (object_of table.made text) store_is.texts known) in
     subst (Acts imaged (model.PushText units) (machine old (store before statics table)) (machine new (store after statics now))) (sym is)
     (literals_acted imaged (model.PushText units) old new before after statics table now flow (push_text_by (Some before.limit) string text units)
     (push_is imaged (machine old (store before statics table)) store_is texts string text units type known (ap (λ (o : Option (List ℕ)). unwrap_or o []) spells))

@@ -26,7 +26,7 @@ use Rattle.dj_classes.proofs.Numbered.{class_at-number, name_at-number}
 use Rattle.dj_classes.proofs.Orders.{names_from_same}
 use Rattle.dj_types.specs.Typed.{Typed, texts_of, types_of, type_at, place_of_text, text_number, text_of_type, type_number}
 use Rattle.dj_types.proofs.Numbers.{number_of_class, place_within}
-use Rattle.dj_types.proofs.Told.{types_among}
+use Rattle.dj_types.proofs.Reported.{types_among}
 use Rattle.dj_program.specs.trusted.Codes.{code_in}
 use Rattle.dj_program.specs.trusted.Naming.{named_if}
 use Rattle.dj_program.specs.trusted.Naming as naming
@@ -38,7 +38,7 @@ use Rattle.dj_image.specs.Operands.{operand_of}
 use Rattle.dj_image.specs.declared.operand.Operand.{Operand}
 use Rattle.dj_image.proofs.RowFacts.{type_once}
 use Rattle.dj_activations.specs.Activations.{declared_at}
-use Rattle.dj_activations.specs.Told.{IsCodeOf}
+use Rattle.dj_activations.specs.Reported.{IsCodeOf}
 use Rattle.dj_acting.specs.Acting.{instruction_of_number}
 use Rattle.dj_acting.specs.Operands.{StandsAt}
 
@@ -124,9 +124,9 @@ number_within typed ty k e =
     let count = texts_count typed in
     omega (arith, within, count)
 
-place_told : (texts : List Name) (text : Name) (k : ℕ) → place_of_text texts text ≡ Some k → slice_get texts k ≡ Some text
-place_told [] text k e = absurd (none-some k e)
-place_told (x ∷ texts) text k e = by (same_name x text) refl (place_of_text texts text) (place_told texts text) k e where
+place_reported : (texts : List Name) (text : Name) (k : ℕ) → place_of_text texts text ≡ Some k → slice_get texts k ≡ Some text
+place_reported [] text k e = absurd (none-some k e)
+place_reported (x ∷ texts) text k e = by (same_name x text) refl (place_of_text texts text) (place_reported texts text) k e where
   by : (b : Bool) → same_name x text ≡ b → (n : Option ℕ) → ((j : ℕ) → n ≡ Some j → slice_get texts j ≡ Some text)
       → (k : ℕ) → (if b then Some 0 else option_map suc n) ≡ Some k → slice_get (x ∷ texts) k ≡ Some text
   by true same n later zero f = ap Some (names_from_same x text same)
@@ -157,7 +157,7 @@ array_begins n of = refl
 
 array_is : (typed : Typed) → ArePlain (types_of typed) → (n : ℕ) (of : Of) (k : ℕ) → type_number typed (record { dims = suc n; of = of }) ≡ Some k
     → type_at typed k ≡ record { dims = suc n; of = of }
-array_is typed plain n of k e = elim (typed_by typed.program typed.arrays k text (place_told (texts_of typed) text k told)) [
+array_is typed plain n of k e = elim (typed_by typed.program typed.arrays k text (place_reported (texts_of typed) text k reported)) [
   | inl class ↦ let is : type_at typed k ≡ class_type text = type_is typed k (class_type text) class in
       absurd (both_ways (begins_array text) (sym (ap (λ (t : Ty). begins_array (class_name t)) is) ∙ plain k (number_within typed ty k e) (ap (λ (t : Ty). t.dims) is)) (array_begins n of))
   | inr array ↦ type_is typed k array.0 array.1 ∙ type_once array.0 ty array.2
@@ -168,8 +168,8 @@ array_is typed plain n of k e = elim (typed_by typed.program typed.arrays k text
   text : Name
   text = type_text ty
 
-  told : text_number typed text ≡ Some k
-  told = ap (text_number typed) (sym (array_text n of)) ∙ e
+  reported : text_number typed text ≡ Some k
+  reported = ap (text_number typed) (sym (array_text n of)) ∙ e
 
 -- a class of the name stands at its number
 pub class_there : (program : Program) (arrays : List Ty) (k : ℕ) (name : Name) → name_at program k ≡ Some name → slice_get (types_among program arrays) k ≡ Some (class_type name)

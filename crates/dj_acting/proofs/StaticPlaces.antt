@@ -27,13 +27,13 @@ use Rattle.dj_types.specs.declared.types.MemberOf.{MemberOf}
 use Rattle.dj_image.specs.Imaged.{Imaged, program_of, typed_of}
 use Rattle.dj_initialising.specs.Places.{Places, ArePlaces}
 use Rattle.dj_initialising.specs.Store.{IsStore, store}
-use Rattle.dj_initialising.proofs.PlaceLaws.{place_told}
+use Rattle.dj_initialising.proofs.PlaceLaws.{place_reported}
 use Rattle.dj_acting.specs.declared.acted.Acted.TheVariants as acts
 use Rattle.dj_acting.specs.Accesses.{IsStaticAt}
 use Rattle.dj_acting.specs.Acting.{ActsOnStatics, IsKept, IsMember, machine}
 use Rattle.dj_acting.specs.Flows.{way_acted}
-use Rattle.dj_acting.proofs.Told.{way_kept, statics_acted, stuck_acted}
-use Rattle.dj_acting.proofs.Effects.{get_static_told, put_static_told}
+use Rattle.dj_acting.proofs.Reported.{way_kept, statics_acted, stuck_acted}
+use Rattle.dj_acting.proofs.Effects.{get_static_reported, put_static_reported}
 use Rattle.dj_acting.proofs.FieldAccesses.{kind_alike}
 
 -- ---- places are fewer than the static fields
@@ -138,7 +138,7 @@ put_kept imaged heap literals old new before after kind place (Some way) does ar
 module _ (imaged : Imaged) (places : Places) (are : ArePlaces (program_of imaged) places) (n place : ℕ) (at : slice_get places.each n ≡ Some place) where
   place_is : (member : Member) (found : FoundField) → IsMember imaged member found n → place ≡ place_of_static (program_of imaged) found
   place_is member found is =
-      place_told (program_of imaged) places n place is.other are is.there at ∙ static_alike (program_of imaged) is.other found is.class is.name is.desc
+      place_reported (program_of imaged) places n place is.other are is.there at ∙ static_alike (program_of imaged) is.other found is.class is.name is.desc
 
   pub place_within : (statics : List ℕ) → length statics ≡ static_count (program_of imaged) → IsStaticAt imaged n → place < length statics
   place_within statics count found =
@@ -146,30 +146,30 @@ module _ (imaged : Imaged) (places : Places) (are : ArePlaces (program_of imaged
       let same = place_is found.member found.found found.is in
       omega (arith, less, same, count)
 
-  module _ (member : Member) (found : FoundField) (is : IsMember imaged member found n) (told : MemberOf) (there : IsFieldThere (typed_of imaged) n told) where
-    kind_is : (kind : Option Kind) → ((d : Desc) → Describes told.desc.now d → kind ≡ field_kind d) → field_kind member.desc ≡ kind
-    kind_is kind tells = kind_alike imaged member found n is there.found there.there kind (sym (tells there.found.field.desc there.desc))
+  module _ (member : Member) (found : FoundField) (is : IsMember imaged member found n) (reported : MemberOf) (there : IsFieldThere (typed_of imaged) n reported) where
+    kind_is : (kind : Option Kind) → ((d : Desc) → Describes reported.desc.now d → kind ≡ field_kind d) → field_kind member.desc ≡ kind
+    kind_is kind says = kind_alike imaged member found n is there.found there.there kind (sym (says there.found.field.desc there.desc))
 
-    pub got_static : (old new : List StackFrame) (statics : List ℕ) (kind : Kind) (way : Option Way) → ((d : Desc) → Describes told.desc.now d → Some kind ≡ field_kind d)
+    pub got_static : (old new : List StackFrame) (statics : List ℕ) (kind : Kind) (way : Option Way) → ((d : Desc) → Describes reported.desc.now d → Some kind ≡ field_kind d)
         → DoesOnStatics (get_static_by kind place) old new statics statics way → ActsOnStatics imaged (model.GetStatic member) old new statics statics (way_acted way)
-    got_static old new statics kind way tells does heap literals store_is =
+    got_static old new statics kind way says does heap literals store_is =
         statics_acted imaged (model.GetStatic member) old new heap statics statics literals way (get_static_by kind (place_of_static (program_of imaged) found))
-        (get_static_told imaged member found kind is.resolves (kind_is (Some kind) tells))
+        (get_static_reported imaged member found kind is.resolves (kind_is (Some kind) says))
         (subst (λ (p : ℕ). DoesOnStatics (get_static_by kind p) old new statics statics way) (place_is member found is) does) (way_kept imaged (store heap statics literals) way store_is)
 
-    pub put_static_so : (old new : List StackFrame) (before after : List ℕ) (kind : Kind) (way : Option Way) → ((d : Desc) → Describes told.desc.now d → Some kind ≡ field_kind d)
+    pub put_static_so : (old new : List StackFrame) (before after : List ℕ) (kind : Kind) (way : Option Way) → ((d : Desc) → Describes reported.desc.now d → Some kind ≡ field_kind d)
         → DoesOnStatics (put_static_by kind place) old new before after way → ActsOnStatics imaged (model.PutStatic member) old new before after (way_acted way)
-    put_static_so old new before after kind way tells does heap literals store_is =
+    put_static_so old new before after kind way says does heap literals store_is =
         statics_acted imaged (model.PutStatic member) old new heap before after literals way (put_static_by kind (place_of_static (program_of imaged) found))
-        (put_static_told imaged member found kind is.resolves (kind_is (Some kind) tells))
+        (put_static_reported imaged member found kind is.resolves (kind_is (Some kind) says))
         (subst (λ (p : ℕ). DoesOnStatics (put_static_by kind p) old new before after way) (place_is member found is) does)
         (put_kept imaged heap literals old new before after kind place way does store_is)
 
 -- of a float or a double
-module _ (imaged : Imaged) (n : ℕ) (member : Member) (found : FoundField) (is : IsMember imaged member found n) (told : MemberOf) (there : IsFieldThere (typed_of imaged) n told)
-    (tells : (d : Desc) → Describes told.desc.now d → None ≡ field_kind d) where
+module _ (imaged : Imaged) (n : ℕ) (member : Member) (found : FoundField) (is : IsMember imaged member found n) (reported : MemberOf) (there : IsFieldThere (typed_of imaged) n reported)
+    (says : (d : Desc) → Describes reported.desc.now d → None ≡ field_kind d) where
   none_is : field_kind member.desc ≡ None
-  none_is = kind_alike imaged member found n is there.found there.there None (sym (tells there.found.field.desc there.desc))
+  none_is = kind_alike imaged member found n is there.found there.there None (sym (says there.found.field.desc there.desc))
 
   pub get_static_none : (old : List StackFrame) (statics : List ℕ) → ActsOnStatics imaged (model.GetStatic member) old old statics statics acts.Stuck
   unfolding effect

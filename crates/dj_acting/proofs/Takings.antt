@@ -104,9 +104,9 @@ pub past_array : (imaged : Imaged) (heap : LimitedHeap) (r v : ℕ) (b : Bool) �
 past_array imaged heap r v b past class contents at =
     absurd (none-some _ (sym (none_past heap.heap.objects r past) ∙ array_is heap.heap r class contents at))
 
-class_told : (imaged : Imaged) (heap : LimitedHeap) (v class : ℕ) → option_map class_of (object_in heap v) ≡ Some class
+class_reported : (imaged : Imaged) (heap : LimitedHeap) (v class : ℕ) → option_map class_of (object_in heap v) ≡ Some class
     → class_in (object_at (heap_map (type_at (types_of (typed_of imaged))) heap.heap).objects v) ≡ type_at (types_of (typed_of imaged)) class
-class_told imaged heap v class told = ap class_in (object_at_mapped (type_at (types_of (typed_of imaged))) heap.heap.objects v) ∙ by (object_at heap.heap.objects v) told where
+class_reported imaged heap v class reported = ap class_in (object_at_mapped (type_at (types_of (typed_of imaged))) heap.heap.objects v) ∙ by (object_at heap.heap.objects v) reported where
   by : (o : Option (Object ℕ)) → option_map class_of o ≡ Some class → class_in (option_map (object_map (type_at (types_of (typed_of imaged)))) o) ≡ type_at (types_of (typed_of imaged)) class
   by None e = absurd (none-some class e)
   by (Some object) e = class_of_mapped (type_at (types_of (typed_of imaged))) object ∙ ap (type_at (types_of (typed_of imaged))) (same_Some (class_of object) class e)
@@ -114,8 +114,8 @@ class_told imaged heap v class told = ap class_in (object_at_mapped (type_at (ty
 -- one of an object
 pub object_of_class : (imaged : Imaged) (heap : LimitedHeap) (v class own : ℕ) (is : Bool) → option_map class_of (object_in heap v) ≡ Some own
     → is ≡ is_subtype (program_of imaged) imaged.prefix (type_at (types_of (typed_of imaged)) own) (type_at (types_of (typed_of imaged)) class) → IsOf imaged heap v class is
-object_of_class imaged heap v class own is told e =
-    ap (λ (ty : Ty). is_subtype (program_of imaged) imaged.prefix ty (type_at (types_of (typed_of imaged)) class)) (class_told imaged heap v own told) ∙ sym e
+object_of_class imaged heap v class own is reported e =
+    ap (λ (ty : Ty). is_subtype (program_of imaged) imaged.prefix ty (type_at (types_of (typed_of imaged)) class)) (class_reported imaged heap v own reported) ∙ sym e
 
 -- and one of none
 pub absent_of_class : (imaged : Imaged) (heap : LimitedHeap) (v class : ℕ) (is : Bool) → length heap.heap.objects < v
@@ -136,9 +136,9 @@ module _ (imaged : Imaged) (heap : LimitedHeap) (known : IsHeap imaged heap) (r 
   holds class contents is =
       subst (λ (c : ℕ). holds_references (type_at types c) ≡ true) (same_class class contents is) (known.arrays r class contents (array_is heap.heap r class contents is))
 
-  component_told : (b : Bool) (k : ℕ) (ty : Ty) → b ≡ true → IsNumberOf types (if b then Some ty else None) (Some k) → slice_get types k ≡ Some ty
-  component_told true k ty e is = is
-  component_told false k ty e is = absurd is
+  component_reported : (b : Bool) (k : ℕ) (ty : Ty) → b ≡ true → IsNumberOf types (if b then Some ty else None) (Some k) → slice_get types k ≡ Some ty
+  component_reported true k ty e is = is
+  component_reported false k ty e is = absurd is
 
   component_none : (b : Bool) (ty : Ty) → b ≡ true → IsNumberOf types (if b then Some ty else None) None → (k : ℕ) → slice_get types k ≡ Some ty → ⊥
   component_none true ty e is = is
@@ -147,10 +147,10 @@ module _ (imaged : Imaged) (heap : LimitedHeap) (known : IsHeap imaged heap) (r 
   pub component_taken : (k : ℕ) (taken : Bool) → (v ≡ 0 → ⊥) → IsNumberOf types (component_of (type_at types array)) (Some k) → IsOf imaged heap v k taken → IsTakenBy imaged heap r v taken
   component_taken k taken some component is c contents array_there =
       let there : slice_get types k ≡ Some (component_type (type_at types array)) =
-      component_told (holds_references (type_at types array)) k (component_type (type_at types array)) (holds c contents array_there) component in
+      component_reported (holds_references (type_at types array)) k (component_type (type_at types array)) (holds c contents array_there) component in
       let type : type_at types k ≡ component_type (type_at types array) = ap (λ (o : Option Ty). unwrap_or o (class_type [])) there in
       ap (λ (b : Bool). b || is_subtype (program_of imaged) imaged.prefix (class_in (object_at (heap_map (type_at types) heap.heap).objects v)) (component_type (class_in (object_at (heap_map (type_at types) heap.heap).objects r)))) (ne_eqb v 0 some)
-      ∙ (ap (λ (ty : Ty). is_subtype (program_of imaged) imaged.prefix (class_in (object_at (heap_map (type_at types) heap.heap).objects v)) (component_type ty)) (class_told imaged heap r array at)
+      ∙ (ap (λ (ty : Ty). is_subtype (program_of imaged) imaged.prefix (class_in (object_at (heap_map (type_at types) heap.heap).objects v)) (component_type ty)) (class_reported imaged heap r array at)
       ∙ (ap (is_subtype (program_of imaged) imaged.prefix (class_in (object_at (heap_map (type_at types) heap.heap).objects v))) (sym type) ∙ is))
 
   -- what the elements are has a number

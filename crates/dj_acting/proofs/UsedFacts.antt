@@ -35,7 +35,7 @@ use Rattle.dj_acting.specs.Acting.{ActsOnHeap, IsClassAt, IsMadeBy, machine}
 use Rattle.dj_acting.specs.Operands.{UsesClass, Makes, Names}
 use Rattle.dj_acting.specs.Used.{IsClassUsed, IsFieldUsed, IsMade}
 use Rattle.dj_acting.specs.Uses.{class_use, field_use}
-use Rattle.dj_acting.proofs.Told.{stuck_acted}
+use Rattle.dj_acting.proofs.Reported.{stuck_acted}
 use Rattle.dj_acting.proofs.Effects.{other_stuck}
 use Rattle.dj_acting.proofs.Standing.{number_within}
 use Rattle.dj_acting.proofs.Using.{IsClassInstruction, IsFieldInstruction, class_at_number, class_instruction, field_instruction, new_class}
@@ -66,8 +66,8 @@ module _ (imaged : Imaged) (instr : Instr) (k : ℕ) (named : Named) (used : IsC
   pub class_within : k < length (types_of (typed_of imaged))
   class_within = used_number imaged instr named k used.uses
 
-  told : (how : ClassUse) → class_use instr ≡ how → IsClassInstruction imaged k how (instruction_of instr named)
-  told how e = subst (λ (u : ClassUse). IsClassInstruction imaged k u (instruction_of instr named)) e (class_instruction imaged instr named k used.uses)
+  reported : (how : ClassUse) → class_use instr ≡ how → IsClassInstruction imaged k how (instruction_of instr named)
+  reported how e = subst (λ (u : ClassUse). IsClassInstruction imaged k u (instruction_of instr named)) e (class_instruction imaged instr named k used.uses)
 
   linked_so : (i : Instruction) → instruction_of instr named ≡ i → is_linked (program_of imaged) imaged.prefix i ≡ true
   linked_so i is = ap (is_linked (program_of imaged) imaged.prefix) (sym is) ∙ used.linked
@@ -76,7 +76,7 @@ module _ (imaged : Imaged) (instr : Instr) (k : ℕ) (named : Named) (used : IsC
   pub new_named : class_use instr ≡ classes.New → (name : Name) × (instruction_of instr named ≡ model.New (class_type name)) × (name_at (program_of imaged) k ≡ Some name)
   unfolding is_linked
   new_named e =
-      let t = told classes.New e in
+      let t = reported classes.New e in
       let named_so = new_class imaged t.0.dims t.0.of k (linked_so (model.New t.0) t.1) t.2 in
       (named_so.name, t.1 ∙ ap model.New named_so.is, named_so.at)
 
@@ -84,7 +84,7 @@ module _ (imaged : Imaged) (instr : Instr) (k : ℕ) (named : Named) (used : IsC
   pub array_class : ArePlain (types_of (typed_of imaged)) → class_use instr ≡ classes.NewArray → (class : Ty) × (instruction_of instr named ≡ NewArray class elements.Ref) × IsClassAt imaged class k
   unfolding is_linked
   array_class plain e =
-      let t = told classes.NewArray e in
+      let t = reported classes.NewArray e in
       let known = first_part (is_class_of (program_of imaged) t.0) _ _ (linked_so (NewArray t.0 elements.Ref) t.1) in
       (t.0, t.1, class_at_number imaged plain t.0 k known t.2)
 
@@ -92,14 +92,14 @@ module _ (imaged : Imaged) (instr : Instr) (k : ℕ) (named : Named) (used : IsC
   pub cast_class : ArePlain (types_of (typed_of imaged)) → class_use instr ≡ classes.Cast → (class : Ty) × (instruction_of instr named ≡ model.CheckCast class) × IsClassAt imaged class k
   unfolding is_linked
   cast_class plain e =
-      let t = told classes.Cast e in
+      let t = reported classes.Cast e in
       (t.0, t.1, class_at_number imaged plain t.0 k (linked_so (model.CheckCast t.0) t.1) t.2)
 
   -- instanceof
   pub instance_class : ArePlain (types_of (typed_of imaged)) → class_use instr ≡ classes.Instance → (class : Ty) × (instruction_of instr named ≡ model.InstanceOf class) × IsClassAt imaged class k
   unfolding is_linked
   instance_class plain e =
-      let t = told classes.Instance e in
+      let t = reported classes.Instance e in
       (t.0, t.1, class_at_number imaged plain t.0 k (linked_so (model.InstanceOf t.0) t.1) t.2)
 
   -- those without an index
@@ -109,7 +109,7 @@ module _ (imaged : Imaged) (instr : Instr) (k : ℕ) (named : Named) (used : IsC
   pub plain_made : ArePlain (types_of (typed_of imaged)) → class_use instr ≡ classes.Plain → IsMade imaged (instruction_of instr Nothing) k
   unfolding is_linked
   plain_made plain e =
-      let t = told classes.Plain e in
+      let t = reported classes.Plain e in
       let known = first_part (is_class_of (program_of imaged) t.0) _ _ (linked_so (NewArray t.0 t.1) t.2) in
       subst (λ (i : Instruction). IsMade imaged i k) (sym t.2 ∙ plain_named e) (class_at_number imaged plain t.0 k known t.3)
 
@@ -117,13 +117,13 @@ module _ (imaged : Imaged) (instr : Instr) (k : ℕ) (named : Named) (used : IsC
   plain_is e = plain_named e
 
   pub other_is : class_use instr ≡ classes.Other → is_other (instruction_of instr named) ≡ true
-  other_is e = told classes.Other e
+  other_is e = reported classes.Other e
 
 -- ---- fields
 
 module _ (imaged : Imaged) (instr : Instr) (n : ℕ) (named : Named) (used : IsFieldUsed imaged instr n named) where
-  field_told : (how : FieldUse) → field_use instr ≡ how → IsFieldInstruction how used.member (instruction_of instr named)
-  field_told how e =
+  field_reported : (how : FieldUse) → field_use instr ≡ how → IsFieldInstruction how used.member (instruction_of instr named)
+  field_reported how e =
       subst (λ (named : Named). IsFieldInstruction how used.member (instruction_of instr named)) (sym used.names)
       (subst (λ (u : FieldUse). IsFieldInstruction u used.member (instruction_of instr (AField used.member))) e (field_instruction instr used.member used.takes))
 
@@ -149,7 +149,7 @@ module _ (imaged : Imaged) (instr : Instr) (n : ℕ) (named : Named) (used : IsF
     found = used.found;
     is = used.is;
     static = static_so (resolve_field (program_of imaged) imaged.prefix used.member) used.is.resolves
-        (last_part (is_class_of (program_of imaged) used.member.class) (not (same_name used.member.name initialiser_name)) (is_field_found true (resolve_field (program_of imaged) imaged.prefix used.member)) (linked_static (model.GetStatic used.member) (field_told fields.GetStatic e)));
+        (last_part (is_class_of (program_of imaged) used.member.class) (not (same_name used.member.name initialiser_name)) (is_field_found true (resolve_field (program_of imaged) imaged.prefix used.member)) (linked_static (model.GetStatic used.member) (field_reported fields.GetStatic e)));
   }
 
   pub put_static_found : field_use instr ≡ fields.PutStatic → IsStaticAt imaged n
@@ -159,20 +159,20 @@ module _ (imaged : Imaged) (instr : Instr) (n : ℕ) (named : Named) (used : IsF
     found = used.found;
     is = used.is;
     static = static_so (resolve_field (program_of imaged) imaged.prefix used.member) used.is.resolves
-        (last_part (is_class_of (program_of imaged) used.member.class) (not (same_name used.member.name initialiser_name)) (is_field_found true (resolve_field (program_of imaged) imaged.prefix used.member)) (linked_static (model.PutStatic used.member) (field_told fields.PutStatic e)));
+        (last_part (is_class_of (program_of imaged) used.member.class) (not (same_name used.member.name initialiser_name)) (is_field_found true (resolve_field (program_of imaged) imaged.prefix used.member)) (linked_static (model.PutStatic used.member) (field_reported fields.PutStatic e)));
   }
 
   pub is_get_static : field_use instr ≡ fields.GetStatic → instruction_of instr named ≡ model.GetStatic used.member
-  is_get_static e = field_told fields.GetStatic e
+  is_get_static e = field_reported fields.GetStatic e
 
   pub is_put_static : field_use instr ≡ fields.PutStatic → instruction_of instr named ≡ model.PutStatic used.member
-  is_put_static e = field_told fields.PutStatic e
+  is_put_static e = field_reported fields.PutStatic e
 
   pub is_get : field_use instr ≡ fields.Get → instruction_of instr named ≡ model.GetField used.member
-  is_get e = field_told fields.Get e
+  is_get e = field_reported fields.Get e
 
   pub is_put : field_use instr ≡ fields.Put → instruction_of instr named ≡ model.PutField used.member
-  is_put e = field_told fields.Put e
+  is_put e = field_reported fields.Put e
 
   pub is_neither : field_use instr ≡ fields.Neither → is_other (instruction_of instr named) ≡ true
-  is_neither e = field_told fields.Neither e
+  is_neither e = field_reported fields.Neither e

@@ -24,7 +24,7 @@ use Rattle.dj_model.specs.trusted.Effects as effects
 use Rattle.dj_stack.specs.Frames.{StackFrame, SameFrames, top_locals, top_number, top_operands, top_room}
 use Rattle.dj_effects.specs.declared.actions.PlainAction.{PlainAction}
 use Rattle.dj_effects.specs.declared.actions.PlainAction.TheVariants as actions
-use Rattle.dj_effects.specs.Does.{Fits, told_operands, way_view}
+use Rattle.dj_effects.specs.Does.{Fits, reported_operands, way_view}
 use Rattle.dj_members.specs.Literals.{LiteralTable, literals_map}
 use Rattle.dj_calls.specs.Known.{AreKnown}
 use Rattle.dj_members.specs.Numbering.{AreNumbered}
@@ -71,22 +71,22 @@ pub record HasInstruction (imaged : Imaged) (method number : ℕ) : Type 0 where
 
 -- ---- what is answered
 
-abbrev pub flow_told : Acted → Option model.Flow
-flow_told (acts.Goes way) = Some (model.Goes (way_view way))
-flow_told (acts.Catch exception) = Some (model.Catch exception)
-flow_told acts.Link = Some (model.End outcomes.Link)
-flow_told (acts.HeapFull used size) = Some (model.End (outcomes.HeapFull used size))
-flow_told acts.Call = None
-flow_told acts.Stuck = None
+abbrev pub flow_reported : Acted → Option model.Flow
+flow_reported (acts.Goes way) = Some (model.Goes (way_view way))
+flow_reported (acts.Catch exception) = Some (model.Catch exception)
+flow_reported acts.Link = Some (model.End outcomes.Link)
+flow_reported (acts.HeapFull used size) = Some (model.End (outcomes.HeapFull used size))
+flow_reported acts.Call = None
+flow_reported acts.Stuck = None
 
 -- the operands after an effect: where the run doesn't just go on, those before it
 abbrev pub acted_operands : List StackFrame → List StackFrame → Acted → List Value
-acted_operands old new (acts.Goes way) = told_operands old new way
+acted_operands old new (acts.Goes way) = reported_operands old new way
 acted_operands old new acted = top_operands old
 
-abbrev pub effect_told : Imaged → Machine → Machine → Account → List HostAnswer → Acted → Option Effect
-effect_told imaged before after account answers acted =
-    option_map (λ flow. record { part = part_with imaged after (acted_operands before.frames after.frames acted) account answers; flow = flow }) (flow_told acted)
+abbrev pub effect_reported : Imaged → Machine → Machine → Account → List HostAnswer → Acted → Option Effect
+effect_reported imaged before after account answers acted =
+    option_map (λ flow. record { part = part_with imaged after (acted_operands before.frames after.frames acted) account answers; flow = flow }) (flow_reported acted)
 
 -- the static fields and literals are the image's still, where there is such a step; and what was done is no call
 abbrev pub IsKept : Imaged → Store → Acted → Type 0
@@ -97,7 +97,7 @@ IsKept imaged st acted = IsStore imaged st
 -- the model's effect of the instruction, and what it leaves, are these; none where no step can be made
 pub record Acts (imaged : Imaged) (i : Instruction) (before after : Machine) (acted : Acted) : Type 0 where
   pub effect : (terms : Terms) (own : Name) (account : Account) (answers : List HostAnswer) → terms.limit ≡ Some before.store.heap.limit
-      → effects.effect (program_of imaged) imaged.prefix terms own i (part_of imaged before account answers) ≡ effect_told imaged before after account answers acted
+      → effects.effect (program_of imaged) imaged.prefix terms own i (part_of imaged before account answers) ≡ effect_reported imaged before after account answers acted
   pub limit : after.store.heap.limit ≡ before.store.heap.limit
   pub frames : SameFrames before.frames after.frames
   pub number : top_number after.frames ≡ top_number before.frames

@@ -53,7 +53,7 @@ IsKnownThen types heap (begins.Left acted) = IsKnownAfter types heap acted
 abbrev pub Follows : Acted → List StackFrame → List StackFrame → Begun → Type 0
 Follows acted old new begins.Went = IsGone acted old new
 Follows acted old new begins.Nothing = ⊥
-Follows acted old new (begins.Left told) = (told ≡ acted) × (new ≡ old)
+Follows acted old new (begins.Left reported) = (reported ≡ acted) × (new ≡ old)
 
 -- the run goes on in the frame at the instruction of this number, after the one of that number; nothing is said where there is none
 abbrev pub IsPlaceAfter : ℕ → Acted → Option ℕ → Type 0

@@ -1,6 +1,6 @@
 -- Instructions that are done without new memory.
 use Rattle.std.specs.Prelude.{◌≡◌, ◌≤◌, ⊤, ℕ, Bool, true, false, List, map, Some, Result, IfErr, IsFalse, slice_get}
-use Rattle.dj_names.specs.declared.lists.NoMemory.{NoMemory}
+use Rattle.dj_bytes.specs.declared.memory.NoMemory.{NoMemory}
 use Rattle.dj_names.specs.declared.run.Value.{Value}
 use Rattle.dj_names.specs.trusted.Types.{Name}
 use Rattle.dj_names.specs.trusted.Values.{value_kind}

@@ -7,7 +7,7 @@ ghost use Rattle.dj_acting.specs.Kinds.{kind_by};
 use dj_names::Kind;
 
 /// The kind of the values of a field with this descriptor; none of a float or a double.
-#[tactic(auto, using(crate::proofs::Letters::kind_told))]
+#[tactic(auto, using(crate::proofs::Letters::kind_reported))]
 pub fn kind_of(desc: &[u8]) -> Option<Kind>
     ensures { (d : Desc) → Describes desc.now d → result ≡ field_kind d }
 {

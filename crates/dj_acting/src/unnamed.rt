@@ -118,8 +118,8 @@ fn store_at_once(image: &Image, frames: &mut Frames, heap: &mut Heap, access: Ac
     ensures known { IsKnownAfter (types_of (typed_of image.now)) heap.new result }
 {
     let is_taken = takes_top(image, frames, heap);
-    let told = store_element(frames, heap, access, is_taken);
-    flow_acted(told)
+    let reported = store_element(frames, heap, access, is_taken);
+    flow_acted(reported)
 }
 
 // ---- what follows

@@ -17,7 +17,7 @@ use Rattle.dj_types.specs.Members.{all_methods}
 use Rattle.dj_image.specs.Sources.{Source, class_of_source}
 use Rattle.dj_image.specs.Imaged.{Imaged, program_of}
 use Rattle.dj_activations.specs.Activations.{declared_at, frame_seen, frames_seen, IsActivation, AreActivations}
-use Rattle.dj_activations.specs.Told.{IsInitialiserOf}
+use Rattle.dj_activations.specs.Reported.{IsInitialiserOf}
 
 -- ---- a class with an initialiser and an abstract method, and one with a method that is named as an initialiser is
 
@@ -53,19 +53,19 @@ program = program_of image
 abbrev declared : Name → Name → Desc → Declared
 declared class name desc = record { class = class; name = name; desc = desc }
 
-methods_told : map (declared_at program) (0 ∷ 1 ∷ 2 ∷ 3 ∷ [])
+methods_reported : map (declared_at program) (0 ∷ 1 ∷ 2 ∷ 3 ∷ [])
     ≡ declared (codes "A") (codes "<clinit>") no_parameters ∷ declared (codes "A") (codes "m") no_parameters ∷ declared (codes "B") (codes "<clinit>") one_int ∷ declared [] [] no_parameters ∷ []
 unfolding declared_at all_methods class_of_source
-methods_told = refl
+methods_reported = refl
 
 -- the descriptor counts too, and a made-up method is no initialiser
-initialisers_told : map (λ n. is_initialiser (declared_at program n)) (0 ∷ 1 ∷ 2 ∷ 3 ∷ []) ≡ true ∷ false ∷ false ∷ false ∷ []
+initialisers_reported : map (λ n. is_initialiser (declared_at program n)) (0 ∷ 1 ∷ 2 ∷ 3 ∷ []) ≡ true ∷ false ∷ false ∷ false ∷ []
 unfolding declared_at all_methods class_of_source
-initialisers_told = refl
+initialisers_reported = refl
 
-codes_told : map (λ n. code_of program (declared_at program n)) (0 ∷ 1 ∷ 2 ∷ 3 ∷ []) ≡ Some code ∷ None ∷ Some code ∷ None ∷ []
+codes_reported : map (λ n. code_of program (declared_at program n)) (0 ∷ 1 ∷ 2 ∷ 3 ∷ []) ≡ Some code ∷ None ∷ Some code ∷ None ∷ []
 unfolding declared_at all_methods class_of_source code_of
-codes_told = refl
+codes_reported = refl
 
 initialiser_of_first : IsInitialiserOf image 0 0
 unfolding declared_at all_methods class_of_source

@@ -17,7 +17,7 @@ use Rattle.dj_stack.specs.Frames.{StackFrame}
 use Rattle.dj_image.specs.Imaged.{Imaged, program_of}
 use Rattle.dj_image.specs.Codes.{HasInstr}
 use Rattle.dj_activations.specs.Activations.{declared_at, frame_seen, IsActivation}
-use Rattle.dj_activations.specs.Told.{IsCodeOf}
+use Rattle.dj_activations.specs.Reported.{IsCodeOf}
 use Rattle.dj_activations.proofs.Standing.{code_of_activation}
 use Rattle.dj_activations.proofs.Rooms.{result_room}
 
@@ -25,14 +25,14 @@ use Rattle.dj_activations.proofs.Rooms.{result_room}
 pub has_instruction : (imaged : Imaged) (f : StackFrame) (code : MethodCode) → IsCodeOf imaged f.method code → IsAt (program_of imaged) (frame_seen (program_of imaged) f)
     → HasInstr imaged f.method f.number
 unfolding code_in
-has_instruction imaged f code told at =
-    let own : Code = code_in told.pool (parts_of code) in
+has_instruction imaged f code reported at =
+    let own : Code = code_in reported.pool (parts_of code) in
     let there = code_is (program_of imaged) (declared_at (program_of imaged) f.method) at.method at.code at.there at.body in
-    let same : at.code ≡ own = same_Some at.code own (sym there ∙ told.is) in
+    let same : at.code ≡ own = same_Some at.code own (sym there ∙ reported.is) in
     let within : f.number < length at.code.instructions = slice_get_within at.code.instructions f.number at.instruction at.at in
     let count : length at.code.instructions ≡ length code.code.code =
-    ap (λ (c : Code). length c.instructions) same ∙ length-map code.code.code (instruction_in told.pool) in
-    record { code = record { pool = told.pool; parts = parts_of code }; own = told.own; within = omega (arith, within, count) }
+    ap (λ (c : Code). length c.instructions) same ∙ length-map code.code.code (instruction_in reported.pool) in
+    record { code = record { pool = reported.pool; parts = parts_of code }; own = reported.own; within = omega (arith, within, count) }
 
 -- a frame that waits for a result has room for it
 pub waiting_room : (imaged : Imaged) → IsProgram (program_of imaged) → (f : StackFrame) → IsActivation imaged f → (result : Kind)

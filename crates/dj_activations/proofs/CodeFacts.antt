@@ -13,7 +13,7 @@ use Rattle.dj_image.specs.Sources.{class_of_source}
 use Rattle.dj_image.specs.Imaged.{Imaged}
 use Rattle.dj_image.specs.Codes.{PooledCode, all_codes}
 use Rattle.dj_activations.specs.Activations.{declared_at}
-use Rattle.dj_activations.specs.Told.{IsCodeOf, TellsCode}
+use Rattle.dj_activations.specs.Reported.{IsCodeOf, SaysCode}
 
 abbrev own : ℕ → MethodCode
 own stack = record {
@@ -49,28 +49,28 @@ image = record {
   texts = [];
 }
 
-code_there : TellsCode image 1 (Some (own 1))
+code_there : SaysCode image 1 (Some (own 1))
 unfolding declared_at all_methods class_of_source all_codes code_of
 code_there = record { pool = []; own = refl; is = refl }
 
-none_there : TellsCode image 0 None
+none_there : SaysCode image 0 None
 unfolding declared_at all_methods class_of_source code_of
 none_there = refl
 
-code_left_out : TellsCode image 1 None → ⊥
+code_left_out : SaysCode image 1 None → ⊥
 unfolding declared_at all_methods class_of_source code_of
 code_left_out none = none-some (code_in [] (parts_of (own 1))) (sym none)
 
 -- code with another depth is another's
 not_other_code : IsCodeOf image 1 (own 2) → ⊥
 unfolding all_codes
-not_other_code told =
+not_other_code reported =
     let one : PooledCode = record { pool = []; parts = parts_of (own 1) } in
-    let two : PooledCode = record { pool = told.pool; parts = parts_of (own 2) } in
-    let same : one ≡ two = same_Some one two told.own in
+    let two : PooledCode = record { pool = reported.pool; parts = parts_of (own 2) } in
+    let same : one ≡ two = same_Some one two reported.own in
     let depth : 1 ≡ 2 = ap (λ (c : PooledCode). c.parts.max_stack) same in
     omega (arith, depth)
 
 not_of_abstract : IsCodeOf image 0 (own 1) → ⊥
 unfolding all_codes
-not_of_abstract told = none-some (record { pool = told.pool; parts = parts_of (own 1) }) told.own
+not_of_abstract reported = none-some (record { pool = reported.pool; parts = parts_of (own 1) }) reported.own

@@ -18,7 +18,7 @@ use Rattle.dj_image.specs.Imaged.{Imaged}
 use Rattle.dj_image.specs.Codes.{PooledCode, HasInstr, IsOperandAt}
 use Rattle.dj_image.specs.Operands.{operand_of}
 use Rattle.dj_image.specs.declared.operand.Operand.{Operand}
-use Rattle.dj_activations.specs.Told.{IsCodeOf, TellsCode}
+use Rattle.dj_activations.specs.Reported.{IsCodeOf, SaysCode}
 use Rattle.dj_activations.specs.Instructions.{HasInstruction, IsInstrAt, StandsAt, instruction_of_number}
 
 -- what stands at the number in the method's code
@@ -35,7 +35,7 @@ instruction_there imaged method number code is instr at =
     ap (λ (o : Option Code). instruction_in o number) is.is
     ∙ (slice_get-map (naming.instruction_in is.pool) code.code.code number ∙ ap (option_map (naming.instruction_in is.pool)) at)
 
-pub no_code : (imaged : Imaged) (method number : ℕ) → TellsCode imaged method None → HasInstruction imaged method number → ⊥
+pub no_code : (imaged : Imaged) (method number : ℕ) → SaysCode imaged method None → HasInstruction imaged method number → ⊥
 no_code imaged method number none has =
     none-some has.instruction (sym (ap (λ (o : Option Code). instruction_in o number) none) ∙ has.at)
 
@@ -46,9 +46,9 @@ no_instr imaged method number code is has none =
     sym (ap (λ (o : Option Code). instruction_in o number) is.is) ∙ has.at in
     none-some has.instruction (ap (option_map (naming.instruction_in is.pool)) none ∙ (sym (slice_get-map (naming.instruction_in is.pool) code.code.code number) ∙ at))
 
-pub instr_told : (imaged : Imaged) (method number : ℕ) (code : MethodCode) → IsCodeOf imaged method code → (instr : Instr) → slice_get code.code.code number ≡ Some instr
+pub instr_reported : (imaged : Imaged) (method number : ℕ) (code : MethodCode) → IsCodeOf imaged method code → (instr : Instr) → slice_get code.code.code number ≡ Some instr
     → (named : Named) × IsInstrAt imaged method number instr named
-instr_told imaged method number code is instr at = (
+instr_reported imaged method number code is instr at = (
   named_if is.pool (index_of instr),
   record { stands = stands_at imaged method number code is instr at; is = instruction_there imaged method number code is instr at },
 )

@@ -1,5 +1,5 @@
 pub mod Numbers
-pub mod Told
+pub mod Reported
 pub mod InstructionFacts
 pub mod Rooms
 pub mod Standing

@@ -75,15 +75,15 @@ own_in c (m ∷ methods) zero found e =
     let is : found_in c m ≡ found = same_Some (found_in c m) found e in (ap (λ (f : FoundMethod). f.class) is, ap (λ (f : FoundMethod). Some f.method) is)
 own_in c (m ∷ methods) (suc n) found e = own_in c methods n found e
 
-front_or_rest : {A : Type 0} (xs ys : List A) (n : ℕ) (x : A) → slice_get (xs ++ ys) n ≡ Some x → (slice_get xs n ≡ Some x) ⊎ ((k : ℕ) × (slice_get ys k ≡ Some x))
-front_or_rest [] ys n x e = inr (n, e)
-front_or_rest (y ∷ xs) ys zero x e = inl e
-front_or_rest (y ∷ xs) ys (suc n) x e = front_or_rest xs ys n x e
+prefix_or_rest : {A : Type 0} (xs ys : List A) (n : ℕ) (x : A) → slice_get (xs ++ ys) n ≡ Some x → (slice_get xs n ≡ Some x) ⊎ ((k : ℕ) × (slice_get ys k ≡ Some x))
+prefix_or_rest [] ys n x e = inr (n, e)
+prefix_or_rest (y ∷ xs) ys zero x e = inl e
+prefix_or_rest (y ∷ xs) ys (suc n) x e = prefix_or_rest xs ys n x e
 
 pub own_of : (program : Program) (n : ℕ) (found : FoundMethod) → slice_get (all_methods program) n ≡ Some found → IsOwn program found
 unfolding all_methods
 own_of [] n found e = absurd cc
-own_of (c ∷ program) n found e = elim (front_or_rest (methods_in c) (flat_map methods_in program) n found e) [
+own_of (c ∷ program) n found e = elim (prefix_or_rest (methods_in c) (flat_map methods_in program) n found e) [
   | inl here ↦ let parts = own_in c c.methods n found here in record { number = 0; class = c; there = refl; named = parts.0; member = n; own = parts.1 }
   | inr later ↦ let own = own_of program later.0 found later.1 in
       record { number = suc own.number; class = own.class; there = own.there; named = own.named; member = own.member; own = own.own }

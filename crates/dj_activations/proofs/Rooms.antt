@@ -50,43 +50,43 @@ fitting_fits code locals (Some stack) k e =
     omega (arith, le, deep)
 
 placed_fits : (code : Code) (before : List (Option Kind)) (frames : List MapFrame) (placed : List Placed) → frames_after code before frames ≡ Read placed
-    → (number : ℕ) (told : Kinds) → placed_at placed number ≡ Some told → Fits code told
+    → (number : ℕ) (reported : Kinds) → placed_at placed number ≡ Some reported → Fits code reported
 unfolding frames_after
-placed_fits code before [] placed e number told at =
+placed_fits code before [] placed e number reported at =
     let none : [] ≡ placed = cc in
-    let no : None ≡ Some told = subst (λ (l : List Placed). placed_at l number ≡ Some told) (sym none) at in absurd cc
-placed_fits code before (f ∷ rest) placed e number told at =
-    by_entries (form_entries code before f.form) (λ locals more is. placed_fits code locals rest more is number told) e where
-      by_map : (k : Kinds) (map : Map) → Fits code k → ((more : List Placed) → map ≡ Read more → placed_at more number ≡ Some told → Fits code told)
-          → and_then (record { at = f.at; kinds = k }) map ≡ Read placed → Fits code told
+    let no : None ≡ Some reported = subst (λ (l : List Placed). placed_at l number ≡ Some reported) (sym none) at in absurd cc
+placed_fits code before (f ∷ rest) placed e number reported at =
+    by_entries (form_entries code before f.form) (λ locals more is. placed_fits code locals rest more is number reported) e where
+      by_map : (k : Kinds) (map : Map) → Fits code k → ((more : List Placed) → map ≡ Read more → placed_at more number ≡ Some reported → Fits code reported)
+          → and_then (record { at = f.at; kinds = k }) map ≡ Read placed → Fits code reported
       by_map k (Faulty other) fits each e = absurd cc
       by_map k NoMap fits each e = absurd cc
       by_map k (Read more) fits each e =
           let is : record { at = f.at; kinds = k } ∷ more ≡ placed = cc in
-          let there : placed_at (record { at = f.at; kinds = k } ∷ more) number ≡ Some told = subst (λ (l : List Placed). placed_at l number ≡ Some told) (sym is) at in
+          let there : placed_at (record { at = f.at; kinds = k } ∷ more) number ≡ Some reported = subst (λ (l : List Placed). placed_at l number ≡ Some reported) (sym is) at in
           elim (either (nat_eq f.at number)) [
-            | inl here ↦ let same : Some k ≡ Some told = rw here at there in let kinds_are : k ≡ told = cc in subst (Fits code) kinds_are fits
+            | inl here ↦ let same : Some k ≡ Some reported = rw here at there in let kinds_are : k ≡ reported = cc in subst (Fits code) kinds_are fits
             | inr later ↦ each more refl (rw later at there)
           ]
 
       by_fitting : (k : Option Kinds) (map : Map) → ((j : Kinds) → k ≡ Some j → Fits code j)
-          → ((more : List Placed) → map ≡ Read more → placed_at more number ≡ Some told → Fits code told) → with_fitting f.at k map ≡ Read placed → Fits code told
+          → ((more : List Placed) → map ≡ Read more → placed_at more number ≡ Some reported → Fits code reported) → with_fitting f.at k map ≡ Read placed → Fits code reported
       by_fitting None map fits each e = absurd cc
       by_fitting (Some k) map fits each e = by_map k map (fits k refl) each e
 
       by_entries : (entries : Option Entries)
-          → ((locals : List (Option Kind)) (more : List Placed) → frames_after code locals rest ≡ Read more → placed_at more number ≡ Some told → Fits code told)
-          → with_frame code f.at entries (λ locals. frames_after code locals rest) ≡ Read placed → Fits code told
+          → ((locals : List (Option Kind)) (more : List Placed) → frames_after code locals rest ≡ Read more → placed_at more number ≡ Some reported → Fits code reported)
+          → with_frame code f.at entries (λ locals. frames_after code locals rest) ≡ Read placed → Fits code reported
       by_entries None each e = absurd cc
       by_entries (Some entries) each e = by_fitting (fitting code entries.locals (stack_of entries.stack)) (frames_after code entries.locals rest)
           (fitting_fits code entries.locals (stack_of entries.stack)) (each entries.locals) e
 
-told_fits : (signature : Signature) (code : Code) (placed : List Placed) → map_of signature code ≡ Read placed → (number : ℕ) (told : Kinds) → placed_at placed number ≡ Some told
-    → Fits code told
-told_fits signature code placed e number told at = by code.frames e where
-  by : (frames : Option (List MapFrame)) → frames_in code (parameter_entries signature) frames ≡ Read placed → Fits code told
+reported_fits : (signature : Signature) (code : Code) (placed : List Placed) → map_of signature code ≡ Read placed → (number : ℕ) (reported : Kinds) → placed_at placed number ≡ Some reported
+    → Fits code reported
+reported_fits signature code placed e number reported at = by code.frames e where
+  by : (frames : Option (List MapFrame)) → frames_in code (parameter_entries signature) frames ≡ Read placed → Fits code reported
   by None e = absurd cc
-  by (Some frames) e = placed_fits code (parameter_entries signature) frames placed e number told at
+  by (Some frames) e = placed_fits code (parameter_entries signature) frames placed e number reported at
 
 -- ---- handlers
 
@@ -97,7 +97,7 @@ not_or false b e f = absurd cc
 equal_self : (n : ℕ) → nat_eq n n ≡ true
 equal_self n = grind (arith, nat_tests)
 
-one_fits : (code : Code) (told : Option Kinds) → is_handler_frame told ≡ true → ((k : Kinds) → told ≡ Some k → Fits code k) → 1 ≤ code.max_stack
+one_fits : (code : Code) (reported : Option Kinds) → is_handler_frame reported ≡ true → ((k : Kinds) → reported ≡ Some k → Fits code k) → 1 ≤ code.max_stack
 one_fits code None e fits = absurd cc
 one_fits code (Some k) e fits =
     let stack : k.stack ≡ kinds.Ref ∷ [] = flow_stack k.stack (kinds.Ref ∷ []) e in
@@ -122,7 +122,7 @@ handler_room program prefix is m method code there body range own = by (map_of s
       let h : Holds signature code placed range.handler = each range.handler (c.1.handlers_within range own) in
       let frame = not_or (nat_eq range.handler range.handler) (is_handler_frame (placed_at placed range.handler))
       (all_at (λ (r : Range). not (nat_eq range.handler r.handler) || is_handler_frame (placed_at placed range.handler)) code.ranges range h.handles own) (equal_self range.handler) in
-      one_fits code (placed_at placed range.handler) frame (told_fits signature code placed e range.handler)
+      one_fits code (placed_at placed range.handler) frame (reported_fits signature code placed e range.handler)
 
 -- ---- results
 

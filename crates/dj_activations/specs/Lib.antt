@@ -1,3 +1,3 @@
 pub mod Activations
 pub mod Instructions
-pub mod Told
+pub mod Reported

@@ -5,16 +5,16 @@ ghost use Rattle.dj_model.specs.Sound.{IsProgram};
 ghost use Rattle.dj_types.specs.Members.{all_methods};
 ghost use Rattle.dj_image.specs.Imaged.{program_of};
 ghost use Rattle.dj_activations.specs.Activations.{declared_at};
-ghost use Rattle.dj_activations.specs.Told.{TellsCode, TellsInitialiser};
+ghost use Rattle.dj_activations.specs.Reported.{SaysCode, SaysInitialiser};
 
 use dj_image::{Body, Image, MethodCode, MethodId};
 
 /// The code of a method, where it has some.
-#[tactic(auto, using(crate::proofs::Told::code_told, crate::proofs::Told::native_told, crate::proofs::Told::abstract_told))]
+#[tactic(auto, using(crate::proofs::Reported::code_reported, crate::proofs::Reported::native_reported, crate::proofs::Reported::abstract_reported))]
 pub fn code_of(image: &Image, method: MethodId) -> Option<&MethodCode>
     requires there { method.number < length (all_methods (program_of image.now)) }
     requires formed { IsProgram (program_of image.now) }
-    ensures { TellsCode image.now method.number (option_map (λ code. code.now) result) }
+    ensures { SaysCode image.now method.number (option_map (λ code. code.now) result) }
 {
     match image.body(method) {
         Body::Code(code) => Some(code),
@@ -26,11 +26,11 @@ pub fn code_of(image: &Image, method: MethodId) -> Option<&MethodCode>
 /// The class of which a method is the initialiser (JVMS 2.9), where it is one.
 pub fn initialised_by(image: &Image, method: MethodId) -> Option<u32>
     requires { method.number < length (all_methods (program_of image.now)) }
-    ensures { TellsInitialiser image.now method.number result }
+    ensures { SaysInitialiser image.now method.number result }
 {
-    let told = image.method(method);
-    if are_initialisers(told.name, told.desc) {
-        Some(told.class)
+    let reported = image.method(method);
+    if are_initialisers(reported.name, reported.desc) {
+        Some(reported.class)
     } else {
         None
     }

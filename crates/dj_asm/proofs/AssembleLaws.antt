@@ -55,7 +55,7 @@ large_fault text read place line is first number = inr (inr (record {
   first = first.1;
   line = line;
   number = ap (λ numbers. slice_get numbers place) (sym is.numbers_are) ∙ number;
-  told = refl;
+  reported = refl;
 }))
 
 word_or_label : (text : List ℕ) (e : AsmError) → WordFault text e ⊎ LabelFault text e → TextFault text e
@@ -114,11 +114,11 @@ read_fault text (asm_errors.Large line) fault = word_or_label text (asm_errors.L
 -- the answer of the lines of a text with a line that is too large
 pub large_answer : (text : List ℕ) (read : TextLines) (place : ℕ) (is : AreLinesOf text read) → IsFirst (IsTooLarge is.source) (Some place) → IsAsmFault text (large_at read.numbers place)
 large_answer text read place is first = by_number (slice_get read.numbers place) refl where
-  told : Option ℕ → AsmError
-  told None = asm_errors.Memory
-  told (Some line) = asm_errors.Large line
+  reported : Option ℕ → AsmError
+  reported None = asm_errors.Memory
+  reported (Some line) = asm_errors.Large line
 
-  by_number : (line : Option ℕ) → slice_get read.numbers place ≡ line → IsAsmFault text (told line)
+  by_number : (line : Option ℕ) → slice_get read.numbers place ≡ line → IsAsmFault text (reported line)
   by_number None e = tt
   by_number (Some line) e = large_fault text read place line is first e
 

@@ -76,23 +76,23 @@ instrs_of places (line ∷ body) is = instrs_of places body is.1
 
 -- ---- each instruction is that of a line
 
-shift : (front : List Line) (line : Line) (rest : List Line) → front ++ line ∷ rest ≡ (front ++ line ∷ []) ++ rest
-shift front line rest = sym (append_assoc front (line ∷ []) rest)
+shift : (prefix : List Line) (line : Line) (rest : List Line) → prefix ++ line ∷ rest ≡ (prefix ++ line ∷ []) ++ rest
+shift prefix line rest = sym (append_assoc prefix (line ∷ []) rest)
 
 -- one step further into a body
-on : (body front : List Line) (line : Line) (rest : List Line) → body ≡ front ++ line ∷ rest → body ≡ (front ++ line ∷ []) ++ rest
-on body front line rest e = e ∙ shift front line rest
+on : (body prefix : List Line) (line : Line) (rest : List Line) → body ≡ prefix ++ line ∷ rest → body ≡ (prefix ++ line ∷ []) ++ rest
+on body prefix line rest e = e ∙ shift prefix line rest
 
-each_from_line : (places : Places) (P : Instr → Type 0) (body front rest : List Line) (code : List Instr)
+each_from_line : (places : Places) (P : Instr → Type 0) (body prefix rest : List Line) (code : List Instr)
     → ((before : List Line) (o : Operation) (after : List Line) (i : Instr) → body ≡ before ++ Does o ∷ after → IsInstrOf places o i → P i)
-    → body ≡ front ++ rest → AreInstrsOf places rest code → AllByRecursion P code
-each_from_line places P body front [] [] f e are = tt
-each_from_line places P body front [] (i ∷ code) f e are = absurd are
-each_from_line places P body front (Does o ∷ rest) [] f e are = absurd are
-each_from_line places P body front (Does o ∷ rest) (i ∷ code) f e are =
-    (f front o rest i e are.0, each_from_line places P body (front ++ Does o ∷ []) rest code f (on body front (Does o) rest e) are.1)
-each_from_line places P body front (line ∷ rest) code f e are =
-    each_from_line places P body (front ++ line ∷ []) rest code f (on body front line rest e) are
+    → body ≡ prefix ++ rest → AreInstrsOf places rest code → AllByRecursion P code
+each_from_line places P body prefix [] [] f e are = tt
+each_from_line places P body prefix [] (i ∷ code) f e are = absurd are
+each_from_line places P body prefix (Does o ∷ rest) [] f e are = absurd are
+each_from_line places P body prefix (Does o ∷ rest) (i ∷ code) f e are =
+    (f prefix o rest i e are.0, each_from_line places P body (prefix ++ Does o ∷ []) rest code f (on body prefix (Does o) rest e) are.1)
+each_from_line places P body prefix (line ∷ rest) code f e are =
+    each_from_line places P body (prefix ++ line ∷ []) rest code f (on body prefix line rest e) are
 
 pub each_instr : (places : Places) (P : Instr → Type 0) (body : List Line) (code : List Instr) → AreInstrsOf places body code
     → ((before : List Line) (o : Operation) (after : List Line) (i : Instr) → body ≡ before ++ Does o ∷ after → IsInstrOf places o i → P i) → AllByRecursion P code
@@ -108,26 +108,26 @@ code_count places (line ∷ body) code are = let more = code_count places body c
 
 -- the line of the instruction of a number
 pub record IsLineOf (body : List Line) (number : ℕ) : Type 0 where
-  pub front : List Line
+  pub prefix : List Line
   pub operation : Operation
   pub rest : List Line
-  pub parts : body ≡ front ++ Does operation ∷ rest
-  pub count : instruction_count front ≡ number
+  pub parts : body ≡ prefix ++ Does operation ∷ rest
+  pub count : instruction_count prefix ≡ number
 
-one_more : (front : List Line) (line : Line) (n : ℕ) → instruction_count (line ∷ []) ≡ n → instruction_count (front ++ line ∷ []) ≡ instruction_count front + n
-one_more front line n e = count_append front (line ∷ []) ∙ ap (λ (k : ℕ). instruction_count front + k) e
+one_more : (prefix : List Line) (line : Line) (n : ℕ) → instruction_count (line ∷ []) ≡ n → instruction_count (prefix ++ line ∷ []) ≡ instruction_count prefix + n
+one_more prefix line n e = count_append prefix (line ∷ []) ∙ ap (λ (k : ℕ). instruction_count prefix + k) e
 
-line_from : (places : Places) (body front rest : List Line) (code : List Instr) (k : ℕ) → body ≡ front ++ rest → AreInstrsOf places rest code → k < length code → IsLineOf body (instruction_count front + k)
-line_from places body front [] [] k e are lt = absurd (omega (arith, lt))
-line_from places body front [] (i ∷ code) k e are lt = absurd are
-line_from places body front (Does o ∷ rest) [] k e are lt = absurd are
-line_from places body front (Does o ∷ rest) (i ∷ code) zero e are lt = record { front = front; operation = o; rest = rest; parts = e; count = omega arith }
-line_from places body front (Does o ∷ rest) (i ∷ code) (suc k) e are lt =
-    let c = one_more front (Does o) 1 refl in
-    subst (IsLineOf body) (omega (arith, c)) (line_from places body (front ++ Does o ∷ []) rest code k (on body front (Does o) rest e) are.1 (omega (arith, lt)))
-line_from places body front (line ∷ rest) code k e are lt =
-    let c = one_more front line 0 refl in
-    subst (IsLineOf body) (omega (arith, c)) (line_from places body (front ++ line ∷ []) rest code k (on body front line rest e) are lt)
+line_from : (places : Places) (body prefix rest : List Line) (code : List Instr) (k : ℕ) → body ≡ prefix ++ rest → AreInstrsOf places rest code → k < length code → IsLineOf body (instruction_count prefix + k)
+line_from places body prefix [] [] k e are lt = absurd (omega (arith, lt))
+line_from places body prefix [] (i ∷ code) k e are lt = absurd are
+line_from places body prefix (Does o ∷ rest) [] k e are lt = absurd are
+line_from places body prefix (Does o ∷ rest) (i ∷ code) zero e are lt = record { prefix = prefix; operation = o; rest = rest; parts = e; count = omega arith }
+line_from places body prefix (Does o ∷ rest) (i ∷ code) (suc k) e are lt =
+    let c = one_more prefix (Does o) 1 refl in
+    subst (IsLineOf body) (omega (arith, c)) (line_from places body (prefix ++ Does o ∷ []) rest code k (on body prefix (Does o) rest e) are.1 (omega (arith, lt)))
+line_from places body prefix (line ∷ rest) code k e are lt =
+    let c = one_more prefix line 0 refl in
+    subst (IsLineOf body) (omega (arith, c)) (line_from places body (prefix ++ line ∷ []) rest code k (on body prefix line rest e) are lt)
 
 pub line_of : (places : Places) (body : List Line) (code : List Instr) (k : ℕ) → AreInstrsOf places body code → k < length code → IsLineOf body k
 line_of places body code k are lt = subst (IsLineOf body) (omega arith) (line_from places body [] body code k refl are lt)
@@ -164,13 +164,13 @@ module _ (index : Entry → ℕ) (body : List Line) where
   targets_within (Member op class name desc marked) i is h = member_within (is_interface_call op) op (places.index (member_entry op class name desc marked)) desc i is
   targets_within o i is h = subst (HasNumbers count) (sym is) tt
 
-  pub ranges_within : (front rest : List Line) → body ≡ front ++ rest → ((before : List Line) (line : Line) (after : List Line) → body ≡ before ++ line ∷ after → AllByRecursion (IsNumbered body) (uses_of line))
+  pub ranges_within : (prefix rest : List Line) → body ≡ prefix ++ rest → ((before : List Line) (line : Line) (after : List Line) → body ≡ before ++ line ∷ after → AllByRecursion (IsNumbered body) (uses_of line))
       → AllByRecursion (IsRange count) (flat_map (ranges_in places) rest)
-  ranges_within front [] e met = tt
-  ranges_within front (Beside (Catch class from to handler) ∷ rest) e met =
-      let m = met front (Beside (Catch class from to handler)) rest e in
-      (record { some = m.0.0; within = m.0.1; handled = m.1.0 }, ranges_within (front ++ Beside (Catch class from to handler) ∷ []) rest (on body front (Beside (Catch class from to handler)) rest e) met)
-  ranges_within front (line ∷ rest) e met = ranges_within (front ++ line ∷ []) rest (on body front line rest e) met
+  ranges_within prefix [] e met = tt
+  ranges_within prefix (Beside (Catch class from to handler) ∷ rest) e met =
+      let m = met prefix (Beside (Catch class from to handler)) rest e in
+      (record { some = m.0.0; within = m.0.1; handled = m.1.0 }, ranges_within (prefix ++ Beside (Catch class from to handler) ∷ []) rest (on body prefix (Beside (Catch class from to handler)) rest e) met)
+  ranges_within prefix (line ∷ rest) e met = ranges_within (prefix ++ line ∷ []) rest (on body prefix line rest e) met
 
 -- ---- a method of a source
 
@@ -185,13 +185,13 @@ module _ (s : Source) (before : ℕ) (body : List Line) (at : AreMethodLines s b
   -- its code is well formed
   pub well_formed : (code : List Instr) → AreInstrsOf here body code → IsWellFormed (labelled_of here body code)
   well_formed code are =
-      let met = λ (front : List Line) (line : Line) (rest : List Line) (e : body ≡ front ++ line ∷ rest). uses_numbered s before body front line rest labels at e in
+      let met = λ (prefix : List Line) (line : Line) (rest : List Line) (e : body ≡ prefix ++ line ∷ rest). uses_numbered s before body prefix line rest labels at e in
       let size : instruction_count body ≡ length code = sym (code_count here body code are) in
       record {
-        proper = each_instr here IsProper body code are (λ front o rest i e is.
-            stable (proper_or_not i) (λ improper. proper (before + length front) (record {
+        proper = each_instr here IsProper body code are (λ prefix o rest i e is.
+            stable (proper_or_not i) (λ improper. proper (before + length prefix) (record {
               body = body;
-              front = front;
+              prefix = prefix;
               operation = o;
               at = record { before = before; in_method = at; rest = rest; parts = e; place_is = refl };
               instr = i;
@@ -199,22 +199,22 @@ module _ (s : Source) (before : ℕ) (body : List Line) (at : AreMethodLines s b
               improper = improper;
             })));
         targets = subst (λ (n : ℕ). AllByRecursion (HasNumbers n) code) size
-            (each_instr here (HasNumbers (instruction_count body)) body code are (λ front o rest i e is. targets_within (index_in s) body o i is (met front (Does o) rest e)));
+            (each_instr here (HasNumbers (instruction_count body)) body code are (λ prefix o rest i e is. targets_within (index_in s) body o i is (met prefix (Does o) rest e)));
         ranges = subst (λ (n : ℕ). AllByRecursion (IsRange n) (flat_map (ranges_in here) body)) size (ranges_within (index_in s) body [] body refl met);
       }
 
   -- and it has a layout, where no jump is far and the code isn't long
-  pub has_layout : (code : List Instr) → AreInstrsOf here body code → (front : List Line) → body ≡ front ++ End ∷ [] → NoLine (IsFarJump s) → NoLine (IsEndOfLongCode s) → HasLayout (labelled_of here body code)
-  has_layout code are front ends near short = decide (layout_or_fault_is (labelled_of here body code) (well_formed code are)) where
+  pub has_layout : (code : List Instr) → AreInstrsOf here body code → (prefix : List Line) → body ≡ prefix ++ End ∷ [] → NoLine (IsFarJump s) → NoLine (IsEndOfLongCode s) → HasLayout (labelled_of here body code)
+  has_layout code are prefix ends near short = decide (layout_or_fault_is (labelled_of here body code) (well_formed code are)) where
     far : (number : ℕ) → Refuses (labelled_of here body code) (lay_errors.Far number) → ⊥
     far number fault =
         let jump = fault.first in
         let many = placed_length (address_of (starts_from 0 code)) (starts_from 0 code) code (starts_length 0 code) in
         let within = slice_get_within (placed (starts_from 0 code) code) number fault.jump jump.found in
         let line = line_of here body code number are (omega (arith, many, within)) in
-        near (before + length line.front) (record {
+        near (before + length line.prefix) (record {
           body = body;
-          front = line.front;
+          prefix = line.prefix;
           operation = line.operation;
           at = record { before = before; in_method = at; rest = line.rest; parts = line.parts; place_is = refl };
           instrs = code;
@@ -228,9 +228,9 @@ module _ (s : Source) (before : ℕ) (body : List Line) (at : AreMethodLines s b
     long number fault =
         let past = fault.past in
         let all = end_within 0 (number + 1) code in
-        short (before + length front) (record {
+        short (before + length prefix) (record {
           body = body;
-          front = front;
+          prefix = prefix;
           at = record { before = before; in_method = at; rest = []; parts = ends; place_is = refl };
           instrs = code;
           are_instrs = are;

@@ -54,17 +54,17 @@ marks_is label line e = absurd (false≢true e)
 marked : (label : Label) → same_name label label ≡ true
 marked label = (bytes_decides label label).1 refl
 
-count_front : (label : Label) (front rest : List Line) → AllByRecursion (λ line. line ≢ Beside (Marked label)) front → count_to label (front ++ Beside (Marked label) ∷ rest) ≡ instruction_count front
-count_front label [] rest first = ap (λ b. cond (not b) (0 + count_to label rest) 0) (marked label)
-count_front label (line ∷ front) rest first =
+count_prefix : (label : Label) (prefix rest : List Line) → AllByRecursion (λ line. line ≢ Beside (Marked label)) prefix → count_to label (prefix ++ Beside (Marked label) ∷ rest) ≡ instruction_count prefix
+count_prefix label [] rest first = ap (λ b. cond (not b) (0 + count_to label rest) 0) (marked label)
+count_prefix label (line ∷ prefix) rest first =
     let other : marks label line ≡ false = false_from_ne_true (marks label line) (λ e. first.0 (marks_is label line e)) in
-    ap (λ b. cond (not b) (one_if line + count_to label (front ++ Beside (Marked label) ∷ rest)) 0) other
-    ∙ (ap (λ (k : ℕ). one_if line + k) (count_front label front rest first.1) ∙ sym (count_cons line front))
+    ap (λ b. cond (not b) (one_if line + count_to label (prefix ++ Beside (Marked label) ∷ rest)) 0) other
+    ∙ (ap (λ (k : ℕ). one_if line + k) (count_prefix label prefix rest first.1) ∙ sym (count_cons line prefix))
 
 -- the number of a label that stands in the body
 pub number_of : (body : List Line) (label : Label) (number : ℕ) → IsLabelAt body label number → label_number body label ≡ number
 number_of body label number at =
-    number_is body label ∙ (ap (count_to label) at.parts ∙ (count_front label at.front at.rest at.first ∙ sym at.number_is))
+    number_is body label ∙ (ap (count_to label) at.parts ∙ (count_prefix label at.prefix at.rest at.first ∙ sym at.number_is))
 
 -- ---- the lines of a method, and those of its body
 
@@ -110,7 +110,7 @@ numbered_or_not body (Range from to) = both (below (label_number body from) (lab
 label_within : (body : List Line) (label : Label) (number : ℕ) → IsLabelAt body label number → number ≤ instruction_count body
 label_within body label number at =
     let e = at.number_is in
-    let c = ap instruction_count at.parts ∙ count_append at.front (Beside (Marked label) ∷ at.rest) in
+    let c = ap instruction_count at.parts ∙ count_append at.prefix (Beside (Marked label) ∷ at.rest) in
     omega (arith, e, c)
 
 met_is_numbered : (body : List Line) (use' : Use) → IsMet body use' → IsNumbered body use'
@@ -130,15 +130,15 @@ all_numbered body [] met = tt
 all_numbered body (u ∷ uses) met = (met_is_numbered body u met.0, all_numbered body uses met.1)
 
 -- in a source whose labels are right each line of a method names labels as it may
-pub uses_numbered : (s : Source) (before : ℕ) (body front : List Line) (line : Line) (rest : List Line) → NoLine (IsMislabelled s) → AreMethodLines s before body → body ≡ front ++ line ∷ rest
+pub uses_numbered : (s : Source) (before : ℕ) (body prefix : List Line) (line : Line) (rest : List Line) → NoLine (IsMislabelled s) → AreMethodLines s before body → body ≡ prefix ++ line ∷ rest
     → AllByRecursion (IsNumbered body) (uses_of line)
-uses_numbered s before body front line rest none at parts =
+uses_numbered s before body prefix line rest none at parts =
     stable (each (IsNumbered body) (numbered_or_not body) (uses_of line))
-    (λ lacks. none (before + length front) (record {
+    (λ lacks. none (before + length prefix) (record {
       before = before;
       body = body;
       in_method = at;
-      front = front;
+      prefix = prefix;
       line = line;
       rest = rest;
       parts = parts;

@@ -24,24 +24,24 @@ module _ (is_such : Line → Bool) where
   count_no : (line : Line) (more : List Line) → is_such line ≡ false → count_by is_such (line ∷ more) ≡ count_by is_such more
   count_no line more e = let z : 0 + count_by is_such more ≡ count_by is_such more = omega arith in count_first line more ∙ (ap (λ b. cond b 1 0 + count_by is_such more) e ∙ z)
 
-  count_from : (body front rest : List Line) → ((before : List Line) (line : Line) (after : List Line) → body ≡ before ++ line ∷ after → IsOneTooMany is_such (count_by is_such before) line → ⊥)
-      → body ≡ front ++ rest → count_by is_such front ≤ most_lines → count_by is_such front + count_by is_such rest ≤ most_lines
-  count_from body front [] none e le = omega (arith, le)
-  count_from body front (line ∷ rest) none e le =
-      let next : body ≡ (front ++ line ∷ []) ++ rest = e ∙ sym (append_assoc front (line ∷ []) rest) in
-      let sum = count_both front (line ∷ []) in
+  count_from : (body prefix rest : List Line) → ((before : List Line) (line : Line) (after : List Line) → body ≡ before ++ line ∷ after → IsOneTooMany is_such (count_by is_such before) line → ⊥)
+      → body ≡ prefix ++ rest → count_by is_such prefix ≤ most_lines → count_by is_such prefix + count_by is_such rest ≤ most_lines
+  count_from body prefix [] none e le = omega (arith, le)
+  count_from body prefix (line ∷ rest) none e le =
+      let next : body ≡ (prefix ++ line ∷ []) ++ rest = e ∙ sym (append_assoc prefix (line ∷ []) rest) in
+      let sum = count_both prefix (line ∷ []) in
       elim (cases_Bool (is_such line)) [
         | inl such ↦
             let one = count_yes line [] such in
             let whole = count_yes line rest such in
-            elim (cases_lt (count_by is_such front) most_lines) [
-              | inl lt ↦ let r = count_from body (front ++ line ∷ []) rest none next (omega (arith, sum, one, lt)) in omega (arith, r, sum, one, whole)
-              | inr many ↦ absurd (none front line rest e (record { such = such; many = many }))
+            elim (cases_lt (count_by is_such prefix) most_lines) [
+              | inl lt ↦ let r = count_from body (prefix ++ line ∷ []) rest none next (omega (arith, sum, one, lt)) in omega (arith, r, sum, one, whole)
+              | inr many ↦ absurd (none prefix line rest e (record { such = such; many = many }))
             ]
         | inr other ↦
             let none' = count_no line [] other in
             let whole = count_no line rest other in
-            let r = count_from body (front ++ line ∷ []) rest none next (omega (arith, sum, none', le)) in
+            let r = count_from body (prefix ++ line ∷ []) rest none next (omega (arith, sum, none', le)) in
             omega (arith, r, sum, none', whole)
       ]
 
@@ -55,17 +55,17 @@ module _ (is_such : Line → Bool) where
 
 -- ---- the tables of a class
 
-slice_front : (front : List Line) (line : Line) (rest : List Line) → slice_get (front ++ line ∷ rest) (length front) ≡ Some line
-slice_front [] line rest = refl
-slice_front (x ∷ front) line rest = slice_front front line rest
+slice_prefix : (prefix : List Line) (line : Line) (rest : List Line) → slice_get (prefix ++ line ∷ rest) (length prefix) ≡ Some line
+slice_prefix [] line rest = refl
+slice_prefix (x ∷ prefix) line rest = slice_prefix prefix line rest
 
 table_fits : (s : Source) (is_such : Line → Bool) → NoLine (IsPastTable s)
     → ((place : ℕ) (line : Line) → slice_get (lines_of s) place ≡ Some line → IsOneTooMany is_such (count_before is_such s place) line → IsPastTable s place) → count_by is_such (lines_of s) ≤ most_lines
 table_fits s is_such none past =
-    count_fits is_such (lines_of s) (λ front line rest e many.
-    let at : slice_get (lines_of s) (length front) ≡ Some line = ap (λ (l : List Line). slice_get l (length front)) e ∙ slice_front front line rest in
-    let before : front ≡ take (length front) (lines_of s) = sym (ap (take (length front)) e ∙ take_at front (line ∷ rest) (length front) refl) in
-    none (length front) (past (length front) line at (subst (λ (l : List Line). IsOneTooMany is_such (count_by is_such l) line) before many)))
+    count_fits is_such (lines_of s) (λ prefix line rest e many.
+    let at : slice_get (lines_of s) (length prefix) ≡ Some line = ap (λ (l : List Line). slice_get l (length prefix)) e ∙ slice_prefix prefix line rest in
+    let before : prefix ≡ take (length prefix) (lines_of s) = sym (ap (take (length prefix)) e ∙ take_at prefix (line ∷ rest) (length prefix) refl) in
+    none (length prefix) (past (length prefix) line at (subst (λ (l : List Line). IsOneTooMany is_such (count_by is_such l) line) before many)))
 
 methods_counted : (methods : List MethodSource) → length methods ≤ count_by is_method (flat_map method_lines methods)
 methods_counted [] = omega arith
@@ -81,16 +81,16 @@ methods_counted (Coded flags name desc stack locals parts ∷ methods) =
     omega (arith, sum, e, r)
 
 module _ (s : Source) where
-  abbrev front_part : List Line
-  front_part = Class s.flags s.name ∷ version_lines s.version
+  abbrev prefix_part : List Line
+  prefix_part = Class s.flags s.name ∷ version_lines s.version
 
   -- the interfaces, the fields and the methods
   pub few_interfaces : NoLine (IsPastTable s) → length s.interfaces ≤ most_lines
   few_interfaces none =
       let all = table_fits s is_interface none (λ place line at many. record { line = line; at = at; too_many = inl many }) in
       let a = count_both is_interface (head_lines s) (flat_map method_lines s.methods) in
-      let b = count_both is_interface (front_part ++ Super s.super ∷ map Implements s.interfaces) (map field_line s.fields) in
-      let c = count_both is_interface front_part (Super s.super ∷ map Implements s.interfaces) in
+      let b = count_both is_interface (prefix_part ++ Super s.super ∷ map Implements s.interfaces) (map field_line s.fields) in
+      let c = count_both is_interface prefix_part (Super s.super ∷ map Implements s.interfaces) in
       let d = count_no is_interface (Super s.super) (map Implements s.interfaces) refl in
       let e = count_map is_interface Implements s.interfaces (λ name. refl) in
       omega (arith, all, a, b, c, d, e)
@@ -99,7 +99,7 @@ module _ (s : Source) where
   few_fields none =
       let all = table_fits s is_field none (λ place line at many. record { line = line; at = at; too_many = inr (inl many) }) in
       let a = count_both is_field (head_lines s) (flat_map method_lines s.methods) in
-      let b = count_both is_field (front_part ++ Super s.super ∷ map Implements s.interfaces) (map field_line s.fields) in
+      let b = count_both is_field (prefix_part ++ Super s.super ∷ map Implements s.interfaces) (map field_line s.fields) in
       let e = count_map is_field field_line s.fields (λ field. refl) in
       omega (arith, all, a, b, e)
 

@@ -24,7 +24,7 @@ use Rattle.dj_entries.specs.trusted.Room.{NoLine}
 use Rattle.dj_asm.specs.CodeBodies.{IsCodeBody}
 use Rattle.dj_entries.specs.Pooling.{found_index}
 use Rattle.dj_asm.specs.Assembling.{IsFitting, AreFileBytes}
-use Rattle.dj_asm.specs.Filing.{no_heading, heading_from, interface_indexes, constant_bodies, member_with, one_attribute, members_in, stack_at, locals_at, first_told, IsBody, MayHaveBody, MayHaveBodies, AreBodies, file_in}
+use Rattle.dj_asm.specs.Filing.{no_heading, heading_from, interface_indexes, constant_bodies, member_with, one_attribute, members_in, stack_at, locals_at, first_reported, IsBody, MayHaveBody, MayHaveBodies, AreBodies, file_in}
 use Rattle.dj_entries.proofs.Members.{each_first, each_last}
 use Rattle.dj_asm.proofs.BodyLabels.{coded_lines}
 use Rattle.dj_asm.proofs.SourceFile.{all_fit_of, method_at}
@@ -79,24 +79,24 @@ has_lines s lines kept fit =
 
 -- ---- each method with code may have its body
 
-methods_may : (s : Source) (lines : List Line) (kept : List Entry) → IsFitting s lines kept → (front rest : List MethodSource) → s.methods ≡ front ++ rest
+methods_may : (s : Source) (lines : List Line) (kept : List Entry) → IsFitting s lines kept → (prefix rest : List MethodSource) → s.methods ≡ prefix ++ rest
     → AllByRecursion (MayHaveBody kept) (map method_lines rest)
-methods_may s lines kept fit front [] e = tt
-methods_may s lines kept fit front (Bodiless flags name desc ∷ rest) e =
+methods_may s lines kept fit prefix [] e = tt
+methods_may s lines kept fit prefix (Bodiless flags name desc ∷ rest) e =
     let method = Bodiless flags name desc in
-    (tt, methods_may s lines kept fit (front ++ method ∷ []) rest (e ∙ sym (append_assoc front (method ∷ []) rest)))
-methods_may s lines kept fit front (Coded flags name desc stack locals parts ∷ rest) e =
+    (tt, methods_may s lines kept fit (prefix ++ method ∷ []) rest (e ∙ sym (append_assoc prefix (method ∷ []) rest)))
+methods_may s lines kept fit prefix (Coded flags name desc stack locals parts ∷ rest) e =
     let method = Coded flags name desc stack locals parts in (
       record {
         source = s;
-        before = length (head_lines s) + length (flat_map method_lines front);
-        in_method = method_at s front method rest e;
+        before = length (head_lines s) + length (flat_map method_lines prefix);
+        in_method = method_at s prefix method rest e;
         allowed = fit.allowed;
         labelled = fit.labelled;
         fits = fit.fits;
         kept_is = fit.kept_is;
       },
-      methods_may s lines kept fit (front ++ method ∷ []) rest (e ∙ sym (append_assoc front (method ∷ []) rest)),
+      methods_may s lines kept fit (prefix ++ method ∷ []) rest (e ∙ sym (append_assoc prefix (method ∷ []) rest)),
     )
 
 pub may_have : (s : Source) (lines : List Line) (kept : List Entry) (size : ℕ) → IsFitting s lines kept → size ≡ section_size lines → MayHaveBodies kept (drop size lines)
@@ -278,9 +278,9 @@ module _ (f g : Entry → ℕ) where
 
   -- the code of a method
   method_code : (flags : ℕ) (name desc : Name) (stack locals : ℤ) (parts : List BodyPart) (code : CodeInfo) → MethodHas (IsAlike f g) (coded_lines flags name desc stack locals parts)
-      → IsCodeOf (places_of f (coded_lines flags name desc stack locals parts)) (first_told stack_at (coded_lines flags name desc stack locals parts)) (first_told locals_at (coded_lines flags name desc stack locals parts)) (coded_lines flags name desc stack locals parts) code
+      → IsCodeOf (places_of f (coded_lines flags name desc stack locals parts)) (first_reported stack_at (coded_lines flags name desc stack locals parts)) (first_reported locals_at (coded_lines flags name desc stack locals parts)) (coded_lines flags name desc stack locals parts) code
       → IsCodeOf (places_of g (body_lines parts)) stack locals (body_lines parts) code
-  unfolding first_told
+  unfolding first_reported
   method_code flags name desc stack locals parts code h is =
       body_code g flags name desc stack locals parts code
       (code_alike f g (label_number (coded_lines flags name desc stack locals parts)) stack locals (coded_lines flags name desc stack locals parts) code h is)
@@ -312,7 +312,7 @@ module _ (kept : List Entry) (g : Entry → ℕ) where
       (methods_said rest bodies have.1 are.1)
   methods_said (Coded flags name desc stack locals parts ∷ rest) (body ∷ bodies) have are =
       let whole = coded_lines flags name desc stack locals parts in
-      let is : IsCodeBody found (first_told stack_at whole) (first_told locals_at whole) whole body = are.0 in
+      let is : IsCodeBody found (first_reported stack_at whole) (first_reported locals_at whole) whole body = are.0 in
       and_first (Coded flags name desc stack locals parts) rest (member_with found flags name desc (one_attribute (found code_name) body)) (members_in found (found code_name) bodies (flat_map method_lines rest))
       (members_in found (found code_name) (body ∷ bodies) (flat_map method_lines (Coded flags name desc stack locals parts ∷ rest)))
       (method_first found (found code_name) body bodies flags name desc stack locals parts (flat_map method_lines rest))

@@ -44,7 +44,7 @@ module _ (text : List ℕ) (s : Source) (is : IsTextOf text s) (labels : NoLine 
           first = found.least.first;
           line = line;
           number = slice_get-get_or (line_numbers text) found.place 0 (omega (arith, within, many));
-          told = refl;
+          reported = refl;
         })),
       )
 

@@ -10,7 +10,7 @@ use Rattle.dj_source.specs.LabelReading.{sections_of, section_size}
 use Rattle.dj_source.proofs.Sections.{section_step}
 use Rattle.dj_asm.specs.declared.heading.Heading.{Heading}
 use Rattle.dj_entries.specs.trusted.Entries.{Entry}
-use Rattle.dj_asm.specs.Filing.{heading_with, heading_from, members_at, members_in, first_body, bodies_after, or_later, first_told, IsBody, MayHaveBody, MayHaveBodies, AreBodies}
+use Rattle.dj_asm.specs.Filing.{heading_with, heading_from, members_at, members_in, first_body, bodies_after, or_later, first_reported, IsBody, MayHaveBody, MayHaveBodies, AreBodies}
 
 -- the line of an index, and those after it
 lines_left : (lines : List the_line.Line) (i : ℕ) (line : the_line.Line) → i < length lines → line ≡ get_or lines i line → map line_view (drop i lines) ≡ line_view line ∷ map line_view (drop (i + 1) lines)
@@ -50,21 +50,21 @@ unfolding members_in
 members_end index attribute bodies members lines i past = ap (λ ls. members ++ members_in index attribute bodies (map line_view ls)) (drop_all i lines past) ∙ append-nil members
 
 -- the first line that gives a number
-pub told_here : (told : Line → Option ℤ) (lines : List the_line.Line) (i : ℕ) (line : the_line.Line) (n : ℤ) → i < length lines → line ≡ get_or lines i line → Some n ≡ told (line_view line)
-    → n ≡ first_told told (map line_view (drop i lines))
-unfolding first_told
-told_here told lines i line n within is e =
-    sym (ap (first_told told) (lines_left lines i line within is) ∙ ap (λ o. or_later o (first_told told (map line_view (drop (i + 1) lines)))) (sym e))
+pub reported_here : (reported : Line → Option ℤ) (lines : List the_line.Line) (i : ℕ) (line : the_line.Line) (n : ℤ) → i < length lines → line ≡ get_or lines i line → Some n ≡ reported (line_view line)
+    → n ≡ first_reported reported (map line_view (drop i lines))
+unfolding first_reported
+reported_here reported lines i line n within is e =
+    sym (ap (first_reported reported) (lines_left lines i line within is) ∙ ap (λ o. or_later o (first_reported reported (map line_view (drop (i + 1) lines)))) (sym e))
 
-pub told_later : (told : Line → Option ℤ) (lines : List the_line.Line) (i : ℕ) (line : the_line.Line) → i < length lines → line ≡ get_or lines i line → None ≡ told (line_view line)
-    → first_told told (map line_view (drop (i + 1) lines)) ≡ first_told told (map line_view (drop i lines))
-unfolding first_told
-told_later told lines i line within is e =
-    sym (ap (first_told told) (lines_left lines i line within is) ∙ ap (λ o. or_later o (first_told told (map line_view (drop (i + 1) lines)))) (sym e))
+pub reported_later : (reported : Line → Option ℤ) (lines : List the_line.Line) (i : ℕ) (line : the_line.Line) → i < length lines → line ≡ get_or lines i line → None ≡ reported (line_view line)
+    → first_reported reported (map line_view (drop (i + 1) lines)) ≡ first_reported reported (map line_view (drop i lines))
+unfolding first_reported
+reported_later reported lines i line within is e =
+    sym (ap (first_reported reported) (lines_left lines i line within is) ∙ ap (λ o. or_later o (first_reported reported (map line_view (drop (i + 1) lines)))) (sym e))
 
-pub told_never : (told : Line → Option ℤ) (lines : List the_line.Line) (i : ℕ) → length lines ≤ i → pos 0 ≡ first_told told (map line_view (drop i lines))
-unfolding first_told
-told_never told lines i past = sym (ap (λ ls. first_told told (map line_view ls)) (drop_all i lines past))
+pub reported_never : (reported : Line → Option ℤ) (lines : List the_line.Line) (i : ℕ) → length lines ≤ i → pos 0 ≡ first_reported reported (map line_view (drop i lines))
+unfolding first_reported
+reported_never reported lines i past = sym (ap (λ ls. first_reported reported (map line_view ls)) (drop_all i lines past))
 
 -- ---- section by section
 

@@ -104,10 +104,10 @@ ops_may (line ∷ body) is = ops_may body is.1
 module _ (s : Source) (is : IsSource s) where
   body_may : (before : ℕ) (body : List Line) → AreMethodLines s before body → AllByRecursion IsLine body
   body_may before body m =
-      let all : AllByRecursion IsLine (flat_map method_lines m.front ++ flat_map method_lines (m.method ∷ m.rest)) =
-      subst (AllByRecursion IsLine) (ap (flat_map method_lines) m.methods ∙ flat_map-append method_lines m.front (m.method ∷ m.rest)) (methods_allowed s is) in
+      let all : AllByRecursion IsLine (flat_map method_lines m.prefix ++ flat_map method_lines (m.method ∷ m.rest)) =
+      subst (AllByRecursion IsLine) (ap (flat_map method_lines) m.methods ∙ flat_map-append method_lines m.prefix (m.method ∷ m.rest)) (methods_allowed s is) in
       subst (AllByRecursion IsLine) (sym m.lines_are)
-      (each_first IsLine (method_lines m.method) (flat_map method_lines m.rest) (each_last IsLine (flat_map method_lines m.front) (flat_map method_lines (m.method ∷ m.rest)) all))
+      (each_first IsLine (method_lines m.method) (flat_map method_lines m.rest) (each_last IsLine (flat_map method_lines m.prefix) (flat_map method_lines (m.method ∷ m.rest)) all))
 
 -- a method's line, by its number in the method
 module _ (s : Source) (place : ℕ) where
@@ -122,23 +122,23 @@ module _ (s : Source) (place : ℕ) where
   in_section : (i : IsIn s place) → in_sections (sections_of (lines_of s)) place ≡ is_large_in i.body i.number
   in_section i = ap (in_sections (sections_of (lines_of s))) i.place_is ∙ section_same s i.before i.body i.in_method i.number i.within
 
-  module _ (body front : List Line) (line : Line) (at : IsMethodLine s place body front line) where
-    front_within : length front < length body
-    front_within = let size = ap length at.parts ∙ length-append front (line ∷ at.rest) in omega (arith, size)
+  module _ (body prefix : List Line) (line : Line) (at : IsMethodLine s place body prefix line) where
+    prefix_within : length prefix < length body
+    prefix_within = let size = ap length at.parts ∙ length-append prefix (line ∷ at.rest) in omega (arith, size)
 
     abbrev place_in : IsIn s place
-    place_in = record { before = at.before; body = body; in_method = at.in_method; number = length front; within = front_within; place_is = at.place_is }
+    place_in = record { before = at.before; body = body; in_method = at.in_method; number = length prefix; within = prefix_within; place_is = at.place_is }
 
-    line_in_body : slice_get body (length front) ≡ Some line
-    line_in_body = ap (λ l. slice_get l (length front)) at.parts ∙ nth_seam front line at.rest
+    line_in_body : slice_get body (length prefix) ≡ Some line
+    line_in_body = ap (λ l. slice_get l (length prefix)) at.parts ∙ nth_seam prefix line at.rest
 
     line_in_source : slice_get (lines_of s) place ≡ Some line
     line_in_source = in_body place_in ∙ line_in_body
 
-    front_is : take (length front) body ≡ front
-    front_is = ap (take (length front)) at.parts ∙ take_seam front (line ∷ at.rest)
+    prefix_is : take (length prefix) body ≡ prefix
+    prefix_is = ap (take (length prefix)) at.parts ∙ take_seam prefix (line ∷ at.rest)
 
-    large_here : is_large_in body (length front) ≡ true → in_sections (sections_of (lines_of s)) place ≡ true
+    large_here : is_large_in body (length prefix) ≡ true → in_sections (sections_of (lines_of s)) place ≡ true
     large_here e = in_section place_in ∙ e
 
 module _ (s : Source) (kept : List Entry) (judged : IsJudged s (lines_of s) kept) (place : ℕ) where
@@ -156,12 +156,12 @@ module _ (s : Source) (kept : List Entry) (judged : IsJudged s (lines_of s) kept
 
   -- ---- instructions that aren't proper
 
-  rooms : (body front : List Line) (o : Operation) → IsMethodLine s place body front (Does o) → IsPastPool s place ⊎ HaveRoom (places_of (index_in s) body) kept o
-  rooms body front o at = elim (some_in (λ (e : Entry). HasRoom (index_in s e) e → ⊥) (λ e. not_so (room_or_not (index_in s e) e)) (operation_entries o)) [
-    | inl h ↦ inl (record { need = need place h.0; needed = needed_at s place body front o h.0 at h.1; place_is = refl; no_room = h.2 })
+  rooms : (body prefix : List Line) (o : Operation) → IsMethodLine s place body prefix (Does o) → IsPastPool s place ⊎ HaveRoom (places_of (index_in s) body) kept o
+  rooms body prefix o at = elim (some_in (λ (e : Entry). HasRoom (index_in s e) e → ⊥) (λ e. not_so (room_or_not (index_in s e) e)) (operation_entries o)) [
+    | inl h ↦ inl (record { need = need place h.0; needed = needed_at s place body prefix o h.0 at h.1; place_is = refl; no_room = h.2 })
     | inr none ↦ inr (λ e c.
         let room : HasRoom (index_in s e) e = stable (room_or_not (index_in s e) e) (λ lacks. none (e, c, lacks)) in
-        (room, ap (λ k. found_index k e) judged.kept_is ∙ found_with_room (map needed_entry (needs_of s)) e (in_map needed_entry (needs_of s) (need place e) (needed_at s place body front o e at c)) room))
+        (room, ap (λ k. found_index k e) judged.kept_is ∙ found_with_room (map needed_entry (needs_of s)) e (in_map needed_entry (needs_of s) (need place e) (needed_at s place body prefix o e at c)) room))
   ]
 
   improper_sound : (o : Operation) → slice_get lines place ≡ Some (Does o) → is_improper kept o ≡ true → IsTooLarge s place
@@ -174,15 +174,15 @@ module _ (s : Source) (kept : List Entry) (judged : IsJudged s (lines_of s) kept
           | inl past ↦ inl past
           | inr have ↦
               let it = instr_of p o (may (Does o) e) in
-              inr (inl (record { body = i.body; front = take i.number i.body; operation = o; at = at; instr = it.0; is_instr = it.1; improper = not_proper p kept o it.0 it.1 have t }))
+              inr (inl (record { body = i.body; prefix = take i.number i.body; operation = o; at = at; instr = it.0; is_instr = it.1; improper = not_proper p kept o it.0 it.1 have t }))
         ]
   ]
 
   improper_found : IsImproper s place → IsPastPool s place ⊎ (alone kept lines place ≡ true)
   improper_found h =
-      let e = line_in_source s place h.body h.front (Does h.operation) h.at in
+      let e = line_in_source s place h.body h.prefix (Does h.operation) h.at in
       let p = places_of (index_in s) h.body in
-      elim (rooms h.body h.front h.operation h.at) [
+      elim (rooms h.body h.prefix h.operation h.at) [
         | inl past ↦ inl past
         | inr have ↦ elim (cases_Bool (is_improper kept h.operation)) [
           | inl t ↦ inr (ap (is_alone kept) e ∙ t)
@@ -248,21 +248,21 @@ module _ (s : Source) (kept : List Entry) (judged : IsJudged s (lines_of s) kept
     stop = end_at 0 (operations i.body)
 
     -- the jump of an instruction, and whether it reaches
-    module _ (front : List Line) (o : Operation) (rest : List Line) (parts : i.body ≡ front ++ Does o ∷ rest) (may_o : IsOperation o) (code : List Instr) (are : AreInstrsOf here i.body code) where
+    module _ (prefix : List Line) (o : Operation) (rest : List Line) (parts : i.body ≡ prefix ++ Does o ∷ rest) (may_o : IsOperation o) (code : List Instr) (are : AreInstrsOf here i.body code) where
       starts_are : starts_from 0 code ≡ starts
       starts_are = same_starts here 0 (operations i.body) code are (ops_may i.body all_may)
 
       pub record HasJump : Type 0 where
         pub jump : ℕ × Instr
-        pub found : slice_get (placed (starts_from 0 code) code) (instruction_count front) ≡ Some jump
-        pub reach : Reaches jump → is_reached (label_number i.body) starts (slice_index starts (instruction_count front)) o ≡ true
-        pub fits : is_reached (label_number i.body) starts (slice_index starts (instruction_count front)) o ≡ true → Reaches jump
+        pub found : slice_get (placed (starts_from 0 code) code) (instruction_count prefix) ≡ Some jump
+        pub reach : Reaches jump → is_reached (label_number i.body) starts (slice_index starts (instruction_count prefix)) o ≡ true
+        pub fits : is_reached (label_number i.body) starts (slice_index starts (instruction_count prefix)) o ≡ true → Reaches jump
 
       has_jump : HasJump
       has_jump =
           let st = starts_from 0 code in
-          let n = instruction_count front in
-          let it = placed_at here st front o rest code (starts_length 0 code) (subst (λ (l : List Line). AreInstrsOf here l code) parts are) in
+          let n = instruction_count prefix in
+          let it = placed_at here st prefix o rest code (starts_length 0 code) (subst (λ (l : List Line). AreInstrsOf here l code) parts are) in
           let same : is_reached (label_number i.body) st (slice_index st n) o ≡ is_reached (label_number i.body) starts (slice_index starts n) o =
           ap (λ (l : List ℕ). is_reached (label_number i.body) l (slice_index l n) o) starts_are in
           record {
@@ -272,20 +272,20 @@ module _ (s : Source) (kept : List Entry) (judged : IsJudged s (lines_of s) kept
             fits = λ t. offsets_fit here st (slice_index st n) o it.0 it.1 may_o (same ∙ t);
           }
 
-    abbrev front : List Line
-    front = take i.number i.body
+    abbrev prefix : List Line
+    prefix = take i.number i.body
 
     wide_sound : wide_code i.body i.number ≡ true → IsTooLarge s place
     wide_sound = by (slice_get i.body i.number) refl where
-      line_sound : (line : Line) → slice_get i.body i.number ≡ Some line → is_wide_line (label_number i.body) starts stop (instruction_count front) (Some line) ≡ true → IsTooLarge s place
+      line_sound : (line : Line) → slice_get i.body i.number ≡ Some line → is_wide_line (label_number i.body) starts stop (instruction_count prefix) (Some line) ≡ true → IsTooLarge s place
       line_sound (Does o) e t =
           let at = method_line s place i (Does o) e in
           let code = instrs_of here i.body all_may in
           let j = has_jump (take i.number i.body) o at.rest at.parts (may (Does o) (in_body s place i ∙ e)) code.0 code.1 in
-          let far : is_reached (label_number i.body) starts (slice_index starts (instruction_count front)) o ≡ false = not_true _ t in
+          let far : is_reached (label_number i.body) starts (slice_index starts (instruction_count prefix)) o ≡ false = not_true _ t in
           inr (inr (inl (record {
             body = i.body;
-            front = take i.number i.body;
+            prefix = take i.number i.body;
             operation = o;
             at = at;
             instrs = code.0;
@@ -299,7 +299,7 @@ module _ (s : Source) (kept : List Entry) (judged : IsJudged s (lines_of s) kept
           let same = same_end here 0 (operations i.body) code.0 code.1 (ops_may i.body all_may) in
           inr (inr (inr (inl (record {
             body = i.body;
-            front = take i.number i.body;
+            prefix = take i.number i.body;
             at = method_line s place i End e;
             instrs = code.0;
             are_instrs = code.1;
@@ -308,13 +308,13 @@ module _ (s : Source) (kept : List Entry) (judged : IsJudged s (lines_of s) kept
       line_sound line e t = absurd (false≢true t)
 
       by : (o : Option Line) → slice_get i.body i.number ≡ o → wide_code i.body i.number ≡ true → IsTooLarge s place
-      by None e t = absurd (false≢true (sym (ap (is_wide_line (label_number i.body) starts stop (instruction_count front)) e) ∙ t))
-      by (Some line) e t = line_sound line e (sym (ap (is_wide_line (label_number i.body) starts stop (instruction_count front)) e) ∙ t)
+      by None e t = absurd (false≢true (sym (ap (is_wide_line (label_number i.body) starts stop (instruction_count prefix)) e) ∙ t))
+      by (Some line) e t = line_sound line e (sym (ap (is_wide_line (label_number i.body) starts stop (instruction_count prefix)) e) ∙ t)
 
     catch_sound : is_past kinds.Catch i.body i.number ≡ true → IsPastCatches s place
     catch_sound t =
         let h = past_from kinds.Catch i.body i.number t in
-        record { body = i.body; front = take i.number i.body; line = h.0; at = method_line s place i h.0 h.1; too_many = h.2 }
+        record { body = i.body; prefix = take i.number i.body; line = h.0; at = method_line s place i h.0 h.1; too_many = h.2 }
 
     section_sound : is_large_in i.body i.number ≡ true → IsTooLarge s place
     section_sound t = elim (or_cases (is_past kinds.Catch i.body i.number) (wide_code i.body i.number) t) [
@@ -330,41 +330,41 @@ module _ (s : Source) (kept : List Entry) (judged : IsJudged s (lines_of s) kept
 
   far_found : IsFarJump s place → in_sections (sections_of lines) place ≡ true
   far_found h =
-      let i = place_in s place h.body h.front (Does h.operation) h.at in
-      let e = line_in_body s place h.body h.front (Does h.operation) h.at in
-      let f = front_is s place h.body h.front (Does h.operation) h.at in
-      let j = has_jump i h.front h.operation h.at.rest h.at.parts (may (Does h.operation) (line_in_source s place h.body h.front (Does h.operation) h.at)) h.instrs h.are_instrs in
+      let i = place_in s place h.body h.prefix (Does h.operation) h.at in
+      let e = line_in_body s place h.body h.prefix (Does h.operation) h.at in
+      let f = prefix_is s place h.body h.prefix (Does h.operation) h.at in
+      let j = has_jump i h.prefix h.operation h.at.rest h.at.parts (may (Does h.operation) (line_in_source s place h.body h.prefix (Does h.operation) h.at)) h.instrs h.are_instrs in
       let same : h.jump ≡ j.jump = same_Some _ _ (sym h.number ∙ j.found) in
       let st = starts_at 0 (operations h.body) in
-      let reached = is_reached (label_number h.body) st (slice_index st (instruction_count h.front)) h.operation in
-      let here : wide_code h.body (length h.front) ≡ not reached =
-      ap (is_wide_line (label_number h.body) st (end_at 0 (operations h.body)) (instruction_count (take (length h.front) h.body))) e
+      let reached = is_reached (label_number h.body) st (slice_index st (instruction_count h.prefix)) h.operation in
+      let here : wide_code h.body (length h.prefix) ≡ not reached =
+      ap (is_wide_line (label_number h.body) st (end_at 0 (operations h.body)) (instruction_count (take (length h.prefix) h.body))) e
       ∙ ap (λ l. not (is_reached (label_number h.body) st (slice_index st (instruction_count l)) h.operation)) f in
       elim (cases_Bool reached) [
         | inl t ↦ absurd (h.far (subst Reaches (sym same) (j.fits t)))
-        | inr far ↦ large_here s place h.body h.front (Does h.operation) h.at (or_right (is_past kinds.Catch h.body (length h.front)) (wide_code h.body (length h.front)) (here ∙ ap not far))
+        | inr far ↦ large_here s place h.body h.prefix (Does h.operation) h.at (or_right (is_past kinds.Catch h.body (length h.prefix)) (wide_code h.body (length h.prefix)) (here ∙ ap not far))
       ]
 
   long_found : IsEndOfLongCode s place → in_sections (sections_of lines) place ≡ true
   long_found h =
-      let i = place_in s place h.body h.front End h.at in
-      let e = line_in_body s place h.body h.front End h.at in
+      let i = place_in s place h.body h.prefix End h.at in
+      let e = line_in_body s place h.body h.prefix End h.at in
       let st = starts_at 0 (operations h.body) in
       let all = body_may s is_source h.at.before h.body h.at.in_method in
       let same = same_end (places_of (index_in s) h.body) 0 (operations h.body) h.instrs h.are_instrs (ops_may h.body all) in
-      let here : wide_code h.body (length h.front) ≡ nat_lt most_bytes (end_at 0 (operations h.body)) =
-      ap (is_wide_line (label_number h.body) st (end_at 0 (operations h.body)) (instruction_count (take (length h.front) h.body))) e in
-      large_here s place h.body h.front End h.at
-      (or_right (is_past kinds.Catch h.body (length h.front)) (wide_code h.body (length h.front))
+      let here : wide_code h.body (length h.prefix) ≡ nat_lt most_bytes (end_at 0 (operations h.body)) =
+      ap (is_wide_line (label_number h.body) st (end_at 0 (operations h.body)) (instruction_count (take (length h.prefix) h.body))) e in
+      large_here s place h.body h.prefix End h.at
+      (or_right (is_past kinds.Catch h.body (length h.prefix)) (wide_code h.body (length h.prefix))
       (here ∙ lt_holds most_bytes (end_at 0 (operations h.body)) (subst (λ (n : ℕ). most_bytes < n) same h.long)))
 
   catches_found : IsPastCatches s place → in_sections (sections_of lines) place ≡ true
   catches_found h =
-      let e = line_in_body s place h.body h.front h.line h.at in
-      let f = front_is s place h.body h.front h.line h.at in
-      large_here s place h.body h.front h.line h.at
-      (or_left (is_past kinds.Catch h.body (length h.front)) (wide_code h.body (length h.front))
-      (past_if kinds.Catch h.body (length h.front) h.line e (subst (λ (l : List Line). IsOneTooMany is_catch (count_by is_catch l) h.line) (sym f) h.too_many)))
+      let e = line_in_body s place h.body h.prefix h.line h.at in
+      let f = prefix_is s place h.body h.prefix h.line h.at in
+      large_here s place h.body h.prefix h.line h.at
+      (or_left (is_past kinds.Catch h.body (length h.prefix)) (wide_code h.body (length h.prefix))
+      (past_if kinds.Catch h.body (length h.prefix) h.line e (subst (λ (l : List Line). IsOneTooMany is_catch (count_by is_catch l) h.line) (sym f) h.too_many)))
 
   -- ---- all kinds
 

@@ -52,52 +52,52 @@ module _ {X : Type 0} where
 
 -- ---- the lines of a method
 
-more_lines : (m : MethodSource) (front : List MethodSource) → length (flat_map method_lines (m ∷ front)) ≡ length (method_lines m) + length (flat_map method_lines front)
-more_lines m front = length-append (method_lines m) (flat_map method_lines front)
+more_lines : (m : MethodSource) (prefix : List MethodSource) → length (flat_map method_lines (m ∷ prefix)) ≡ length (method_lines m) + length (flat_map method_lines prefix)
+more_lines m prefix = length-append (method_lines m) (flat_map method_lines prefix)
 
-at_section : (front : List MethodSource) (method : MethodSource) (rest : List MethodSource) (q : ℕ) → q < length (method_lines method)
-    → in_sections (map method_lines (front ++ method ∷ rest)) (length (flat_map method_lines front) + q) ≡ is_large_in (method_lines method) q
+at_section : (prefix : List MethodSource) (method : MethodSource) (rest : List MethodSource) (q : ℕ) → q < length (method_lines method)
+    → in_sections (map method_lines (prefix ++ method ∷ rest)) (length (flat_map method_lines prefix) + q) ≡ is_large_in (method_lines method) q
 at_section [] method rest q lt =
     let z : 0 + q ≡ q = omega arith in
     ap (in_sections (method_lines method ∷ map method_lines rest)) z ∙ in_this (method_lines method) (map method_lines rest) q lt
-at_section (m ∷ front) method rest q lt =
-    let size = more_lines m front in
-    let shift : length (flat_map method_lines (m ∷ front)) + q ≡ length (method_lines m) + (length (flat_map method_lines front) + q) = omega (arith, size) in
-    ap (in_sections (method_lines m ∷ map method_lines (front ++ method ∷ rest))) shift
-    ∙ (in_later (method_lines m) (map method_lines (front ++ method ∷ rest)) (length (flat_map method_lines front) + q) ∙ at_section front method rest q lt)
+at_section (m ∷ prefix) method rest q lt =
+    let size = more_lines m prefix in
+    let shift : length (flat_map method_lines (m ∷ prefix)) + q ≡ length (method_lines m) + (length (flat_map method_lines prefix) + q) = omega (arith, size) in
+    ap (in_sections (method_lines m ∷ map method_lines (prefix ++ method ∷ rest))) shift
+    ∙ (in_later (method_lines m) (map method_lines (prefix ++ method ∷ rest)) (length (flat_map method_lines prefix) + q) ∙ at_section prefix method rest q lt)
 
-at_line : (front : List MethodSource) (method : MethodSource) (rest : List MethodSource) (q : ℕ) → q < length (method_lines method)
-    → slice_get (flat_map method_lines (front ++ method ∷ rest)) (length (flat_map method_lines front) + q) ≡ slice_get (method_lines method) q
+at_line : (prefix : List MethodSource) (method : MethodSource) (rest : List MethodSource) (q : ℕ) → q < length (method_lines method)
+    → slice_get (flat_map method_lines (prefix ++ method ∷ rest)) (length (flat_map method_lines prefix) + q) ≡ slice_get (method_lines method) q
 at_line [] method rest q lt =
     let z : 0 + q ≡ q = omega arith in
     ap (slice_get (method_lines method ++ flat_map method_lines rest)) z ∙ nth_left (method_lines method) (flat_map method_lines rest) q lt
-at_line (m ∷ front) method rest q lt =
-    let size = more_lines m front in
-    let shift : length (flat_map method_lines (m ∷ front)) + q ≡ length (method_lines m) + (length (flat_map method_lines front) + q) = omega (arith, size) in
-    ap (slice_get (method_lines m ++ flat_map method_lines (front ++ method ∷ rest))) shift
-    ∙ (nth_right (method_lines m) (flat_map method_lines (front ++ method ∷ rest)) (length (flat_map method_lines front) + q) ∙ at_line front method rest q lt)
+at_line (m ∷ prefix) method rest q lt =
+    let size = more_lines m prefix in
+    let shift : length (flat_map method_lines (m ∷ prefix)) + q ≡ length (method_lines m) + (length (flat_map method_lines prefix) + q) = omega (arith, size) in
+    ap (slice_get (method_lines m ++ flat_map method_lines (prefix ++ method ∷ rest))) shift
+    ∙ (nth_right (method_lines m) (flat_map method_lines (prefix ++ method ∷ rest)) (length (flat_map method_lines prefix) + q) ∙ at_line prefix method rest q lt)
 
 module _ (s : Source) (before : ℕ) (body : List Line) (m : AreMethodLines s before body) (q : ℕ) (lt : q < length body) where
   within : q < length (method_lines m.method)
   within = subst (λ (l : List Line). q < length l) m.lines_are lt
 
-  place_is : before + q ≡ length (head_lines s) + (length (flat_map method_lines m.front) + q)
+  place_is : before + q ≡ length (head_lines s) + (length (flat_map method_lines m.prefix) + q)
   place_is = let e = m.before_is in omega (arith, e)
 
   pub section_same : in_sections (sections_of (lines_of s)) (before + q) ≡ is_large_in body q
   section_same =
       ap (in_sections (sections_of (lines_of s))) place_is
-      ∙ (ap (λ ss. in_sections ss (length (head_lines s) + (length (flat_map method_lines m.front) + q))) (source_sections s)
-      ∙ (in_later (head_lines s) (map method_lines s.methods) (length (flat_map method_lines m.front) + q)
-      ∙ (ap (λ ms. in_sections (map method_lines ms) (length (flat_map method_lines m.front) + q)) m.methods
-      ∙ (at_section m.front m.method m.rest q within ∙ ap (λ l. is_large_in l q) (sym m.lines_are)))))
+      ∙ (ap (λ ss. in_sections ss (length (head_lines s) + (length (flat_map method_lines m.prefix) + q))) (source_sections s)
+      ∙ (in_later (head_lines s) (map method_lines s.methods) (length (flat_map method_lines m.prefix) + q)
+      ∙ (ap (λ ms. in_sections (map method_lines ms) (length (flat_map method_lines m.prefix) + q)) m.methods
+      ∙ (at_section m.prefix m.method m.rest q within ∙ ap (λ l. is_large_in l q) (sym m.lines_are)))))
 
   pub line_same : slice_get (lines_of s) (before + q) ≡ slice_get body q
   line_same =
       ap (slice_get (lines_of s)) place_is
-      ∙ (nth_right (head_lines s) (flat_map method_lines s.methods) (length (flat_map method_lines m.front) + q)
-      ∙ (ap (λ ms. slice_get (flat_map method_lines ms) (length (flat_map method_lines m.front) + q)) m.methods
-      ∙ (at_line m.front m.method m.rest q within ∙ ap (λ l. slice_get l q) (sym m.lines_are))))
+      ∙ (nth_right (head_lines s) (flat_map method_lines s.methods) (length (flat_map method_lines m.prefix) + q)
+      ∙ (ap (λ ms. slice_get (flat_map method_lines ms) (length (flat_map method_lines m.prefix) + q)) m.methods
+      ∙ (at_line m.prefix m.method m.rest q within ∙ ap (λ l. slice_get l q) (sym m.lines_are))))
 
 -- ---- each line stands before the methods or in one
 
@@ -109,24 +109,24 @@ pub record IsIn (s : Source) (place : ℕ) : Type 0 where
   pub within : number < length body
   pub place_is : place ≡ before + number
 
-find : (s : Source) (front methods : List MethodSource) → s.methods ≡ front ++ methods → (p : ℕ) → p < length (flat_map method_lines methods)
-    → IsIn s (length (head_lines s) + length (flat_map method_lines front) + p)
-find s front [] e p lt = absurd (omega (arith, lt))
-find s front (m ∷ methods) e p lt = elim (cases_lt p (length (method_lines m))) [
+find : (s : Source) (prefix methods : List MethodSource) → s.methods ≡ prefix ++ methods → (p : ℕ) → p < length (flat_map method_lines methods)
+    → IsIn s (length (head_lines s) + length (flat_map method_lines prefix) + p)
+find s prefix [] e p lt = absurd (omega (arith, lt))
+find s prefix (m ∷ methods) e p lt = elim (cases_lt p (length (method_lines m))) [
   | inl here ↦ record {
-    before = length (head_lines s) + length (flat_map method_lines front);
+    before = length (head_lines s) + length (flat_map method_lines prefix);
     body = method_lines m;
-    in_method = record { front = front; method = m; rest = methods; methods = e; before_is = refl; lines_are = refl };
+    in_method = record { prefix = prefix; method = m; rest = methods; methods = e; before_is = refl; lines_are = refl };
     number = p;
     within = here;
     place_is = refl;
   }
   | inr ge ↦
       let size = more_lines m methods in
-      let more = ap length (flat_map-append method_lines front (m ∷ [])) ∙ length-append (flat_map method_lines front) (flat_map method_lines (m ∷ [])) in
+      let more = ap length (flat_map-append method_lines prefix (m ∷ [])) ∙ length-append (flat_map method_lines prefix) (flat_map method_lines (m ∷ [])) in
       let one = more_lines m [] in
-      let found = find s (front ++ m ∷ []) methods (e ∙ sym (append_assoc front (m ∷ []) methods)) (p - length (method_lines m)) (omega (arith, lt, ge, size)) in
-      let shift : length (head_lines s) + length (flat_map method_lines (front ++ m ∷ [])) + (p - length (method_lines m)) ≡ length (head_lines s) + length (flat_map method_lines front) + p =
+      let found = find s (prefix ++ m ∷ []) methods (e ∙ sym (append_assoc prefix (m ∷ []) methods)) (p - length (method_lines m)) (omega (arith, lt, ge, size)) in
+      let shift : length (head_lines s) + length (flat_map method_lines (prefix ++ m ∷ [])) + (p - length (method_lines m)) ≡ length (head_lines s) + length (flat_map method_lines prefix) + p =
       omega (arith, ge, more, one) in
       subst (IsIn s) shift found
 ]
@@ -212,16 +212,16 @@ part_itself (entries.Dynamic place name desc) = (3, omega arith, refl)
 need_first : (place : ℕ) (es : List Entry) (e : Entry) → Contains es e → Contains (needs_at place es) (need place e)
 need_first place es e h = in_map (need place) (flat_map with_parts es) e (in_flat_map with_parts es e e h (part_itself e))
 
-line_need : (of : Line → List Entry) (start : ℕ) (front : List Line) (line : Line) (rest : List Line) (e : Entry) → Contains (of line) e
-    → Contains (needs of (enumerate_from start (front ++ line ∷ rest))) (need (start + length front) e)
+line_need : (of : Line → List Entry) (start : ℕ) (prefix : List Line) (line : Line) (rest : List Line) (e : Entry) → Contains (of line) e
+    → Contains (needs of (enumerate_from start (prefix ++ line ∷ rest))) (need (start + length prefix) e)
 line_need of start [] line rest e h =
     let z : start ≡ start + 0 = omega arith in
     subst (λ (n : ℕ). Contains (needs of (enumerate_from start (line ∷ rest))) (need n e)) z
     (Contains-append_left (needs_at start (of line)) (needs of (enumerate_from (start + 1) rest)) (need start e) (need_first start (of line) e h))
-line_need of start (x ∷ front) line rest e h =
-    let z : start + 1 + length front ≡ start + suc (length front) = omega arith in
-    Contains-append_right (needs_at start (of x)) (needs of (enumerate_from (start + 1) (front ++ line ∷ rest))) (need (start + suc (length front)) e)
-    (subst (λ (n : ℕ). Contains (needs of (enumerate_from (start + 1) (front ++ line ∷ rest))) (need n e)) z (line_need of (start + 1) front line rest e h))
+line_need of start (x ∷ prefix) line rest e h =
+    let z : start + 1 + length prefix ≡ start + suc (length prefix) = omega arith in
+    Contains-append_right (needs_at start (of x)) (needs of (enumerate_from (start + 1) (prefix ++ line ∷ rest))) (need (start + suc (length prefix)) e)
+    (subst (λ (n : ℕ). Contains (needs of (enumerate_from (start + 1) (prefix ++ line ∷ rest))) (need n e)) z (line_need of (start + 1) prefix line rest e h))
 
 in_method_needs : (placed : List (ℕ × Line)) (n : Need) → Contains (needs instruction_entries placed) n → Contains (method_needs placed) n
 in_method_needs placed n h =
@@ -232,31 +232,31 @@ in_method_needs placed n h =
     Contains-append_left (a ++ b ++ c ++ d) (needs frame_entries placed) n
     (Contains-append_left (a ++ b ++ c) d n (Contains-append_left (a ++ b) c n (Contains-append_right a b n h)))
 
-method_need : (start : ℕ) (front : List MethodSource) (method : MethodSource) (rest : List MethodSource) (n : Need)
-    → Contains (method_needs (enumerate_from (start + length (flat_map method_lines front)) (method_lines method))) n → Contains (methods_needs start (front ++ method ∷ rest)) n
+method_need : (start : ℕ) (prefix : List MethodSource) (method : MethodSource) (rest : List MethodSource) (n : Need)
+    → Contains (method_needs (enumerate_from (start + length (flat_map method_lines prefix)) (method_lines method))) n → Contains (methods_needs start (prefix ++ method ∷ rest)) n
 unfolding methods_needs
 method_need start [] method rest n h =
     let z : start + 0 ≡ start = omega arith in
     Contains-append_left (method_needs (enumerate_from start (method_lines method))) (methods_needs (start + length (method_lines method)) rest) n
     (subst (λ (k : ℕ). Contains (method_needs (enumerate_from k (method_lines method))) n) z h)
-method_need start (m ∷ front) method rest n h =
-    let size = more_lines m front in
-    let z : start + length (flat_map method_lines (m ∷ front)) ≡ start + length (method_lines m) + length (flat_map method_lines front) = omega (arith, size) in
-    Contains-append_right (method_needs (enumerate_from start (method_lines m))) (methods_needs (start + length (method_lines m)) (front ++ method ∷ rest)) n
-    (method_need (start + length (method_lines m)) front method rest n (subst (λ (k : ℕ). Contains (method_needs (enumerate_from k (method_lines method))) n) z h))
+method_need start (m ∷ prefix) method rest n h =
+    let size = more_lines m prefix in
+    let z : start + length (flat_map method_lines (m ∷ prefix)) ≡ start + length (method_lines m) + length (flat_map method_lines prefix) = omega (arith, size) in
+    Contains-append_right (method_needs (enumerate_from start (method_lines m))) (methods_needs (start + length (method_lines m)) (prefix ++ method ∷ rest)) n
+    (method_need (start + length (method_lines m)) prefix method rest n (subst (λ (k : ℕ). Contains (method_needs (enumerate_from k (method_lines method))) n) z h))
 
 -- an instruction's entries are needed at its line
-pub needed_at : (s : Source) (place : ℕ) (body front : List Line) (o : Operation) (e : Entry) → IsMethodLine s place body front (Does o) → Contains (operation_entries o) e → Contains (needs_of s) (need place e)
-needed_at s place body front o e at h =
+pub needed_at : (s : Source) (place : ℕ) (body prefix : List Line) (o : Operation) (e : Entry) → IsMethodLine s place body prefix (Does o) → Contains (operation_entries o) e → Contains (needs_of s) (need place e)
+needed_at s place body prefix o e at h =
     let m = at.in_method in
     let b = at.before in
-    let here : Contains (needs instruction_entries (enumerate_from b body)) (need (b + length front) e) =
-    subst (λ (l : List Line). Contains (needs instruction_entries (enumerate_from b l)) (need (b + length front) e)) (sym at.parts) (line_need instruction_entries b front (Does o) at.rest e h) in
-    let there : Contains (needs instruction_entries (enumerate_from (length (head_lines s) + length (flat_map method_lines m.front)) (method_lines m.method))) (need place e) =
-    subst (λ (n : ℕ). Contains (needs instruction_entries (enumerate_from (length (head_lines s) + length (flat_map method_lines m.front)) (method_lines m.method))) (need n e)) (sym at.place_is)
-    (subst (λ (n : ℕ). Contains (needs instruction_entries (enumerate_from n (method_lines m.method))) (need (b + length front) e)) m.before_is
-    (subst (λ (l : List Line). Contains (needs instruction_entries (enumerate_from b l)) (need (b + length front) e)) m.lines_are here)) in
+    let here : Contains (needs instruction_entries (enumerate_from b body)) (need (b + length prefix) e) =
+    subst (λ (l : List Line). Contains (needs instruction_entries (enumerate_from b l)) (need (b + length prefix) e)) (sym at.parts) (line_need instruction_entries b prefix (Does o) at.rest e h) in
+    let there : Contains (needs instruction_entries (enumerate_from (length (head_lines s) + length (flat_map method_lines m.prefix)) (method_lines m.method))) (need place e) =
+    subst (λ (n : ℕ). Contains (needs instruction_entries (enumerate_from (length (head_lines s) + length (flat_map method_lines m.prefix)) (method_lines m.method))) (need n e)) (sym at.place_is)
+    (subst (λ (n : ℕ). Contains (needs instruction_entries (enumerate_from n (method_lines m.method))) (need (b + length prefix) e)) m.before_is
+    (subst (λ (l : List Line). Contains (needs instruction_entries (enumerate_from b l)) (need (b + length prefix) e)) m.lines_are here)) in
     Contains-append_right (needs head_entries (enumerate_from 0 (head_lines s))) (methods_needs (length (head_lines s)) s.methods) (need place e)
     (subst (λ (ms : List MethodSource). Contains (methods_needs (length (head_lines s)) ms) (need place e)) (sym m.methods)
-    (method_need (length (head_lines s)) m.front m.method m.rest (need place e)
-    (in_method_needs (enumerate_from (length (head_lines s) + length (flat_map method_lines m.front)) (method_lines m.method)) (need place e) there)))
+    (method_need (length (head_lines s)) m.prefix m.method m.rest (need place e)
+    (in_method_needs (enumerate_from (length (head_lines s) + length (flat_map method_lines m.prefix)) (method_lines m.method)) (need place e) there)))

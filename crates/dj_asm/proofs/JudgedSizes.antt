@@ -252,26 +252,26 @@ map_at f (z ∷ ys) (suc k) y at = map_at f ys k y at
 
 module _ (places : Places) where
   -- the instruction of a line
-  instr_at : (front : List Line) (o : Operation) (rest : List Line) (code : List Instr) → AreInstrsOf places (front ++ Does o ∷ rest) code
-      → (i : Instr) × (slice_get code (instruction_count front) ≡ Some i) × IsInstrOf places o i
+  instr_at : (prefix : List Line) (o : Operation) (rest : List Line) (code : List Instr) → AreInstrsOf places (prefix ++ Does o ∷ rest) code
+      → (i : Instr) × (slice_get code (instruction_count prefix) ≡ Some i) × IsInstrOf places o i
   instr_at [] o rest [] are = absurd are
   instr_at [] o rest (i ∷ code) are = (i, refl, are.0)
-  instr_at (Does p ∷ front) o rest [] are = absurd are
-  instr_at (Does p ∷ front) o rest (i ∷ code) are =
-      let more = instr_at front o rest code are.1 in
-      let c : instruction_count (Does p ∷ front) ≡ suc (instruction_count front) = count_cons (Does p) front ∙ omega arith in
+  instr_at (Does p ∷ prefix) o rest [] are = absurd are
+  instr_at (Does p ∷ prefix) o rest (i ∷ code) are =
+      let more = instr_at prefix o rest code are.1 in
+      let c : instruction_count (Does p ∷ prefix) ≡ suc (instruction_count prefix) = count_cons (Does p) prefix ∙ omega arith in
       (more.0, ap (slice_get (i ∷ code)) c ∙ more.1, more.2)
-  instr_at (line ∷ front) o rest code are =
-      let more = instr_at front o rest code are in
-      let c : instruction_count (line ∷ front) ≡ instruction_count front = count_cons line front ∙ omega arith in
+  instr_at (line ∷ prefix) o rest code are =
+      let more = instr_at prefix o rest code are in
+      let c : instruction_count (line ∷ prefix) ≡ instruction_count prefix = count_cons line prefix ∙ omega arith in
       (more.0, ap (slice_get code) c ∙ more.1, more.2)
 
-  pub placed_at : (starts : List ℕ) (front : List Line) (o : Operation) (rest : List Line) (code : List Instr) → length starts ≡ length code → AreInstrsOf places (front ++ Does o ∷ rest) code
-      → (i : Instr) × IsInstrOf places o i × (slice_get (placed starts code) (instruction_count front) ≡ Some (slice_index starts (instruction_count front), with_targets (address_of starts) i))
-  placed_at starts front o rest code size are =
-      let it = instr_at front o rest code are in (
+  pub placed_at : (starts : List ℕ) (prefix : List Line) (o : Operation) (rest : List Line) (code : List Instr) → length starts ≡ length code → AreInstrsOf places (prefix ++ Does o ∷ rest) code
+      → (i : Instr) × IsInstrOf places o i × (slice_get (placed starts code) (instruction_count prefix) ≡ Some (slice_index starts (instruction_count prefix), with_targets (address_of starts) i))
+  placed_at starts prefix o rest code size are =
+      let it = instr_at prefix o rest code are in (
         it.0,
         it.2,
-        zip_at starts (addressed starts code) (instruction_count front) (with_targets (address_of starts) it.0) (size ∙ sym (length-map code (with_targets (address_of starts))))
-            (map_at (with_targets (address_of starts)) code (instruction_count front) it.0 it.1),
+        zip_at starts (addressed starts code) (instruction_count prefix) (with_targets (address_of starts) it.0) (size ∙ sym (length-map code (with_targets (address_of starts))))
+            (map_at (with_targets (address_of starts)) code (instruction_count prefix) it.0 it.1),
       )

@@ -38,17 +38,17 @@ LineTest = List Line → List Line → Line → Type 0
 
 record HasMethodLine (s : Source) (place : ℕ) (Q : LineTest) : Type 0 where
   body : List Line
-  front : List Line
+  prefix : List Line
   line : Line
-  at : IsMethodLine s place body front line
-  such : Q body front line
+  at : IsMethodLine s place body prefix line
+  such : Q body prefix line
 
 -- the lines before the lines of a method
 abbrev before_lines : Source → List MethodSource → ℕ
-before_lines s front = length (head_lines s) + length (flat_map method_lines front)
+before_lines s prefix = length (head_lines s) + length (flat_map method_lines prefix)
 
 abbrev IsPlaced : Source → ℕ → LineTest → List MethodSource → MethodSource → List Line → Line → List Line → Type 0
-IsPlaced s place Q methods method front line rest = (place ≡ before_lines s methods + length front) × Q (method_lines method) front line
+IsPlaced s place Q methods method prefix line rest = (place ≡ before_lines s methods + length prefix) × Q (method_lines method) prefix line
 
 abbrev HasPlaced : Source → ℕ → LineTest → List MethodSource → MethodSource → List MethodSource → Type 0
 HasPlaced s place Q methods method more = IsCutSo (IsPlaced s place Q methods method) (method_lines method)
@@ -56,11 +56,11 @@ HasPlaced s place Q methods method more = IsCutSo (IsPlaced s place Q methods me
 to_line : (s : Source) (place : ℕ) (Q : LineTest) → IsCutSo (HasPlaced s place Q) s.methods → HasMethodLine s place Q
 to_line s place Q c = record {
   body = method_lines c.item;
-  front = c.such.front;
+  prefix = c.such.prefix;
   line = c.such.item;
   at = record {
-    before = before_lines s c.front;
-    in_method = record { front = c.front; method = c.item; rest = c.rest; methods = c.parts; before_is = refl; lines_are = refl };
+    before = before_lines s c.prefix;
+    in_method = record { prefix = c.prefix; method = c.item; rest = c.rest; methods = c.parts; before_is = refl; lines_are = refl };
     rest = c.such.rest;
     parts = c.such.parts;
     place_is = c.such.such.0;
@@ -72,42 +72,42 @@ from_line : (s : Source) (place : ℕ) (Q : LineTest) → HasMethodLine s place 
 from_line s place Q h =
     let m = h.at.in_method in
     record {
-      front = m.front;
+      prefix = m.prefix;
       item = m.method;
       rest = m.rest;
       parts = m.methods;
       such = record {
-        front = h.front;
+        prefix = h.prefix;
         item = h.line;
         rest = h.at.rest;
         parts = sym m.lines_are ∙ h.at.parts;
-        such = (h.at.place_is ∙ ap (λ (n : ℕ). n + length h.front) m.before_is, subst (λ body. Q body h.front h.line) m.lines_are h.such);
+        such = (h.at.place_is ∙ ap (λ (n : ℕ). n + length h.prefix) m.before_is, subst (λ body. Q body h.prefix h.line) m.lines_are h.such);
       };
     }
 
-allowed_in : (s : Source) → IsSource s → (front : List MethodSource) (method : MethodSource) (rest : List MethodSource) → s.methods ≡ front ++ method ∷ rest → AllByRecursion IsLine (method_lines method)
-allowed_in s is front method rest e =
-    let all : AllByRecursion IsLine (flat_map method_lines front ++ flat_map method_lines (method ∷ rest)) =
-    subst (AllByRecursion IsLine) (ap (flat_map method_lines) e ∙ flat_map-append method_lines front (method ∷ rest)) (methods_allowed s is) in
-    each_first IsLine (method_lines method) (flat_map method_lines rest) (each_last IsLine (flat_map method_lines front) (flat_map method_lines (method ∷ rest)) all)
+allowed_in : (s : Source) → IsSource s → (prefix : List MethodSource) (method : MethodSource) (rest : List MethodSource) → s.methods ≡ prefix ++ method ∷ rest → AllByRecursion IsLine (method_lines method)
+allowed_in s is prefix method rest e =
+    let all : AllByRecursion IsLine (flat_map method_lines prefix ++ flat_map method_lines (method ∷ rest)) =
+    subst (AllByRecursion IsLine) (ap (flat_map method_lines) e ∙ flat_map-append method_lines prefix (method ∷ rest)) (methods_allowed s is) in
+    each_first IsLine (method_lines method) (flat_map method_lines rest) (each_last IsLine (flat_map method_lines prefix) (flat_map method_lines (method ∷ rest)) all)
 
-line_or_not : (s : Source) → IsSource s → (place : ℕ) (Q : LineTest) → ((body front : List Line) (line : Line) → AllByRecursion IsLine body → AllByRecursion IsLine (line ∷ []) → Is (Q body front line)) → Is (HasMethodLine s place Q)
+line_or_not : (s : Source) → IsSource s → (place : ℕ) (Q : LineTest) → ((body prefix : List Line) (line : Line) → AllByRecursion IsLine body → AllByRecursion IsLine (line ∷ []) → Is (Q body prefix line)) → Is (HasMethodLine s place Q)
 line_or_not s is place Q decide =
     either_way (to_line s place Q) (from_line s place Q)
     (cut_or_not (HasPlaced s place Q) s.methods (λ methods method more e.
     let allowed = allowed_in s is methods method more e in
-    cut_or_not (IsPlaced s place Q methods method) (method_lines method) (λ front line rest parts.
-    both (same_number place (before_lines s methods + length front))
-    (decide (method_lines method) front line allowed (each_first IsLine (line ∷ []) rest (each_last IsLine front (line ∷ rest) (subst (AllByRecursion IsLine) parts allowed)))))))
+    cut_or_not (IsPlaced s place Q methods method) (method_lines method) (λ prefix line rest parts.
+    both (same_number place (before_lines s methods + length prefix))
+    (decide (method_lines method) prefix line allowed (each_first IsLine (line ∷ []) rest (each_last IsLine prefix (line ∷ rest) (subst (AllByRecursion IsLine) parts allowed)))))))
 
 -- ---- instructions and code
 
 module _ (s : Source) (is : IsSource s) (place : ℕ) where
   abbrev Improper : LineTest
-  Improper body front line = (o : Operation) × (line ≡ Does o) × (i : Instr) × IsInstrOf (places_of (index_in s) body) o i × (IsProper i → ⊥)
+  Improper body prefix line = (o : Operation) × (line ≡ Does o) × (i : Instr) × IsInstrOf (places_of (index_in s) body) o i × (IsProper i → ⊥)
 
-  improper_line : (body front : List Line) (line : Line) → AllByRecursion IsLine (line ∷ []) → Is (Improper body front line)
-  improper_line body front (Does o) allowed =
+  improper_line : (body prefix : List Line) (line : Line) → AllByRecursion IsLine (line ∷ []) → Is (Improper body prefix line)
+  improper_line body prefix (Does o) allowed =
       let i = instr_of (places_of (index_in s) body) o allowed.0 in
       elim (proper_or_not i.0) [
         | inr lacks ↦ inl (o, refl, i.0, i.1, lacks)
@@ -116,81 +116,81 @@ module _ (s : Source) (is : IsSource s) (place : ℕ) where
             let same : h.0 ≡ o = cc in
             h.4 (subst IsProper (one_instr (places_of (index_in s) body) o i.0 h.2 i.1 (subst (λ p. IsInstrOf (places_of (index_in s) body) p h.2) same h.3)) proper))
       ]
-  improper_line body front line allowed = inr (λ h. let e = h.1 in absurd cc)
+  improper_line body prefix line allowed = inr (λ h. let e = h.1 in absurd cc)
 
   improper_or_not : Is (IsImproper s place)
   improper_or_not =
       either_way
       (λ (h : HasMethodLine s place Improper). record {
         body = h.body;
-        front = h.front;
+        prefix = h.prefix;
         operation = h.such.0;
-        at = subst (IsMethodLine s place h.body h.front) h.such.1 h.at;
+        at = subst (IsMethodLine s place h.body h.prefix) h.such.1 h.at;
         instr = h.such.2;
         is_instr = h.such.3;
         improper = h.such.4;
       })
-      (λ h. record { body = h.body; front = h.front; line = Does h.operation; at = h.at; such = (h.operation, refl, h.instr, h.is_instr, h.improper) })
-      (line_or_not s is place Improper (λ body front line all allowed. improper_line body front line allowed))
+      (λ h. record { body = h.body; prefix = h.prefix; line = Does h.operation; at = h.at; such = (h.operation, refl, h.instr, h.is_instr, h.improper) })
+      (line_or_not s is place Improper (λ body prefix line all allowed. improper_line body prefix line allowed))
 
   abbrev Far : LineTest
-  Far body front line =
+  Far body prefix line =
       (o : Operation) × (line ≡ Does o) × (code : List Instr) × AreInstrsOf (places_of (index_in s) body) body code
-      × (jump : ℕ × Instr) × (slice_get (placed (starts_from 0 code) code) (instruction_count front) ≡ Some jump) × (Reaches jump → ⊥)
+      × (jump : ℕ × Instr) × (slice_get (placed (starts_from 0 code) code) (instruction_count prefix) ≡ Some jump) × (Reaches jump → ⊥)
 
-  far_line : (body front : List Line) (line : Line) → AllByRecursion IsLine body → Is (Far body front line)
-  far_line body front (Does o) all =
+  far_line : (body prefix : List Line) (line : Line) → AllByRecursion IsLine body → Is (Far body prefix line)
+  far_line body prefix (Does o) all =
       let code = instrs_of (places_of (index_in s) body) body all in
-      elim (at_or_not (λ (jump : ℕ × Instr). Reaches jump → ⊥) (λ jump. not_so (offsets_or_not jump.0 jump.1)) (slice_get (placed (starts_from 0 code.0) code.0) (instruction_count front))) [
+      elim (at_or_not (λ (jump : ℕ × Instr). Reaches jump → ⊥) (λ jump. not_so (offsets_or_not jump.0 jump.1)) (slice_get (placed (starts_from 0 code.0) code.0) (instruction_count prefix))) [
         | inl h ↦ inl (o, refl, code.0, code.1, h.0, h.1, h.2)
         | inr none ↦ inr (λ h.
             let same : h.2 ≡ code.0 = one_code (places_of (index_in s) body) body h.2 code.0 h.3 code.1 in
-            none (h.4, subst (λ (c : List Instr). slice_get (placed (starts_from 0 c) c) (instruction_count front) ≡ Some h.4) same h.5, h.6))
+            none (h.4, subst (λ (c : List Instr). slice_get (placed (starts_from 0 c) c) (instruction_count prefix) ≡ Some h.4) same h.5, h.6))
       ]
-  far_line body front line all = inr (λ h. let e = h.1 in absurd cc)
+  far_line body prefix line all = inr (λ h. let e = h.1 in absurd cc)
 
   far_or_not : Is (IsFarJump s place)
   far_or_not =
       either_way
       (λ (h : HasMethodLine s place Far). record {
         body = h.body;
-        front = h.front;
+        prefix = h.prefix;
         operation = h.such.0;
-        at = subst (IsMethodLine s place h.body h.front) h.such.1 h.at;
+        at = subst (IsMethodLine s place h.body h.prefix) h.such.1 h.at;
         instrs = h.such.2;
         are_instrs = h.such.3;
         jump = h.such.4;
         number = h.such.5;
         far = h.such.6;
       })
-      (λ h. record { body = h.body; front = h.front; line = Does h.operation; at = h.at; such = (h.operation, refl, h.instrs, h.are_instrs, h.jump, h.number, h.far) })
-      (line_or_not s is place Far (λ body front line all allowed. far_line body front line all))
+      (λ h. record { body = h.body; prefix = h.prefix; line = Does h.operation; at = h.at; such = (h.operation, refl, h.instrs, h.are_instrs, h.jump, h.number, h.far) })
+      (line_or_not s is place Far (λ body prefix line all allowed. far_line body prefix line all))
 
   abbrev Long : LineTest
-  Long body front line = (line ≡ End) × (code : List Instr) × AreInstrsOf (places_of (index_in s) body) body code × (most_bytes < end_from 0 code)
+  Long body prefix line = (line ≡ End) × (code : List Instr) × AreInstrsOf (places_of (index_in s) body) body code × (most_bytes < end_from 0 code)
 
-  long_line : (body front : List Line) (line : Line) → AllByRecursion IsLine body → Is (Long body front line)
-  long_line body front End all =
+  long_line : (body prefix : List Line) (line : Line) → AllByRecursion IsLine body → Is (Long body prefix line)
+  long_line body prefix End all =
       let code = instrs_of (places_of (index_in s) body) body all in
       elim (below most_bytes (end_from 0 code.0)) [
         | inl past ↦ inl (refl, code.0, code.1, past)
         | inr short ↦ inr (λ h. short (subst (λ (c : List Instr). most_bytes < end_from 0 c) (one_code (places_of (index_in s) body) body h.1 code.0 h.2 code.1) h.3))
       ]
-  long_line body front line all = inr (λ h. let e = h.0 in absurd cc)
+  long_line body prefix line all = inr (λ h. let e = h.0 in absurd cc)
 
   long_or_not : Is (IsEndOfLongCode s place)
   long_or_not =
       either_way
       (λ (h : HasMethodLine s place Long). record {
         body = h.body;
-        front = h.front;
-        at = subst (IsMethodLine s place h.body h.front) h.such.0 h.at;
+        prefix = h.prefix;
+        at = subst (IsMethodLine s place h.body h.prefix) h.such.0 h.at;
         instrs = h.such.1;
         are_instrs = h.such.2;
         long = h.such.3;
       })
-      (λ h. record { body = h.body; front = h.front; line = End; at = h.at; such = (refl, h.instrs, h.are_instrs, h.long) })
-      (line_or_not s is place Long (λ body front line all allowed. long_line body front line all))
+      (λ h. record { body = h.body; prefix = h.prefix; line = End; at = h.at; such = (refl, h.instrs, h.are_instrs, h.long) })
+      (line_or_not s is place Long (λ body prefix line all allowed. long_line body prefix line all))
 
   -- ---- counts
 
@@ -199,13 +199,13 @@ module _ (s : Source) (is : IsSource s) (place : ℕ) where
       either_way (λ (h : (is_such line ≡ true) × (most_lines ≤ count)). record { such = h.0; many = h.1 }) (λ t. (t.such, t.many)) (both (so (is_such line)) (at_most most_lines count))
 
   abbrev TooMany : LineTest
-  TooMany body front line = IsOneTooMany is_catch (count_by is_catch front) line
+  TooMany body prefix line = IsOneTooMany is_catch (count_by is_catch prefix) line
 
   catches_or_not : Is (IsPastCatches s place)
   catches_or_not =
-      either_way (λ (h : HasMethodLine s place TooMany). record { body = h.body; front = h.front; line = h.line; at = h.at; too_many = h.such })
-      (λ h. record { body = h.body; front = h.front; line = h.line; at = h.at; such = h.too_many })
-      (line_or_not s is place TooMany (λ body front line all allowed. too_many_or_not is_catch (count_by is_catch front) line))
+      either_way (λ (h : HasMethodLine s place TooMany). record { body = h.body; prefix = h.prefix; line = h.line; at = h.at; too_many = h.such })
+      (λ h. record { body = h.body; prefix = h.prefix; line = h.line; at = h.at; such = h.too_many })
+      (line_or_not s is place TooMany (λ body prefix line all allowed. too_many_or_not is_catch (count_by is_catch prefix) line))
 
   abbrev PastTable : Line → Type 0
   PastTable line =
@@ -259,14 +259,14 @@ module _ (s : Source) (is : IsSource s) (place : ℕ) where
 line_count : (s : Source) → length (lines_of s) ≡ length (head_lines s) + length (flat_map method_lines s.methods)
 line_count s = length-append (head_lines s) (flat_map method_lines s.methods)
 
-line_within : (s : Source) (place : ℕ) (body front : List Line) (line : Line) → IsMethodLine s place body front line → place < length (lines_of s)
-line_within s place body front line at =
+line_within : (s : Source) (place : ℕ) (body prefix : List Line) (line : Line) → IsMethodLine s place body prefix line → place < length (lines_of s)
+line_within s place body prefix line at =
     let m = at.in_method in
     let whole = ap (λ (l : List MethodSource). length (flat_map method_lines l)) m.methods
-    ∙ (ap length (flat_map-append method_lines m.front (m.method ∷ m.rest)) ∙ length-append (flat_map method_lines m.front) (flat_map method_lines (m.method ∷ m.rest))) in
+    ∙ (ap length (flat_map-append method_lines m.prefix (m.method ∷ m.rest)) ∙ length-append (flat_map method_lines m.prefix) (flat_map method_lines (m.method ∷ m.rest))) in
     let method = length-append (method_lines m.method) (flat_map method_lines m.rest) in
     let lines = ap length m.lines_are in
-    let parts = ap length at.parts ∙ length-append front (line ∷ at.rest) in
+    let parts = ap length at.parts ∙ length-append prefix (line ∷ at.rest) in
     omega (arith, line_count s, whole, method, lines, parts, at.place_is, m.before_is)
 
 abbrev IsBelow : ℕ → Need → Type 0
@@ -320,9 +320,9 @@ need_within s need h =
 -- a line that is too large is one of the source's
 pub large_within : (s : Source) (place : ℕ) → IsTooLarge s place → place < length (lines_of s)
 large_within s place (inl p) = subst (λ (n : ℕ). n < length (lines_of s)) p.place_is (need_within s p.need p.needed)
-large_within s place (inr (inl h)) = line_within s place h.body h.front (Does h.operation) h.at
-large_within s place (inr (inr (inl h))) = line_within s place h.body h.front (Does h.operation) h.at
-large_within s place (inr (inr (inr (inl h)))) = line_within s place h.body h.front End h.at
+large_within s place (inr (inl h)) = line_within s place h.body h.prefix (Does h.operation) h.at
+large_within s place (inr (inr (inl h))) = line_within s place h.body h.prefix (Does h.operation) h.at
+large_within s place (inr (inr (inr (inl h)))) = line_within s place h.body h.prefix End h.at
 large_within s place (inr (inr (inr (inr (inl h))))) = slice_get_within (lines_of s) place h.line h.at
-large_within s place (inr (inr (inr (inr (inr (inl h)))))) = line_within s place h.body h.front h.line h.at
+large_within s place (inr (inr (inr (inr (inr (inl h)))))) = line_within s place h.body h.prefix h.line h.at
 large_within s place (inr (inr (inr (inr (inr (inr h)))))) = slice_get_within (lines_of s) place (Framed h.frame) h.at

@@ -70,7 +70,7 @@ methods_line_needs place (method ∷ methods) line e h k = elim (Contains-append
 in_methods : (s : Source) (before : ℕ) (body : List Line) (line : Line) → AreMethodLines s before body → Contains body line → Contains (flat_map method_lines s.methods) line
 in_methods s before body line at h =
     in_flat_map method_lines s.methods at.method line
-    (subst (λ (ms : List MethodSource). Contains ms at.method) (sym at.methods) (Contains-append_right at.front (at.method ∷ at.rest) at.method (in_here at.method at.rest)))
+    (subst (λ (ms : List MethodSource). Contains ms at.method) (sym at.methods) (Contains-append_right at.prefix (at.method ∷ at.rest) at.method (in_here at.method at.rest)))
     (subst (λ (ls : List Line). Contains ls line) at.lines_are h)
 
 operation_has_entry : (s : Source) (before : ℕ) (body : List Line) (o : Operation) (e : Entry) → AreMethodLines s before body → Contains body (Does o) → Contains (operation_entries o) e → Contains (entries_of s) e
@@ -180,19 +180,19 @@ module _ (kept : List Entry) (body : List Line) (can : CanBeCode kept body) wher
       ap (λ (es : List Entry). found_index es e) can.kept_is
       ∙ found_here (entries_of s) e h (entry_has_room s no_past e h)
 
-  stands_in : (front : List Line) (line : Line) (rest : List Line) → body ≡ front ++ line ∷ rest → Contains body line
-  stands_in front line rest e = subst (λ (ls : List Line). Contains ls line) (sym e) (Contains-append_right front (line ∷ rest) line (in_here line rest))
+  stands_in : (prefix : List Line) (line : Line) (rest : List Line) → body ≡ prefix ++ line ∷ rest → Contains body line
+  stands_in prefix line rest e = subst (λ (ls : List Line). Contains ls line) (sym e) (Contains-append_right prefix (line ∷ rest) line (in_here line rest))
 
   -- each instruction is proper
-  proper_line : (front : List Line) (o : Operation) (rest : List Line) → body ≡ front ++ Does o ∷ rest → IsProperIn found o
-  proper_line front o rest e i is =
-      let here = stands_in front (Does o) rest e in
+  proper_line : (prefix : List Line) (o : Operation) (rest : List Line) → body ≡ prefix ++ Does o ∷ rest → IsProperIn found o
+  proper_line prefix o rest e i is =
+      let here = stands_in prefix (Does o) rest e in
       let same : AllByRecursion (λ x. found_index kept x ≡ index_in s x) (operation_entries o) =
       each_from (λ x. found_index kept x ≡ index_in s x) (operation_entries o) (λ x k. found_same x (operation_has_entry s can.before body o x can.in_method here k)) in
       let is_instr = instr_same (label_number body) (found_index kept) (index_in s) o i same is in
-      stable (proper_or_not i) (λ improper. can.fits (can.before + length front) (inr (inl (record {
+      stable (proper_or_not i) (λ improper. can.fits (can.before + length prefix) (inr (inl (record {
         body = body;
-        front = front;
+        prefix = prefix;
         operation = o;
         at = record { before = can.before; in_method = can.in_method; rest = rest; parts = e; place_is = refl };
         instr = i;
@@ -200,25 +200,25 @@ module _ (kept : List Entry) (body : List Line) (can : CanBeCode kept body) wher
         improper = improper;
       }))))
 
-  proper_from : (front rest : List Line) → body ≡ front ++ rest → AreProperIn found (flat_map operation_in rest)
-  proper_from front [] e = tt
-  proper_from front (Does o ∷ rest) e = (proper_line front o rest e, proper_from (front ++ Does o ∷ []) rest (e ∙ sym (append_assoc front (Does o ∷ []) rest)))
-  proper_from front (line ∷ rest) e = proper_from (front ++ line ∷ []) rest (e ∙ sym (append_assoc front (line ∷ []) rest))
+  proper_from : (prefix rest : List Line) → body ≡ prefix ++ rest → AreProperIn found (flat_map operation_in rest)
+  proper_from prefix [] e = tt
+  proper_from prefix (Does o ∷ rest) e = (proper_line prefix o rest e, proper_from (prefix ++ Does o ∷ []) rest (e ∙ sym (append_assoc prefix (Does o ∷ []) rest)))
+  proper_from prefix (line ∷ rest) e = proper_from (prefix ++ line ∷ []) rest (e ∙ sym (append_assoc prefix (line ∷ []) rest))
 
   pub all_proper : AreProperIn found (flat_map operation_in body)
   all_proper = proper_from [] body refl
 
   -- labels are met
-  met : (front : List Line) (line : Line) (rest : List Line) → body ≡ front ++ line ∷ rest → AllByRecursion (IsNumbered body) (uses_of line)
-  met front line rest e = uses_numbered s can.before body front line rest can.labelled can.in_method e
+  met : (prefix : List Line) (line : Line) (rest : List Line) → body ≡ prefix ++ line ∷ rest → AllByRecursion (IsNumbered body) (uses_of line)
+  met prefix line rest e = uses_numbered s can.before body prefix line rest can.labelled can.in_method e
 
   pub code_well_formed : (labelled : Labelled) → AreInstrsOf found body labelled.code → labelled.ranges ≡ flat_map (ranges_in found) body → IsWellFormed labelled
   code_well_formed labelled are ranges =
       let size : instruction_count body ≡ length labelled.code = sym (code_count found body labelled.code are) in
       record {
-        proper = each_instr found IsProper body labelled.code are (λ front o rest i e is. proper_line front o rest e i is);
+        proper = each_instr found IsProper body labelled.code are (λ prefix o rest i e is. proper_line prefix o rest e i is);
         targets = subst (λ (n : ℕ). AllByRecursion (HasNumbers n) labelled.code) size
-            (each_instr found (HasNumbers (instruction_count body)) body labelled.code are (λ front o rest i e is. targets_within (found_index kept) body o i is (met front (Does o) rest e)));
+            (each_instr found (HasNumbers (instruction_count body)) body labelled.code are (λ prefix o rest i e is. targets_within (found_index kept) body o i is (met prefix (Does o) rest e)));
         ranges = subst (λ (rs : List Protected). AllByRecursion (IsRange (length labelled.code)) rs) (sym ranges)
             (subst (λ (n : ℕ). AllByRecursion (IsRange n) (flat_map (ranges_in found) body)) size (ranges_within (found_index kept) body [] body refl met));
       }
@@ -238,9 +238,9 @@ module _ (kept : List Entry) (body : List Line) (can : CanBeCode kept body) wher
       let at = in_lines (Framed frame) h in
       counts_hold found frame (each_in IsLine (lines_of s) (Framed frame) can.allowed.0 at) (each_in IsSized (lines_of s) (Framed frame) can.allowed.1 at) (short_lists frame h)
 
-  framed_uses : (front rest : List Line) (P : Line → Type 0) → body ≡ front ++ rest → ((before : List Line) (line : Line) (after : List Line) → body ≡ before ++ line ∷ after → P line) → AllByRecursion P rest
-  framed_uses front [] P e h = tt
-  framed_uses front (line ∷ rest) P e h = (h front line rest e, framed_uses (front ++ line ∷ []) rest P (e ∙ sym (append_assoc front (line ∷ []) rest)) h)
+  framed_uses : (prefix rest : List Line) (P : Line → Type 0) → body ≡ prefix ++ rest → ((before : List Line) (line : Line) (after : List Line) → body ≡ before ++ line ∷ after → P line) → AllByRecursion P rest
+  framed_uses prefix [] P e h = tt
+  framed_uses prefix (line ∷ rest) P e h = (h prefix line rest e, framed_uses (prefix ++ line ∷ []) rest P (e ∙ sym (append_assoc prefix (line ∷ []) rest)) h)
 
   each_line : (P : Line → Type 0) → ((before : List Line) (line : Line) (after : List Line) → body ≡ before ++ line ∷ after → P line) → AllByRecursion P body
   each_line P h = framed_uses [] body P refl h

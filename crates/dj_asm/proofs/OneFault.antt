@@ -42,7 +42,7 @@ label_same text e f p q =
     let place : p.place ≡ q.place =
     least_same (IsMislabelled p.source) p.place q.place p.wrong (subst (λ s. IsMislabelled s q.place) same q.wrong) p.first
     (λ x lt such. q.first x lt (subst (λ s. IsMislabelled s x) (sym same) such)) in
-    p.told ∙ (ap (λ (l : ℕ). asm_errors.Label l) (line_same text p.place q.place p.line q.line place p.number q.number) ∙ sym q.told)
+    p.reported ∙ (ap (λ (l : ℕ). asm_errors.Label l) (line_same text p.place q.place p.line q.line place p.number q.number) ∙ sym q.reported)
 
 large_same : (text : List ℕ) (e f : AsmError) → LargeFault text e → LargeFault text f → e ≡ f
 large_same text e f p q =
@@ -50,7 +50,7 @@ large_same text e f p q =
     let place : p.place ≡ q.place =
     least_same (IsTooLarge p.source) p.place q.place p.large (subst (λ s. IsTooLarge s q.place) same q.large) p.first
     (λ x lt such. q.first x lt (subst (λ s. IsTooLarge s x) (sym same) such)) in
-    p.told ∙ (ap (λ (l : ℕ). asm_errors.Large l) (line_same text p.place q.place p.line q.line place p.number q.number) ∙ sym q.told)
+    p.reported ∙ (ap (λ (l : ℕ). asm_errors.Large l) (line_same text p.place q.place p.line q.line place p.number q.number) ∙ sym q.reported)
 
 -- a text has one fault at most
 pub one_fault : (text : List ℕ) (e f : AsmError) → TextFault text e → TextFault text f → e ≡ f

@@ -19,33 +19,33 @@ module _ {X : Type 0} where
 
   -- the list, cut at an item
   pub record IsCutSo (P : List X → X → List X → Type 0) (xs : List X) : Type 0 where
-    pub front : List X
+    pub prefix : List X
     pub item : X
     pub rest : List X
-    pub parts : xs ≡ front ++ item ∷ rest
-    pub such : P front item rest
+    pub parts : xs ≡ prefix ++ item ∷ rest
+    pub such : P prefix item rest
 
-  further : (P : List X → X → List X → Type 0) (y : X) (ys : List X) → (P [] y ys → ⊥) → (IsCutSo (λ front item rest. P (y ∷ front) item rest) ys → ⊥)
-      → (front : List X) (item : X) (rest : List X) → y ∷ ys ≡ front ++ item ∷ rest → P front item rest → ⊥
+  further : (P : List X → X → List X → Type 0) (y : X) (ys : List X) → (P [] y ys → ⊥) → (IsCutSo (λ prefix item rest. P (y ∷ prefix) item rest) ys → ⊥)
+      → (prefix : List X) (item : X) (rest : List X) → y ∷ ys ≡ prefix ++ item ∷ rest → P prefix item rest → ⊥
   further P y ys lacks none [] item rest e such =
       let head : item ≡ y = cc in
       let tail : rest ≡ ys = cc in
       lacks (subst (λ r. P [] y r) tail (subst (λ x. P [] x rest) head such))
-  further P y ys lacks none (z ∷ front) item rest e such =
+  further P y ys lacks none (z ∷ prefix) item rest e such =
       let head : z ≡ y = cc in
-      let tail : ys ≡ front ++ item ∷ rest = cc in
-      none (record { front = front; item = item; rest = rest; parts = tail; such = subst (λ x. P (x ∷ front) item rest) head such })
+      let tail : ys ≡ prefix ++ item ∷ rest = cc in
+      none (record { prefix = prefix; item = item; rest = rest; parts = tail; such = subst (λ x. P (x ∷ prefix) item rest) head such })
 
-  pub cut_or_not : (P : List X → X → List X → Type 0) (xs : List X) → ((front : List X) (item : X) (rest : List X) → xs ≡ front ++ item ∷ rest → Is (P front item rest)) → Is (IsCutSo P xs)
-  cut_or_not P [] is = inr (λ c. no_cut c.front c.item c.rest c.parts) where
-    no_cut : (front : List X) (item : X) (rest : List X) → [] ≡ front ++ item ∷ rest → ⊥
+  pub cut_or_not : (P : List X → X → List X → Type 0) (xs : List X) → ((prefix : List X) (item : X) (rest : List X) → xs ≡ prefix ++ item ∷ rest → Is (P prefix item rest)) → Is (IsCutSo P xs)
+  cut_or_not P [] is = inr (λ c. no_cut c.prefix c.item c.rest c.parts) where
+    no_cut : (prefix : List X) (item : X) (rest : List X) → [] ≡ prefix ++ item ∷ rest → ⊥
     no_cut [] item rest e = absurd cc
-    no_cut (z ∷ front) item rest e = absurd cc
+    no_cut (z ∷ prefix) item rest e = absurd cc
   cut_or_not P (y ∷ ys) is = elim (is [] y ys refl) [
-    | inl here ↦ inl (record { front = []; item = y; rest = ys; parts = refl; such = here })
-    | inr lacks ↦ elim (cut_or_not (λ front item rest. P (y ∷ front) item rest) ys (λ front item rest e. is (y ∷ front) item rest (ap (λ l. y ∷ l) e))) [
-      | inl c ↦ inl (record { front = y ∷ c.front; item = c.item; rest = c.rest; parts = ap (λ l. y ∷ l) c.parts; such = c.such })
-      | inr none ↦ inr (λ c. further P y ys lacks none c.front c.item c.rest c.parts c.such)
+    | inl here ↦ inl (record { prefix = []; item = y; rest = ys; parts = refl; such = here })
+    | inr lacks ↦ elim (cut_or_not (λ prefix item rest. P (y ∷ prefix) item rest) ys (λ prefix item rest e. is (y ∷ prefix) item rest (ap (λ l. y ∷ l) e))) [
+      | inl c ↦ inl (record { prefix = y ∷ c.prefix; item = c.item; rest = c.rest; parts = ap (λ l. y ∷ l) c.parts; such = c.such })
+      | inr none ↦ inr (λ c. further P y ys lacks none c.prefix c.item c.rest c.parts c.such)
     ]
   ]
 

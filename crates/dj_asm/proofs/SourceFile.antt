@@ -40,24 +40,24 @@ all_fit_of s none = record {
 -- ---- methods
 
 -- the lines of a method of the source
-pub method_at : (s : Source) (front : List MethodSource) (method : MethodSource) (rest : List MethodSource) → s.methods ≡ front ++ method ∷ rest
-    → AreMethodLines s (length (head_lines s) + length (flat_map method_lines front)) (method_lines method)
-method_at s front method rest e = record { front = front; method = method; rest = rest; methods = e; before_is = refl; lines_are = refl }
+pub method_at : (s : Source) (prefix : List MethodSource) (method : MethodSource) (rest : List MethodSource) → s.methods ≡ prefix ++ method ∷ rest
+    → AreMethodLines s (length (head_lines s) + length (flat_map method_lines prefix)) (method_lines method)
+method_at s prefix method rest e = record { prefix = prefix; method = method; rest = rest; methods = e; before_is = refl; lines_are = refl }
 
 -- the lines of a source's methods are allowed
 pub methods_allowed : (s : Source) → IsSource s → AllByRecursion IsLine (flat_map method_lines s.methods)
 methods_allowed s is = each_last IsLine (head_lines s) (flat_map method_lines s.methods) is
 
-methods_from : (s : Source) → NoLine (IsMislabelled s) → AllFit s → (front rest : List MethodSource) → s.methods ≡ front ++ rest → AllByRecursion IsLine (flat_map method_lines rest)
+methods_from : (s : Source) → NoLine (IsMislabelled s) → AllFit s → (prefix rest : List MethodSource) → s.methods ≡ prefix ++ rest → AllByRecursion IsLine (flat_map method_lines rest)
     → (methods : List MemberInfo) × AllZip (IsMethodOf (index_in s)) rest methods
-methods_from s labels fits front [] e is = ([], tt)
-methods_from s labels fits front (Bodiless flags name desc ∷ rest) e is =
-    let more = methods_from s labels fits (front ++ Bodiless flags name desc ∷ []) rest (e ∙ sym (append_assoc front (Bodiless flags name desc ∷ []) rest)) is.1 in
+methods_from s labels fits prefix [] e is = ([], tt)
+methods_from s labels fits prefix (Bodiless flags name desc ∷ rest) e is =
+    let more = methods_from s labels fits (prefix ++ Bodiless flags name desc ∷ []) rest (e ∙ sym (append_assoc prefix (Bodiless flags name desc ∷ []) rest)) is.1 in
     (record { flags = flags; name = index_in s (Utf8 name); desc = index_in s (Utf8 desc); attributes = [] } ∷ more.0, (refl, more.1))
-methods_from s labels fits front (Coded flags name desc stack locals parts ∷ rest) e is =
+methods_from s labels fits prefix (Coded flags name desc stack locals parts ∷ rest) e is =
     let method = Coded flags name desc stack locals parts in
-    let more = methods_from s labels fits (front ++ method ∷ []) rest (e ∙ sym (append_assoc front (method ∷ []) rest)) (each_last IsLine (method_lines method) (flat_map method_lines rest) is) in
-    let code = has_code s (length (head_lines s) + length (flat_map method_lines front)) flags name desc stack locals parts (method_at s front method rest e)
+    let more = methods_from s labels fits (prefix ++ method ∷ []) rest (e ∙ sym (append_assoc prefix (method ∷ []) rest)) (each_last IsLine (method_lines method) (flat_map method_lines rest) is) in
+    let code = has_code s (length (head_lines s) + length (flat_map method_lines prefix)) flags name desc stack locals parts (method_at s prefix method rest e)
     (each_first IsLine (method_lines method) (flat_map method_lines rest) is) labels fits.proper fits.near fits.short in (
       record {
         flags = flags;

@@ -57,10 +57,10 @@ table_length part parts = length-append (u2 (length parts)) (flat_map part parts
 
 code_length : (c : CodeInfo) → length (code_info_bytes c) ≡ 8 + length c.code + (2 + length (flat_map row_bytes c.table)) + (2 + length (flat_map attribute_bytes c.attributes))
 code_length c =
-    let front = u2 c.max_stack ++ u2 c.max_locals ++ u4 (length c.code) in
-    let a = length-append (front ++ c.code ++ table_bytes row_bytes c.table) (table_bytes attribute_bytes c.attributes) in
-    let b = length-append (front ++ c.code) (table_bytes row_bytes c.table) in
-    let d = length-append front c.code in
+    let prefix = u2 c.max_stack ++ u2 c.max_locals ++ u4 (length c.code) in
+    let a = length-append (prefix ++ c.code ++ table_bytes row_bytes c.table) (table_bytes attribute_bytes c.attributes) in
+    let b = length-append (prefix ++ c.code) (table_bytes row_bytes c.table) in
+    let d = length-append prefix c.code in
     let e = table_length row_bytes c.table in
     let f = table_length attribute_bytes c.attributes in
     omega (arith, a, b, d, e, f)
@@ -89,8 +89,8 @@ module _ (text : List ℕ) (short : length text ≤ 4294967294) (s : Source) (is
   abbrev second_part : List Line
   second_part = Super s.super ∷ map Implements s.interfaces
 
-  good_front : AllByRecursion Good first_part
-  good_front =
+  good_prefix : AllByRecursion Good first_part
+  good_prefix =
       each_first Good first_part second_part (each_first Good (first_part ++ second_part) (map field_line s.fields) (each_first Good (head_lines s) (flat_map method_lines s.methods) (lines_good text s is)))
 
   second_in : (line : Line) → Contains second_part line → Contains (lines_of s) line
@@ -137,27 +137,27 @@ module _ (text : List ℕ) (short : length text ≤ 4294967294) (s : Source) (is
   -- ---- methods
 
   abbrev before_method : List MethodSource → List Line
-  before_method front = head_lines s ++ flat_map method_lines front
+  before_method prefix = head_lines s ++ flat_map method_lines prefix
 
-  lines_split : (front : List MethodSource) (method : MethodSource) (rest : List MethodSource) → s.methods ≡ front ++ method ∷ rest → lines_of s ≡ before_method front ++ (method_lines method ++ flat_map method_lines rest)
-  lines_split front method rest e =
+  lines_split : (prefix : List MethodSource) (method : MethodSource) (rest : List MethodSource) → s.methods ≡ prefix ++ method ∷ rest → lines_of s ≡ before_method prefix ++ (method_lines method ++ flat_map method_lines rest)
+  lines_split prefix method rest e =
       ap (λ (ms : List MethodSource). head_lines s ++ flat_map method_lines ms) e
-      ∙ (ap (λ (ls : List Line). head_lines s ++ ls) (flat_map-append method_lines front (method ∷ rest))
-      ∙ sym (append_assoc (head_lines s) (flat_map method_lines front) (method_lines method ++ flat_map method_lines rest)))
+      ∙ (ap (λ (ls : List Line). head_lines s ++ ls) (flat_map-append method_lines prefix (method ∷ rest))
+      ∙ sym (append_assoc (head_lines s) (flat_map method_lines prefix) (method_lines method ++ flat_map method_lines rest)))
 
-  in_method : (front : List MethodSource) (method : MethodSource) (rest : List MethodSource) → s.methods ≡ front ++ method ∷ rest → (line : Line) → Contains (method_lines method) line → Contains (lines_of s) line
-  in_method front method rest e line h =
-      subst (λ (ls : List Line). Contains ls line) (sym (lines_split front method rest e))
-      (Contains-append_right (before_method front) (method_lines method ++ flat_map method_lines rest) line (Contains-append_left (method_lines method) (flat_map method_lines rest) line h))
+  in_method : (prefix : List MethodSource) (method : MethodSource) (rest : List MethodSource) → s.methods ≡ prefix ++ method ∷ rest → (line : Line) → Contains (method_lines method) line → Contains (lines_of s) line
+  in_method prefix method rest e line h =
+      subst (λ (ls : List Line). Contains ls line) (sym (lines_split prefix method rest e))
+      (Contains-append_right (before_method prefix) (method_lines method ++ flat_map method_lines rest) line (Contains-append_left (method_lines method) (flat_map method_lines rest) line h))
 
-  method_text : (front : List MethodSource) (method : MethodSource) (rest : List MethodSource) → s.methods ≡ front ++ method ∷ rest → weight (flat_map line_items (method_lines method)) ≤ length text
-  method_text front method rest e =
-      let part = part_least (before_method front) (method_lines method) (flat_map method_lines rest) in
-      let whole = ap (λ (ls : List Line). weight (flat_map line_items ls)) (lines_split front method rest e) in
+  method_text : (prefix : List MethodSource) (method : MethodSource) (rest : List MethodSource) → s.methods ≡ prefix ++ method ∷ rest → weight (flat_map line_items (method_lines method)) ≤ length text
+  method_text prefix method rest e =
+      let part = part_least (before_method prefix) (method_lines method) (flat_map method_lines rest) in
+      let whole = ap (λ (ls : List Line). weight (flat_map line_items ls)) (lines_split prefix method rest e) in
       let all = sentence_least text s is in
       omega (arith, part, whole, all)
 
-  module _ (flags : ℕ) (name desc : List ℕ) (stack locals : ℤ) (parts : List BodyPart) (front rest : List MethodSource) (e : s.methods ≡ front ++ Coded flags name desc stack locals parts ∷ rest) where
+  module _ (flags : ℕ) (name desc : List ℕ) (stack locals : ℤ) (parts : List BodyPart) (prefix rest : List MethodSource) (e : s.methods ≡ prefix ++ Coded flags name desc stack locals parts ∷ rest) where
     abbrev method : MethodSource
     method = Coded flags name desc stack locals parts
 
@@ -170,11 +170,11 @@ module _ (text : List ℕ) (short : length text ≤ 4294967294) (s : Source) (is
     few_catches : count_by is_catch body ≤ most_lines
     few_catches =
         let whole = count_fits is_catch (method_lines method) (λ before line after parts many.
-        fits.catches (length (head_lines s) + length (flat_map method_lines front) + length before) (record {
+        fits.catches (length (head_lines s) + length (flat_map method_lines prefix) + length before) (record {
           body = method_lines method;
-          front = before;
+          prefix = before;
           line = line;
-          at = record { before = length (head_lines s) + length (flat_map method_lines front); in_method = method_at s front method rest e; rest = after; parts = parts; place_is = refl };
+          at = record { before = length (head_lines s) + length (flat_map method_lines prefix); in_method = method_at s prefix method rest e; rest = after; parts = parts; place_is = refl };
           too_many = many;
         })) in
         let a = count_both is_catch start (body ++ End ∷ []) in
@@ -183,15 +183,15 @@ module _ (text : List ℕ) (short : length text ≤ 4294967294) (s : Source) (is
 
     body_allowed : AllByRecursion IsLine body
     body_allowed =
-        let all : AllByRecursion Good (before_method front ++ (method_lines method ++ flat_map method_lines rest)) = subst (AllByRecursion Good) (lines_split front method rest e) (lines_good text s is) in
+        let all : AllByRecursion Good (before_method prefix ++ (method_lines method ++ flat_map method_lines rest)) = subst (AllByRecursion Good) (lines_split prefix method rest e) (lines_good text s is) in
         let here : AllByRecursion Good (start ++ (body ++ End ∷ [])) =
-        each_first Good (method_lines method) (flat_map method_lines rest) (each_last Good (before_method front) (method_lines method ++ flat_map method_lines rest) all) in
+        each_first Good (method_lines method) (flat_map method_lines rest) (each_last Good (before_method prefix) (method_lines method ++ flat_map method_lines rest) all) in
         each_from IsLine body (λ line h. (each_in Good body line (each_first Good body (End ∷ []) (each_last Good start (body ++ End ∷ []) here)) h).0)
 
     body_text : weight (flat_map line_items body) ≤ length text
     body_text =
         let part = part_least start body (End ∷ []) in
-        let all = method_text front method rest e in
+        let all = method_text prefix method rest e in
         omega (arith, part, all)
 
     code_short : (places : Places) (c : CodeInfo) → IsCodeOf places stack locals body c → length (code_info_bytes c) < 2 ^ 32
@@ -213,7 +213,7 @@ module _ (text : List ℕ) (short : length text ≤ 4294967294) (s : Source) (is
     coded_valid : (m : MemberInfo) → IsMethodOf (index_in s) method m → IsMethod pool m
     coded_valid m p =
         let line = lines.Method flags name desc in
-        let h = in_method front method rest e line (in_here line (Stack stack ∷ (Locals locals ∷ (body ++ End ∷ [])))) in
+        let h = in_method prefix method rest e line (in_here line (Stack stack ∷ (Locals locals ∷ (body ++ End ∷ [])))) in
         let g = good line h in
         subst (IsMethod pool) (sym p.method) (record {
           flags = g.2.1.0;
@@ -231,10 +231,10 @@ module _ (text : List ℕ) (short : length text ≤ 4294967294) (s : Source) (is
           };
         })
 
-  bodiless_valid : (flags : ℕ) (name desc : List ℕ) (front rest : List MethodSource) → s.methods ≡ front ++ Bodiless flags name desc ∷ rest → (m : MemberInfo) → IsMethodOf (index_in s) (Bodiless flags name desc) m → IsMethod pool m
-  bodiless_valid flags name desc front rest e m p =
+  bodiless_valid : (flags : ℕ) (name desc : List ℕ) (prefix rest : List MethodSource) → s.methods ≡ prefix ++ Bodiless flags name desc ∷ rest → (m : MemberInfo) → IsMethodOf (index_in s) (Bodiless flags name desc) m → IsMethod pool m
+  bodiless_valid flags name desc prefix rest e m p =
       let line = Abstract flags name desc in
-      let h = in_method front (Bodiless flags name desc) rest e line (in_here line []) in
+      let h = in_method prefix (Bodiless flags name desc) rest e line (in_here line []) in
       let g = good line h in
       subst (IsMethod pool) (sym p) (record {
         flags = g.2.1.0;
@@ -243,17 +243,17 @@ module _ (text : List ℕ) (short : length text ≤ 4294967294) (s : Source) (is
         attributes = record { count = omega arith; each = tt };
       })
 
-  methods_valid : (front rest : List MethodSource) (ms : List MemberInfo) → s.methods ≡ front ++ rest → AllZip (IsMethodOf (index_in s)) rest ms → AllByRecursion (IsMethod pool) ms
-  methods_valid front [] [] e are = tt
-  methods_valid front [] (m ∷ ms) e are = absurd are
-  methods_valid front (source ∷ rest) [] e are = absurd are
-  methods_valid front (Bodiless flags name desc ∷ rest) (m ∷ ms) e are = (
-    bodiless_valid flags name desc front rest e m are.0,
-    methods_valid (front ++ Bodiless flags name desc ∷ []) rest ms (e ∙ sym (append_assoc front (Bodiless flags name desc ∷ []) rest)) are.1,
+  methods_valid : (prefix rest : List MethodSource) (ms : List MemberInfo) → s.methods ≡ prefix ++ rest → AllZip (IsMethodOf (index_in s)) rest ms → AllByRecursion (IsMethod pool) ms
+  methods_valid prefix [] [] e are = tt
+  methods_valid prefix [] (m ∷ ms) e are = absurd are
+  methods_valid prefix (source ∷ rest) [] e are = absurd are
+  methods_valid prefix (Bodiless flags name desc ∷ rest) (m ∷ ms) e are = (
+    bodiless_valid flags name desc prefix rest e m are.0,
+    methods_valid (prefix ++ Bodiless flags name desc ∷ []) rest ms (e ∙ sym (append_assoc prefix (Bodiless flags name desc ∷ []) rest)) are.1,
   )
-  methods_valid front (Coded flags name desc stack locals parts ∷ rest) (m ∷ ms) e are = (
-    coded_valid flags name desc stack locals parts front rest e m are.0,
-    methods_valid (front ++ Coded flags name desc stack locals parts ∷ []) rest ms (e ∙ sym (append_assoc front (Coded flags name desc stack locals parts ∷ []) rest)) are.1,
+  methods_valid prefix (Coded flags name desc stack locals parts ∷ rest) (m ∷ ms) e are = (
+    coded_valid flags name desc stack locals parts prefix rest e m are.0,
+    methods_valid (prefix ++ Coded flags name desc stack locals parts ∷ []) rest ms (e ∙ sym (append_assoc prefix (Coded flags name desc stack locals parts ∷ []) rest)) are.1,
   )
 
   zip_length : (sources : List MethodSource) (ms : List MemberInfo) → AllZip (IsMethodOf (index_in s)) sources ms → length ms ≡ length sources
@@ -265,7 +265,7 @@ module _ (text : List ℕ) (short : length text ≤ 4294967294) (s : Source) (is
   -- the file of the source is valid
   pub file_is_valid : (c : ClassFile) → IsFileOf s c → IsValid c
   file_is_valid c file =
-      let versions = version_fits s.version good_front.1 in
+      let versions = version_fits s.version good_prefix.1 in
       let interfaces = few_interfaces s fits.tables in
       let fields = few_fields s fits.tables in
       let methods = few_methods s fits.tables in

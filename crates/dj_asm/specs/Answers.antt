@@ -26,7 +26,7 @@ least_of (Some place) (Some other) = if nat_le place other then Some place else 
 
 -- the fault of the line at a place that is too large
 abbrev pub large_at : List ℕ → ℕ → AsmError
-large_at numbers place = told (slice_get numbers place) where
-  told : Option ℕ → AsmError
-  told None = asm_errors.Memory
-  told (Some line) = asm_errors.Large line
+large_at numbers place = reported (slice_get numbers place) where
+  reported : Option ℕ → AsmError
+  reported None = asm_errors.Memory
+  reported (Some line) = asm_errors.Large line

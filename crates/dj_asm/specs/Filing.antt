@@ -103,9 +103,9 @@ or_later (Some n) later = n
 or_later None later = later
 
 -- the number of the first line that gives one, or 0
-unfoldable pub first_told : (Line → Option ℤ) → List Line → ℤ
-first_told told [] = pos 0
-first_told told (line ∷ lines) = or_later (told line) (first_told told lines)
+unfoldable pub first_reported : (Line → Option ℤ) → List Line → ℤ
+first_reported reported [] = pos 0
+first_reported reported (line ∷ lines) = or_later (reported line) (first_reported reported lines)
 
 -- a method with code begins
 abbrev pub begins_code : List Line → Bool
@@ -113,7 +113,7 @@ begins_code (Method flags name desc ∷ lines) = true
 begins_code lines = false
 
 abbrev pub IsBodyWhere : Bool → List Entry → List Line → List ℕ → Type 0
-IsBodyWhere true kept lines body = IsCodeBody (found_index kept) (first_told stack_at lines) (first_told locals_at lines) lines body
+IsBodyWhere true kept lines body = IsCodeBody (found_index kept) (first_reported stack_at lines) (first_reported locals_at lines) lines body
 IsBodyWhere false kept lines body = body ≡ []
 
 -- the body of the Code attribute of a method's lines, or none

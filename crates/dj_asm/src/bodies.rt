@@ -6,7 +6,7 @@ ghost use Rattle.dj_source.specs.LineViews.{line_view};
 ghost use Rattle.dj_source.specs.TypeViews.{value_view};
 ghost use Rattle.dj_entries.specs.trusted.Needs.{value_entry};
 ghost use Rattle.dj_entries.specs.Pooling.{found_index};
-ghost use Rattle.dj_asm.specs.Filing.{constant_bodies, stack_at, locals_at, first_told, begins_code, IsBody, MayHaveBody, MayHaveBodies, AreBodies};
+ghost use Rattle.dj_asm.specs.Filing.{constant_bodies, stack_at, locals_at, first_reported, begins_code, IsBody, MayHaveBody, MayHaveBodies, AreBodies};
 
 use crate::code::code_body;
 use dj_entries::PoolBuilder;
@@ -131,9 +131,9 @@ fn stack_at(line: &Line<'_>) -> Option<u16>
 }
 
 /// The number of the first `.stack`, or 0.
-#[tactic(auto, using(crate::proofs::FileSteps::told_here, crate::proofs::FileSteps::told_later, crate::proofs::FileSteps::told_never))]
+#[tactic(auto, using(crate::proofs::FileSteps::reported_here, crate::proofs::FileSteps::reported_later, crate::proofs::FileSteps::reported_never))]
 fn stack_of(lines: &[Line<'_>]) -> u16
-    ensures { pos result ≡ first_told stack_at (map line_view lines.now) }
+    ensures { pos result ≡ first_reported stack_at (map line_view lines.now) }
 {
     for line in lines {
         if let Some(n) = stack_at(line) {
@@ -166,9 +166,9 @@ fn locals_at(line: &Line<'_>) -> Option<u16>
 }
 
 /// The number of the first `.locals`, or 0.
-#[tactic(auto, using(crate::proofs::FileSteps::told_here, crate::proofs::FileSteps::told_later, crate::proofs::FileSteps::told_never))]
+#[tactic(auto, using(crate::proofs::FileSteps::reported_here, crate::proofs::FileSteps::reported_later, crate::proofs::FileSteps::reported_never))]
 fn locals_of(lines: &[Line<'_>]) -> u16
-    ensures { pos result ≡ first_told locals_at (map line_view lines.now) }
+    ensures { pos result ≡ first_reported locals_at (map line_view lines.now) }
 {
     for line in lines {
         if let Some(n) = locals_at(line) {

@@ -13,7 +13,7 @@ ghost use Rattle.dj_asm.specs.CodeBodies.{CanBeCode, IsLaidFor, IsCodeBody};
 use crate::frames::frames_of;
 use crate::instrs::instrs_of;
 use crate::ranges::ranges_of;
-use dj_class::{Attribute, Attributes, CodeView, NoMemory as ClassNoMemory};
+use dj_class::{Attribute, Attributes, CodeView};
 use dj_entries::PoolBuilder;
 use dj_frames::write_frames;
 use dj_labels::Labelled;
@@ -31,7 +31,7 @@ fn attributes_of<'m>(
     pool: &PoolBuilder,
     frames: &Frames,
     map: &'m [u8],
-) -> Result<Attributes<'m>, ClassNoMemory>
+) -> Result<Attributes<'m>, NoMemory>
     ensures { IfOk result (λ attributes. (starts : List ℕ) (body : List lines.Line) → map.now ≡ stack_map_bytes starts frames.now → attributes ≡ stack_map_of (places_of (found_index pool.now) body) starts frames.now) }
 {
     let mut attributes = Attributes::new(alloc);

@@ -11,7 +11,7 @@ ghost use Rattle.dj_asm.specs.trusted.Files.{places_of};
 ghost use Rattle.dj_asm.specs.CodeBodies.{framed};
 
 use dj_entries::PoolBuilder;
-use dj_ops::{Form, Frame as OpsFrame, Frames, NoMemory as OpsNoMemory, VType, VTypes};
+use dj_ops::{Form, Frame as OpsFrame, Frames, VType, VTypes};
 use dj_pool::NoMemory;
 use dj_source::{Frame, FrameType, Line, MethodLabels, SimpleType};
 use std::alloc::Global;
@@ -48,7 +48,7 @@ fn types_of(
     labels: &MethodLabels<'_, '_>,
     pool: &PoolBuilder,
     list: &[FrameType<'_>],
-) -> Result<VTypes, OpsNoMemory>
+) -> Result<VTypes, NoMemory>
     ensures { IfOk result (λ types. types ≡ map (type_of (places_of (found_index pool.now) labels.now)) (map type_view list.now)) }
 {
     let mut types = VTypes::new(alloc);
@@ -64,7 +64,7 @@ fn form_of(
     labels: &MethodLabels<'_, '_>,
     pool: &PoolBuilder,
     frame: &Frame<'_>,
-) -> Result<Form, OpsNoMemory>
+) -> Result<Form, NoMemory>
     ensures { IfOk result (λ form. form ≡ form_of (places_of (found_index pool.now) labels.now) (frame_view frame.now)) }
 {
     match frame {
@@ -91,7 +91,7 @@ fn push_line(
     pool: &PoolBuilder,
     number: u32,
     line: &Line<'_>,
-) -> Result<(), OpsNoMemory>
+) -> Result<(), NoMemory>
     ensures { IfOk result (λ x. frames.new ≡ frames.old ++ framed (places_of (found_index pool.now) labels.now) number (line_view line.now)) }
 {
     match line {
@@ -156,7 +156,7 @@ pub(crate) fn frames_of(
     lines: &[Line<'_>],
     labels: &MethodLabels<'_, '_>,
     pool: &PoolBuilder,
-) -> Result<Frames, OpsNoMemory>
+) -> Result<Frames, NoMemory>
     requires { length lines.now < 2 ^ 32 }
     ensures { IfOk result (λ frames. frames ≡ frames_in (places_of (found_index pool.now) labels.now) 0 (map line_view lines.now)) }
 {

@@ -19,7 +19,7 @@ ghost use Rattle.dj_asm.specs.CodeBodies.{IsAlone, IsOfPool, IsProperIn, AreProp
 
 use dj_entries::PoolBuilder;
 use dj_names::{read_desc, slots};
-use dj_ops::{Instr, Instrs, NoMemory as OpsNoMemory, Pairs, Targets};
+use dj_ops::{Instr, Instrs, Pairs, Targets};
 use dj_pool::NoMemory;
 use dj_source::{Line, MethodLabels, Operation, Pair, Word};
 use std::alloc::Global;
@@ -36,7 +36,7 @@ fn targets_of(
     alloc: Global,
     labels: &MethodLabels<'_, '_>,
     words: &[Word<'_>],
-) -> Result<Targets, OpsNoMemory>
+) -> Result<Targets, NoMemory>
     ensures { IfOk result (λ targets. targets ≡ map (λ (label : Label). pos (label_number labels.now label)) (map units_of words.now)) }
 {
     let mut targets = Targets::new(alloc);
@@ -51,7 +51,7 @@ fn pairs_of(
     alloc: Global,
     labels: &MethodLabels<'_, '_>,
     list: &[Pair<'_>],
-) -> Result<Pairs, OpsNoMemory>
+) -> Result<Pairs, NoMemory>
     ensures { IfOk result (λ pairs. pairs ≡ map (λ (pair : ℤ × Label). (pair.0, pos (label_number labels.now pair.1))) (map pair_view list.now)) }
 {
     let mut pairs = Vec::new(alloc);

@@ -15,21 +15,21 @@ use Rattle.dj_bytes.proofs.Numbers.{u2_reads}
 use Rattle.dj_bytes.proofs.Parts.{many_stops, many_halt}
 
 pub record Refuses {B E : Type 0} (part : Cursor → Result B E) (Fault : Cursor → E → Type 0) : Type 0 where
-  pub tells : (c : Cursor) (e : E) → IsBytes c.rest → part c ≡ Err e → Fault c e
+  pub says : (c : Cursor) (e : E) → IsBytes c.rest → part c ≡ Err e → Fault c e
   pub again : (c : Cursor) (e : E) → Fault c e → part c ≡ Err e
 
 -- the same law, with the fault in other words
-pub Refuses-told : {B E : Type 0} {part : Cursor → Result B E} {F G : Cursor → E → Type 0} → Refuses part F
+pub Refuses-reported : {B E : Type 0} {part : Cursor → Result B E} {F G : Cursor → E → Type 0} → Refuses part F
     → ((c : Cursor) (e : E) → F c e → G c e) → ((c : Cursor) (e : E) → G c e → F c e) → Refuses part G
-Refuses-told refuses to from = record {
-  tells = λ c e fits h. to c e (refuses.tells c e fits h);
+Refuses-reported refuses to from = record {
+  says = λ c e fits h. to c e (refuses.says c e fits h);
   again = λ c e fault. refuses.again c e (from c e fault);
 }
 
 -- the same law, with the reader in other words
 pub Refuses-same : {B E : Type 0} {part other : Cursor → Result B E} {F : Cursor → E → Type 0} → ((c : Cursor) → part c ≡ other c) → Refuses other F → Refuses part F
 Refuses-same same refuses = record {
-  tells = λ c e fits h. refuses.tells c e fits (sym (same c) ∙ h);
+  says = λ c e fits h. refuses.says c e fits (sym (same c) ∙ h);
   again = λ c e fault. same c ∙ refuses.again c e fault;
 }
 
@@ -45,23 +45,23 @@ after-Spans c text rest h = record { parts = h; place = refl }
 
 bytes_refuse : (n : ℕ) → Refuses (bytes_at n) (IsCut (λ (place : ℕ). record { 0 = place }) n)
 bytes_refuse n = record {
-  tells = λ c e fits h. cond_either _ _ _ h (λ t r. record { short = ltb-true _ _ t; told = cc }) (λ t r. absurd cc);
-  again = λ c e fault. cond_true _ (lt-ltb _ _ fault.short) (ap (λ (x : Cut). Err x) (sym fault.told));
+  says = λ c e fits h. cond_either _ _ _ h (λ t r. record { short = ltb-true _ _ t; reported = cc }) (λ t r. absurd cc);
+  again = λ c e fault. cond_true _ (lt-ltb _ _ fault.short) (ap (λ (x : Cut). Err x) (sym fault.reported));
 }
 
 cut_lifted : {E : Type 0} (cut : ℕ → E) (n : ℕ) → {B : Type 0} (part : Cursor → Result B Cut) → Refuses part (IsCut (λ (place : ℕ). record { 0 = place }) n) → Refuses (λ c. lifted (λ (x : Cut). cut x.0) (part c)) (IsCut cut n)
 cut_lifted cut n part refuses = record {
-  tells = λ c e fits h.
+  says = λ c e fits h.
       let d = lifted_err h in
-      let f = refuses.tells c d.0 fits d.1 in
-      record { short = f.short; told = sym d.2 ∙ ap (λ (x : Cut). cut x.0) f.told };
+      let f = refuses.says c d.0 fits d.1 in
+      record { short = f.short; reported = sym d.2 ∙ ap (λ (x : Cut). cut x.0) f.reported };
   again = λ c e fault.
-      ap (lifted (λ (x : Cut). cut x.0)) (refuses.again c (record { 0 = c.place }) (record { short = fault.short; told = refl })) ∙ ap (λ x. Err x) (sym fault.told);
+      ap (lifted (λ (x : Cut). cut x.0)) (refuses.again c (record { 0 = c.place }) (record { short = fault.short; reported = refl })) ∙ ap (λ x. Err x) (sym fault.reported);
 }
 
 number_refuses : (w : _) → Refuses (number_at w) (IsCut (λ (place : ℕ). record { 0 = place }) (byte_len w))
 number_refuses w = record {
-  tells = λ c e fits h. bind_err h (λ r. (bytes_refuse (byte_len w)).tells c e fits r) (λ x r k. absurd cc);
+  says = λ c e fits h. bind_err h (λ r. (bytes_refuse (byte_len w)).says c e fits r) (λ x r k. absurd cc);
   again = λ c e fault. bind_fails _ ((bytes_refuse (byte_len w)).again c e fault);
 }
 
@@ -85,11 +85,11 @@ u8_refuses cut = cut_lifted cut 8 (number_at w64) (number_refuses w64)
 pub refuses_then : {A B E : Type 0} {part : Cursor → Result (A × Cursor) E} {bytes_of : A → List ℕ} {P : A → Type 0} {F : Cursor → E → Type 0} {Later : A → Cursor → E → Type 0} (k : A × Cursor → Result B E)
     → Reads part bytes_of P → Refuses part F → ((x : A) → P x → Refuses (λ c. k (x, c)) (Later x)) → Refuses (λ c. part c >>= k) (InTurn F bytes_of P Later)
 refuses_then {A} {B} {E} {part} {bytes_of} {P} {F} {Later} k reads refuses later = record {
-  tells = λ c e fits h. bind_err h
-      (λ r. inl (refuses.tells c e fits r))
+  says = λ c e fits h. bind_err h
+      (λ r. inl (refuses.says c e fits r))
       (λ x r g.
       let t = reads.takes c x fits r in
-      let fault = (later x.0 t.1).tells x.1 e (IsBytes-Spans t.0 fits) g in
+      let fault = (later x.0 t.1).says x.1 e (IsBytes-Spans t.0 fits) g in
       inr (record { value = x.0; rest = x.1.rest; parts = t.0.parts; good = t.1; fault = subst (λ (m : Cursor). Later x.0 m e) (Spans-after t.0) fault }));
   again = λ c e fault. elim fault as (λ _. (part c >>= k) ≡ Err e) [
     | inl f ↦ bind_fails _ (refuses.again c e f)
@@ -100,14 +100,14 @@ refuses_then {A} {B} {E} {part} {bytes_of} {P} {F} {Later} k reads refuses later
 -- nothing that follows fails
 pub refuses_last : {A B E : Type 0} {part : Cursor → Result A E} {F : Cursor → E → Type 0} (k : A → B) → Refuses part F → Refuses (λ c. part c >>= λ x. Ok (k x)) F
 refuses_last k refuses = record {
-  tells = λ c e fits h. bind_err h (λ r. refuses.tells c e fits r) (λ x r g. absurd cc);
+  says = λ c e fits h. bind_err h (λ r. refuses.says c e fits r) (λ x r g. absurd cc);
   again = λ c e fault. bind_fails _ (refuses.again c e fault);
 }
 
 pub lifted_refuses : {B D E : Type 0} {part : Cursor → Result B D} {F : Cursor → D → Type 0} (up : D → E) → Refuses part F → Refuses (λ c. lifted up (part c)) (IsLifted up F)
 lifted_refuses up refuses = record {
-  tells = λ c e fits h. let d = lifted_err h in record { part = d.0; fault = refuses.tells c d.0 fits d.1; told = sym d.2 };
-  again = λ c e fault. ap (lifted up) (refuses.again c fault.part fault.fault) ∙ ap (λ x. Err x) (sym fault.told);
+  says = λ c e fits h. let d = lifted_err h in record { part = d.0; fault = refuses.says c d.0 fits d.1; reported = sym d.2 };
+  again = λ c e fault. ap (lifted up) (refuses.again c fault.part fault.fault) ∙ ap (λ x. Err x) (sym fault.reported);
 }
 
 -- ---- many parts, and tables
@@ -115,12 +115,12 @@ lifted_refuses up refuses = record {
 pub many_refuses : {A E : Type 0} {part : Cursor → Result (A × Cursor) E} {bytes_of : A → List ℕ} {P : A → Type 0} {F : Cursor → E → Type 0}
     → Reads part bytes_of P → Refuses part F → (n : ℕ) → Refuses (many_at part n) (IsAmong bytes_of P F n)
 many_refuses {A} {E} {part} {bytes_of} {P} {F} reads refuses n = record {
-  tells = λ c e fits h.
+  says = λ c e fits h.
       let s = many_stops reads n c e fits h in
-      record { front = s.front; rest = s.mid.rest; parts = s.spans.parts; good = s.good; fewer = s.within; fault = subst (λ (m : Cursor). F m e) (Spans-after s.spans) (refuses.tells s.mid e s.fits s.failed) };
+      record { prefix = s.prefix; rest = s.mid.rest; parts = s.spans.parts; good = s.good; fewer = s.within; fault = subst (λ (m : Cursor). F m e) (Spans-after s.spans) (refuses.says s.mid e s.fits s.failed) };
   again = λ c e f.
-      let mid : Cursor = after c (flat_map bytes_of f.front) f.rest in
-      many_halt reads n c mid f.front e f.fewer f.good (after-Spans c (flat_map bytes_of f.front) f.rest f.parts) (refuses.again mid e f.fault);
+      let mid : Cursor = after c (flat_map bytes_of f.prefix) f.rest in
+      many_halt reads n c mid f.prefix e f.fewer f.good (after-Spans c (flat_map bytes_of f.prefix) f.rest f.parts) (refuses.again mid e f.fault);
 }
 
 pub table_refuses : {A E : Type 0} (cut : ℕ → E) {part : Cursor → Result (A × Cursor) E} {bytes_of : A → List ℕ} {P : A → Type 0} {F : Cursor → E → Type 0}
@@ -139,24 +139,24 @@ pub guard_refuses : {A E : Type 0} {part : Cursor → Result (A × Cursor) E} {b
     → Reads part bytes_of P → Refuses part F → ((x : A) → test x ≡ true → Allowed x) → ((x : A) → Allowed x → test x ≡ true)
     → Refuses (λ c. part c >>= λ x. cond (test x.0) (Ok x) (Err (denied c.place))) (λ c e. F c e ⊎ IsDenied bytes_of P Allowed denied c e)
 guard_refuses {A} {E} {part} {bytes_of} {P} {F} test Allowed denied reads refuses to from = record {
-  tells = λ c e fits h. bind_err h
-      (λ r. inl (refuses.tells c e fits r))
+  says = λ c e fits h. bind_err h
+      (λ r. inl (refuses.says c e fits r))
       (λ x r g. cond_either (test x.0) _ _ g (λ t k. absurd cc) (λ t k.
       let s = reads.takes c x fits r in
-      inr (record { value = x.0; rest = x.1.rest; parts = s.0.parts; item = s.1; wrong = λ allowed. (let yes = from x.0 allowed in absurd cc); told = cc })));
+      inr (record { value = x.0; rest = x.1.rest; parts = s.0.parts; item = s.1; wrong = λ allowed. (let yes = from x.0 allowed in absurd cc); reported = cc })));
   again = λ c e fault. elim fault as (λ _. (part c >>= λ x. cond (test x.0) (Ok x) (Err (denied c.place))) ≡ Err e) [
     | inl f ↦ bind_fails _ (refuses.again c e f)
     | inr f ↦ (
         let next : Cursor = after c (bytes_of f.value) f.rest in
         let read = reads.again c f.value next f.item (after-Spans c (bytes_of f.value) f.rest f.parts) in
         let no = untrue (test f.value) (λ yes. f.wrong (to f.value yes)) in
-        bind_again _ read (cond_false _ no (ap (λ x. Err x) (sym f.told))))
+        bind_again _ read (cond_false _ no (ap (λ x. Err x) (sym f.reported))))
   ];
 }
 
 -- nothing was to come
 pub end_refuses : {A E : Type 0} (left : ℕ → E) (x : A) → Refuses (λ c. cond (at_end c) (Ok x) (Err (left c.place))) (IsLeft left)
 end_refuses left x = record {
-  tells = λ c e fits h. cond_either (at_end c) _ _ h (λ t r. absurd cc) (λ t r. record { some = λ none. (let yes : at_end c ≡ true = eq-eqb _ _ (ap length none) in absurd cc); told = cc });
-  again = λ c e fault. cond_false _ (untrue (at_end c) (λ yes. fault.some (nil_from_length c.rest (eqb-true _ _ yes)))) (ap (λ x. Err x) (sym fault.told));
+  says = λ c e fits h. cond_either (at_end c) _ _ h (λ t r. absurd cc) (λ t r. record { some = λ none. (let yes : at_end c ≡ true = eq-eqb _ _ (ap length none) in absurd cc); reported = cc });
+  again = λ c e fault. cond_false _ (untrue (at_end c) (λ yes. fault.some (nil_from_length c.rest (eqb-true _ _ yes)))) (ap (λ x. Err x) (sym fault.reported));
 }

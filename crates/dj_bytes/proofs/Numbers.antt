@@ -25,10 +25,10 @@ bytes_reads n = record {
       (subst₂ (λ (t : List ℕ) (m : Cursor). Spans c t m) t-is next-is made, ap length (sym t-is) ∙ len));
   again = λ c x next good s.
       let long : ltb (length c.rest) n ≡ false = le-ltb _ _ (omega (arith, ap length s.parts, length-append x next.rest)) in
-      let front : take n c.rest ≡ x = ap (take n) s.parts ∙ take_at x next.rest n good in
+      let prefix : take n c.rest ≡ x = ap (take n) s.parts ∙ take_at x next.rest n good in
       let back : drop n c.rest ≡ next.rest = ap (drop n) s.parts ∙ drop_at x next.rest n good in
       let here : c.place + n ≡ next.place = omega (arith, s.place) in
-      let made : Ok (take n c.rest, record { place = c.place + n; rest = drop n c.rest }) ≡ Ok (x, next) = ap₂ (λ (t : List ℕ) (m : Cursor). Ok (t, m)) front (ap₂ (λ (p : ℕ) (r : List ℕ). record { place = p; rest = r }) here back) in
+      let made : Ok (take n c.rest, record { place = c.place + n; rest = drop n c.rest }) ≡ Ok (x, next) = ap₂ (λ (t : List ℕ) (m : Cursor). Ok (t, m)) prefix (ap₂ (λ (p : ℕ) (r : List ℕ). record { place = p; rest = r }) here back) in
       cond_false _ long made;
 }
 
@@ -88,8 +88,8 @@ number_reads w limit wide = record {
       let few : IsBytes s.0.0 = IsBytes-before s.0.0 s.0.1.rest (subst IsBytes t.0.parts fits) in
       let n-is : from_be_bytes w s.0.0 ≡ x.0 = cc (s.2) in
       let next-is : s.0.1 ≡ x.1 = cc (s.2) in
-      let front : s.0.0 ≡ to_be_bytes w x.0 = sym (wide.back s.0.0 t.1 few) ∙ ap (to_be_bytes w) n-is in
-      (subst₂ (λ (t : List ℕ) (m : Cursor). Spans c t m) front next-is t.0, subst (λ (k : ℕ). k < limit) n-is (wide.below s.0.0 few));
+      let prefix : s.0.0 ≡ to_be_bytes w x.0 = sym (wide.back s.0.0 t.1 few) ∙ ap (to_be_bytes w) n-is in
+      (subst₂ (λ (t : List ℕ) (m : Cursor). Spans c t m) prefix next-is t.0, subst (λ (k : ℕ). k < limit) n-is (wide.below s.0.0 few));
   again = λ c n next lt s.
       bind_again _ ((bytes_reads (byte_len w)).again c (to_be_bytes w n) next (wide.len n) s) (ap (λ (k : ℕ). Ok (k, next)) (wide.again n lt));
 }

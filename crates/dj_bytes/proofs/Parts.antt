@@ -64,11 +64,11 @@ table_reads cut {part} {bytes_of} {P} reads = record { takes = table_takes cut p
 
 -- after fewer good parts than this many, the next part fails
 pub record Stops {A E : Type 0} (part : Cursor → Result (A × Cursor) E) (bytes_of : A → List ℕ) (IsGood : A → Type 0) (n : ℕ) (c : Cursor) (e : E) : Type 0 where
-  pub front : List A
+  pub prefix : List A
   pub mid : Cursor
-  pub spans : Spans c (flat_map bytes_of front) mid
-  pub good : AllByRecursion IsGood front
-  pub within : length front < n
+  pub spans : Spans c (flat_map bytes_of prefix) mid
+  pub good : AllByRecursion IsGood prefix
+  pub within : length prefix < n
   pub fits : IsBytes mid.rest
   pub failed : part mid ≡ Err e
 
@@ -78,19 +78,19 @@ unfolding many_at
 many_stops reads zero c e fits h = absurd cc
 many_stops reads (suc n) c e fits h =
     bind_err h
-    (λ r. record { front = []; mid = c; spans = Spans-none c; good = tt; within = omega arith; fits = fits; failed = r })
+    (λ r. record { prefix = []; mid = c; spans = Spans-none c; good = tt; within = omega arith; fits = fits; failed = r })
     (λ first r h.
     let t = reads.takes c first fits r in
     bind_err h
     (λ r. let s = many_stops reads n first.1 e (IsBytes-Spans t.0 fits) r in
-    record { front = first.0 ∷ s.front; mid = s.mid; spans = Spans-then t.0 s.spans; good = (t.1, s.good); within = omega (arith, s.within); fits = s.fits; failed = s.failed })
+    record { prefix = first.0 ∷ s.prefix; mid = s.mid; spans = Spans-then t.0 s.spans; good = (t.1, s.good); within = omega (arith, s.within); fits = s.fits; failed = s.failed })
     (λ others r h. absurd cc))
 
-pub many_halt : {A E : Type 0} {part : Cursor → Result (A × Cursor) E} {bytes_of : A → List ℕ} {P : A → Type 0} → Reads part bytes_of P → (n : ℕ) (c mid : Cursor) (front : List A) (e : E)
-    → length front < n → AllByRecursion P front → Spans c (flat_map bytes_of front) mid → part mid ≡ Err e → many_at part n c ≡ Err e
+pub many_halt : {A E : Type 0} {part : Cursor → Result (A × Cursor) E} {bytes_of : A → List ℕ} {P : A → Type 0} → Reads part bytes_of P → (n : ℕ) (c mid : Cursor) (prefix : List A) (e : E)
+    → length prefix < n → AllByRecursion P prefix → Spans c (flat_map bytes_of prefix) mid → part mid ≡ Err e → many_at part n c ≡ Err e
 unfolding many_at
-many_halt reads zero c mid front e within good s failed = absurd (omega (arith, within))
+many_halt reads zero c mid prefix e within good s failed = absurd (omega (arith, within))
 many_halt {part} reads (suc n) c mid [] e within good s failed = bind_fails _ (ap part (Spans-stay s) ∙ failed)
-many_halt {bytes_of} reads (suc n) c mid (x ∷ front) e within good s failed =
-    let first = step_again reads c x (flat_map bytes_of front) mid good.0 s in
-    bind_again _ first.1 (bind_fails _ (many_halt reads n first.0 mid front e (omega (arith, within)) good.1 first.2 failed))
+many_halt {bytes_of} reads (suc n) c mid (x ∷ prefix) e within good s failed =
+    let first = step_again reads c x (flat_map bytes_of prefix) mid good.0 s in
+    bind_again _ first.1 (bind_fails _ (many_halt reads n first.0 mid prefix e (omega (arith, within)) good.1 first.2 failed))

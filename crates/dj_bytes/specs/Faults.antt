@@ -12,7 +12,7 @@ after c bytes rest = record { place = c.place + length bytes; rest = rest }
 -- an item of this many bytes begins here, and not all of them are there
 pub record IsCut {E : Type 0} (cut : ℕ → E) (n : ℕ) (c : Cursor) (e : E) : Type 0 where
   pub short : length c.rest < n
-  pub told : e ≡ cut c.place
+  pub reported : e ≡ cut c.place
 
 -- an item begins here, all of it is there, and its place does not allow its value
 pub record IsDenied {A E : Type 0} (bytes_of : A → List ℕ) (IsItem : A → Type 0) (IsAllowed : A → Type 0) (denied : ℕ → E) (c : Cursor) (e : E) : Type 0 where
@@ -21,7 +21,7 @@ pub record IsDenied {A E : Type 0} (bytes_of : A → List ℕ) (IsItem : A → T
   pub parts : c.rest ≡ bytes_of value ++ rest
   pub item : IsItem value
   pub wrong : IsAllowed value → ⊥
-  pub told : e ≡ denied c.place
+  pub reported : e ≡ denied c.place
 
 -- a part begins here, whole and good, and what follows it is faulty
 pub record IsAfter {A E : Type 0} (bytes_of : A → List ℕ) (IsGood : A → Type 0) (Fault : A → Cursor → E → Type 0) (c : Cursor) (e : E) : Type 0 where
@@ -33,12 +33,12 @@ pub record IsAfter {A E : Type 0} (bytes_of : A → List ℕ) (IsGood : A → Ty
 
 -- good parts begin here, fewer than this many, and the next is faulty
 pub record IsAmong {A E : Type 0} (bytes_of : A → List ℕ) (IsGood : A → Type 0) (Fault : Cursor → E → Type 0) (n : ℕ) (c : Cursor) (e : E) : Type 0 where
-  pub front : List A
+  pub prefix : List A
   pub rest : List ℕ
-  pub parts : c.rest ≡ flat_map bytes_of front ++ rest
-  pub good : AllByRecursion IsGood front
-  pub fewer : length front < n
-  pub fault : Fault (after c (flat_map bytes_of front) rest) e
+  pub parts : c.rest ≡ flat_map bytes_of prefix ++ rest
+  pub good : AllByRecursion IsGood prefix
+  pub fewer : length prefix < n
+  pub fault : Fault (after c (flat_map bytes_of prefix) rest) e
 
 -- a part is faulty, or it is good and what follows it is faulty
 abbrev pub InTurn : {A E : Type 0} → (Cursor → E → Type 0) → (A → List ℕ) → (A → Type 0) → (A → Cursor → E → Type 0) → Cursor → E → Type 0
@@ -64,9 +64,9 @@ InTable cut bytes_of IsGood Fault = InTurn (IsCut cut 2) u2 Fits2 (IsAmong bytes
 pub record IsLifted {D E : Type 0} (up : D → E) (Fault : Cursor → D → Type 0) (c : Cursor) (e : E) : Type 0 where
   pub part : D
   pub fault : Fault c part
-  pub told : e ≡ up part
+  pub reported : e ≡ up part
 
 -- nothing else was to come, and these bytes are left
 pub record IsLeft {E : Type 0} (left : ℕ → E) (c : Cursor) (e : E) : Type 0 where
   pub some : c.rest ≡ [] → ⊥
-  pub told : e ≡ left c.place
+  pub reported : e ≡ left c.place

@@ -56,9 +56,9 @@ impl<'a> Cursor<'a> {
         if self.rest.len() < len as usize {
             return Err(Cut(self.place));
         }
-        let (front, rest) = self.rest.split_at(len as usize);
+        let (prefix, rest) = self.rest.split_at(len as usize);
         Ok((
-            front,
+            prefix,
             Cursor {
                 rest,
                 place: self.place + len,

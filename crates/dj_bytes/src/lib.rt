@@ -2,5 +2,7 @@
 #![tactic(auto)]
 
 mod cursor;
+mod memory;
 
 pub use cursor::{Cursor, Cut};
+pub use memory::NoMemory;

@@ -79,8 +79,8 @@ below_is boxed lists a b fill same first second =
     mapped_is (is_subtype (few_program boxed) (few_prefix boxed) (type_at (few_types boxed) a)) (few_types boxed) row b (get_or row b false) (row_is boxed lists a fill same first) second
     (slice_get-get_or row b false (row_within boxed lists a b fill same first second))
 
-pub told_at : {A : Type 0} (P : ℕ → A → Type 0) (items : List A) (k count : ℕ) (fill : A) → AllAt P items → length items ≡ count → k < count → P k (get_or items k fill)
-told_at P items k count fill all long less = all_at P items k (get_or items k fill) all (slice_get-get_or items k fill (omega (arith, long, less)))
+pub reported_at : {A : Type 0} (P : ℕ → A → Type 0) (items : List A) (k count : ℕ) (fill : A) → AllAt P items → length items ≡ count → k < count → P k (get_or items k fill)
+reported_at P items k count fill all long less = all_at P items k (get_or items k fill) all (slice_get-get_or items k fill (omega (arith, long, less)))
 
 -- ---- laws
 

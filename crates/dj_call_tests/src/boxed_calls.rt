@@ -2,8 +2,8 @@ use crate::calls::are_done;
 use crate::few::Few;
 use crate::rows::After::Any;
 use crate::rows::Argument::{Int, Null, Numbers, Object, References};
+use crate::rows::Reported::{GivesInt, GivesText, Nothing, Stops};
 use crate::rows::Row;
-use crate::rows::Told::{GivesInt, GivesText, Nothing, Stops};
 use dj_names::Element;
 use dj_names::NativeId::{
     CheckCatch, ObjectHashCode, ObjectToString, RecordAllocation, RecordArray, RecordInvocation,

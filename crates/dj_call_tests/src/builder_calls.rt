@@ -2,7 +2,7 @@ use crate::calls::{are_done, are_kept};
 use crate::few::Few;
 use crate::rows::After::FirstIs;
 use crate::rows::Argument::{Builder, Int, Long, Null, Text};
-use crate::rows::Told::{Full, GivesInt, GivesObject, GivesText, Nothing, Raises, Stops};
+use crate::rows::Reported::{Full, GivesInt, GivesObject, GivesText, Nothing, Raises, Stops};
 use crate::rows::{Kept, Row};
 use dj_names::NativeId::{
     BuilderAppendBoolean, BuilderAppendChar, BuilderAppendInt, BuilderAppendLong,

@@ -3,7 +3,7 @@ use crate::arguments::{units, values_of};
 use crate::few::Few;
 use crate::heaps::{are_elements, field, is_of_class, is_text};
 use crate::known::are_known;
-use crate::rows::{After, Asked, ENOUGH, Kept, Made, Row, Text, Told};
+use crate::rows::{After, Asked, ENOUGH, Kept, Made, Reported, Row, Text};
 use crate::taken::are_arguments;
 use dj_calls::{Accounter, NativeAnswer, call_native};
 use dj_heap::Heap;
@@ -32,12 +32,13 @@ fn is_object(few: &Few, heap: &Heap, r: u32, class: &[u8]) -> bool {
 }
 
 // Whether this object is the expected one.
-fn is_reference(alloc: Global, few: &Few, heap: &Heap, given: u32, told: &Told) -> bool {
-    match told {
-        Told::GivesNull => given == 0,
-        Told::GivesText(r, text) => given == *r && is_text_object(alloc, few, heap, given, text),
-        Told::GivesObject(r, class) => given == *r && is_object(few, heap, given, class),
-        Told::GivesChars(r, elements) => {
+fn is_reference(alloc: Global, few: &Few, heap: &Heap, given: u32, reported: &Reported) -> bool {
+    match reported {
+        Reported::GivesNull => given == 0,
+        Reported::GivesText(r, text) => given == *r
+            && is_text_object(alloc, few, heap, given, text),
+        Reported::GivesObject(r, class) => given == *r && is_object(few, heap, given, class),
+        Reported::GivesChars(r, elements) => {
             given == *r
                 && is_of_class(heap, given, few.chars())
                 && are_elements(heap, given, elements)
@@ -46,23 +47,30 @@ fn is_reference(alloc: Global, few: &Few, heap: &Heap, given: u32, told: &Told) 
     }
 }
 
-fn is_value(alloc: Global, few: &Few, heap: &Heap, value: Value, told: &Told) -> bool {
+fn is_value(alloc: Global, few: &Few, heap: &Heap, value: Value, reported: &Reported) -> bool {
     match value {
-        Value::Int(z) => matches!(told, Told::GivesInt(int) if *int == z),
-        Value::Long(z) => matches!(told, Told::GivesLong(long) if *long == z),
-        Value::Ref(r) => is_reference(alloc, few, heap, r, told),
+        Value::Int(z) => matches!(reported, Reported::GivesInt(int) if *int == z),
+        Value::Long(z) => matches!(reported, Reported::GivesLong(long) if *long == z),
+        Value::Ref(r) => is_reference(alloc, few, heap, r, reported),
     }
 }
 
 // Whether the answer is the expected one.
-fn is_told(alloc: Global, few: &Few, heap: &Heap, answer: NativeAnswer, told: &Told) -> bool {
+fn is_reported(
+    alloc: Global,
+    few: &Few,
+    heap: &Heap,
+    answer: NativeAnswer,
+    reported: &Reported,
+) -> bool {
     match answer {
-        NativeAnswer::Nothing => matches!(told, Told::Nothing),
-        NativeAnswer::Gives(value) => is_value(alloc, few, heap, value, told),
-        NativeAnswer::Raise(raised) => matches!(told, Told::Raises(other) if *other == raised),
-        NativeAnswer::Stop => matches!(told, Told::Stops),
+        NativeAnswer::Nothing => matches!(reported, Reported::Nothing),
+        NativeAnswer::Gives(value) => is_value(alloc, few, heap, value, reported),
+        NativeAnswer::Raise(raised) =>
+            matches!(reported, Reported::Raises(other) if *other == raised),
+        NativeAnswer::Stop => matches!(reported, Reported::Stops),
         NativeAnswer::Full { used, size } => {
-            matches!(told, Told::Full(bytes, wanted) if *bytes == used && *wanted == size)
+            matches!(reported, Reported::Full(bytes, wanted) if *bytes == used && *wanted == size)
         }
         NativeAnswer::Memory => false,
     }
@@ -136,7 +144,7 @@ fn does(alloc: Global, few: &Few, row: &Row) -> Option<bool> {
     let before = heap.used();
     let (answer, bytes) = charged(alloc, few, &mut heap, most, row.0, &values)?;
     Some(
-        is_told(alloc, few, &heap, answer, &row.3)
+        is_reported(alloc, few, &heap, answer, &row.3)
             && (before, heap.used()) == row.4
             && bytes == row.5
             && is_after(alloc, &heap, &row.6),
@@ -149,12 +157,12 @@ fn is_done(alloc: Global, few: &Few, row: &Row) -> bool {
 
 // With enough of all.
 fn is_kept(alloc: Global, few: &Few, row: &Kept) -> bool {
-    let (id, arguments, told, used, after) = *row;
+    let (id, arguments, reported, used, after) = *row;
     let charged = used.1.saturating_sub(used.0);
     is_done(
         alloc,
         few,
-        &(id, ENOUGH, arguments, told, used, charged, after),
+        &(id, ENOUGH, arguments, reported, used, charged, after),
     )
 }
 

@@ -2,7 +2,7 @@ use crate::calls::{are_asked, are_kept};
 use crate::few::Few;
 use crate::rows::After::ElementsAre;
 use crate::rows::Argument::{Int, Null, Numbers, Object, References, Same, Text};
-use crate::rows::Told::{Nothing, Raises};
+use crate::rows::Reported::{Nothing, Raises};
 use crate::rows::{Asked, Kept};
 use dj_names::NativeId::ArrayCopy;
 use dj_names::{Element, Raised};

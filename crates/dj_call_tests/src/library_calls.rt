@@ -2,7 +2,7 @@ use crate::calls::{are_asked, are_done, are_kept, are_made};
 use crate::few::Few;
 use crate::rows::After::{Any, FieldsAre};
 use crate::rows::Argument::{Int, Long, Null, Numbers, Object, References, Same, Text, Throwable};
-use crate::rows::Told::{Full, GivesInt, GivesLong, GivesNull, GivesText, Nothing, Stops};
+use crate::rows::Reported::{Full, GivesInt, GivesLong, GivesNull, GivesText, Nothing, Stops};
 use crate::rows::{Asked, Kept, Made, Row};
 use dj_names::Element;
 use dj_names::NativeId::{

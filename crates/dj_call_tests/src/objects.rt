@@ -200,7 +200,7 @@ fn casts(alloc: Global, heap: &Heap, r: u32, class: u32) -> Option<Went>
     }
 }
 
-fn told(alloc: Global, heap: &Heap, r: u32, class: u32) -> Option<Value>
+fn reported(alloc: Global, heap: &Heap, r: u32, class: u32) -> Option<Value>
     requires numbered { AreNumbered (length (few_types false)) heap.now.heap }
     requires known { class < length (few_types false) }
 {
@@ -266,7 +266,7 @@ fn is_cast(alloc: Global, row: &CastRow) -> Option<bool> {
     let instance = i32::from(row.2 && r != 0);
     Some(
         casts(alloc, &heap, r, class)? == cast
-            && told(alloc, &heap, r, class)? == Value::Int(instance)
+            && reported(alloc, &heap, r, class)? == Value::Int(instance)
             && is_thrown(thrown(alloc, &heap, r, class)?, r, row.2),
     )
 }

@@ -2,7 +2,7 @@ use crate::calls::{are_asked, are_done, are_made};
 use crate::few::Few;
 use crate::rows::After::Any;
 use crate::rows::Argument::{Int, Long, Null, Numbers, Same, Text};
-use crate::rows::Told::{Full, GivesChars, GivesText, Raises, Stops};
+use crate::rows::Reported::{Full, GivesChars, GivesText, Raises, Stops};
 use crate::rows::{Asked, Made, Row};
 use dj_names::NativeId::{
     StringConcat, StringSubstring, StringSubstringFrom, StringToCharArray, StringValueOfBoolean,

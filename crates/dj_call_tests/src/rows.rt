@@ -26,7 +26,7 @@ pub enum Argument {
 
 /// What a call answers.
 #[derive(Clone, Copy)]
-pub enum Told {
+pub enum Reported {
     Nothing,
     GivesInt(i32),
     GivesLong(i64),
@@ -56,20 +56,20 @@ pub enum After {
 }
 
 /// A call that makes nothing: a method, its arguments, the answer, and the bytes that are used before it and after it.
-pub type Asked = (NativeId, &'static [Argument], Told, u64);
+pub type Asked = (NativeId, &'static [Argument], Reported, u64);
 
 /// A call that makes an object: the bytes that are used before it and after it, and what is between them is charged.
-pub type Made = (NativeId, &'static [Argument], Told, (u64, u64));
+pub type Made = (NativeId, &'static [Argument], Reported, (u64, u64));
 
 /// A call after which an object is changed, or is not.
-pub type Kept = (NativeId, &'static [Argument], Told, (u64, u64), After);
+pub type Kept = (NativeId, &'static [Argument], Reported, (u64, u64), After);
 
 /// A call with the threshold of what is allocated, where there is an accounter, and the limit of the heap; the bytes that are used before it and after it, those that are charged, and what an object is then.
 pub type Row = (
     NativeId,
     (Option<u64>, u64),
     &'static [Argument],
-    Told,
+    Reported,
     (u64, u64),
     u64,
     After,

@@ -2,7 +2,7 @@ use crate::calls::{are_asked, are_kept};
 use crate::few::Few;
 use crate::rows::After::FirstIs;
 use crate::rows::Argument::{Builder, Int, Null, Numbers, Object, Same, Text};
-use crate::rows::Told::{GivesInt, GivesText, Raises};
+use crate::rows::Reported::{GivesInt, GivesText, Raises};
 use crate::rows::{Asked, Kept};
 use dj_names::NativeId::{
     StringCharAt, StringCompareTo, StringCompareToObject, StringEquals, StringHashCode,

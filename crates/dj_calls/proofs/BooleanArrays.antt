@@ -65,19 +65,19 @@ module _ (program : Program) (prefix : Prefix) where
   others (suc (suc n)) of z c = deeper bases.Char n of ∙ sym (deeper bases.Boolean n of)
 
 module _ (program : Program) (prefix : Prefix) (types : List Ty) (class : ℕ) (text : Name) where
-  pub booleans_told : class < length types → ArePlain types → text ≡ class_name (type_at types class) → text ≡ codes "[Z"
+  pub booleans_reported : class < length types → ArePlain types → text ≡ class_name (type_at types class) → text ≡ codes "[Z"
       → true ≡ is_subtype program prefix (base_array bases.Boolean) (type_at types class)
-  booleans_told within plain is e = sym (booleans program prefix (type_at types class).dims (type_at types class).of (plain class within) (sym is ∙ e))
+  booleans_reported within plain is e = sym (booleans program prefix (type_at types class).dims (type_at types class).of (plain class within) (sym is ∙ e))
 
-  pub chars_told : class < length types → ArePlain types → text ≡ class_name (type_at types class) → text ≡ codes "[C"
+  pub chars_reported : class < length types → ArePlain types → text ≡ class_name (type_at types class) → text ≡ codes "[C"
       → false ≡ is_subtype program prefix (base_array bases.Boolean) (type_at types class)
-  chars_told within plain is e = sym (chars program prefix (type_at types class).dims (type_at types class).of (plain class within) (sym is ∙ e))
+  chars_reported within plain is e = sym (chars program prefix (type_at types class).dims (type_at types class).of (plain class within) (sym is ∙ e))
 
-  pub others_told : (result : Bool) → text ≡ class_name (type_at types class) → (text ≡ codes "[Z" → ⊥) → (text ≡ codes "[C" → ⊥)
+  pub others_reported : (result : Bool) → text ≡ class_name (type_at types class) → (text ≡ codes "[Z" → ⊥) → (text ≡ codes "[C" → ⊥)
       → result ≡ is_subtype program prefix (base_array bases.Char) (type_at types class)
       → result ≡ is_subtype program prefix (base_array bases.Boolean) (type_at types class)
-  others_told result is z c told =
-      told ∙ others program prefix (type_at types class).dims (type_at types class).of (λ e. z (is ∙ e)) (λ e. c (is ∙ e))
+  others_reported result is z c reported =
+      reported ∙ others program prefix (type_at types class).dims (type_at types class).of (λ e. z (is ∙ e)) (λ e. c (is ∙ e))
 
 -- ---- arrays of chars have a number
 
@@ -86,5 +86,5 @@ chars_within types class at = slice_get_within types class (base_array bases.Cha
 
 pub chars_at : (program : Program) (prefix : Prefix) (types : List Ty) (chars class : ℕ) (result : Bool) → slice_get types chars ≡ Some (base_array bases.Char)
     → result ≡ is_subtype program prefix (type_at types chars) (type_at types class) → result ≡ is_subtype program prefix (base_array bases.Char) (type_at types class)
-chars_at program prefix types chars class result at told =
-    told ∙ ap (λ (ty : Ty). is_subtype program prefix ty (type_at types class)) (ap (λ (o : Option Ty). unwrap_or o (class_type [])) at)
+chars_at program prefix types chars class result at reported =
+    reported ∙ ap (λ (ty : Ty). is_subtype program prefix ty (type_at types class)) (ap (λ (o : Option Ty). unwrap_or o (class_type [])) at)

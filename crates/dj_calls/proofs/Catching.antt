@@ -15,9 +15,9 @@ use Rattle.dj_model.specs.trusted.State.{Terms, Part, Flow, Goes, Next, Catch, g
 use Rattle.dj_model.specs.trusted.Natives.{Rethrows, reference, answer}
 use Rattle.dj_model.specs.trusted.Performing.{class_in, class_at_number, perform}
 use Rattle.dj_model.proofs.MappedHeaps.{object_at_mapped, class_of_mapped}
-use Rattle.dj_natives.specs.Numbered.{type_at, is_number, TellsStop}
+use Rattle.dj_natives.specs.Numbered.{type_at, is_number, SaysStop}
 use Rattle.dj_calls.specs.declared.answer.NativeAnswer.{NativeAnswer}
-use Rattle.dj_calls.specs.declared.answer.NativeAnswer.TheVariants as told
+use Rattle.dj_calls.specs.declared.answer.NativeAnswer.TheVariants as reported
 use Rattle.dj_calls.specs.Counting.{Counter}
 use Rattle.dj_calls.specs.Calls.{typed_heap, terms_of, part_with, effect_with, Acts}
 use Rattle.dj_calls.specs.Known.{AreKnown}
@@ -44,10 +44,10 @@ pub class_known : (types : List Ty) (h : LimitedHeap) (r class : ℕ) → option
 class_known types h r class e known = known_class types h r class (object_in h r) refl e known
 
 pub stop_found : (prefix : Prefix) (types : List Ty) (h : LimitedHeap) (r n class : ℕ) (stop : Option ℕ) → n ≡ r → option_map class_of (object_in h n) ≡ Some class
-    → AreKnown types h → TellsStop types prefix stop → is_number stop class ≡ is_stop prefix (class_at_number (typed_heap types h) r)
-stop_found prefix types h r n class stop same e known tells =
+    → AreKnown types h → SaysStop types prefix stop → is_number stop class ≡ is_stop prefix (class_at_number (typed_heap types h) r)
+stop_found prefix types h r n class stop same e known says =
     sym (ap (λ k. is_stop prefix (class_at_number (typed_heap types h) k)) (sym same)
-    ∙ ap (is_stop prefix) (class_typed types h n class e) ∙ tells class (class_known types h n class e known))
+    ∙ ap (is_stop prefix) (class_typed types h n class e) ∙ says class (class_known types h n class e known))
 
 -- an array is no class that stops the run
 no_stop : (prefix : Prefix) → is_stop prefix (base_array bases.Boolean) ≡ false
@@ -67,27 +67,27 @@ passes_at : (prefix : Prefix) (terms : Terms) (p : Part) (r : ℕ) → is_stop p
 unfolding perform
 passes_at prefix terms p r e = rw e refl
 
-effect_told : (types : List Ty) (h : LimitedHeap) (c : Option Counter) (p : Part) (flow : Flow) → goes (part_with types h c p) flow ≡ effect_with types h c told.Stop p flow
-effect_told types h None p flow = refl
-effect_told types h (Some c) p flow = refl
+effect_reported : (types : List Ty) (h : LimitedHeap) (c : Option Counter) (p : Part) (flow : Flow) → goes (part_with types h c p) flow ≡ effect_with types h c reported.Stop p flow
+effect_reported types h None p flow = refl
+effect_reported types h (Some c) p flow = refl
 
 module _ (program : Program) (prefix : Prefix) (types : List Ty) (h : LimitedHeap) (args : List Value) (known : AreKnown types h) where
-  pub catches : is_stop prefix (class_at_number (typed_heap types h) (reference 0 args)) ≡ true → Acts program prefix types h h natives.CheckCatch args told.Stop
+  pub catches : is_stop prefix (class_at_number (typed_heap types h) (reference 0 args)) ≡ true → Acts program prefix types h h natives.CheckCatch args reported.Stop
   unfolding answer
   catches e = record {
     does = λ c p. native_does program prefix types h c p natives.CheckCatch args (Rethrows (reference 0 args)) refl refl
         ∙ ap Some (catches_at prefix (terms_of h c) (part_with types h c p) (reference 0 args)
-        (ap (λ heap. is_stop prefix (class_at_number heap (reference 0 args))) (heap_of types h c p) ∙ e) ∙ effect_told types h c p (Catch (reference 0 args)));
+        (ap (λ heap. is_stop prefix (class_at_number heap (reference 0 args))) (heap_of types h c p) ∙ e) ∙ effect_reported types h c p (Catch (reference 0 args)));
     heap = refl;
     known = known;
   }
 
-  pub passes_by : is_stop prefix (class_at_number (typed_heap types h) (reference 0 args)) ≡ false → Acts program prefix types h h natives.CheckCatch args told.Nothing
+  pub passes_by : is_stop prefix (class_at_number (typed_heap types h) (reference 0 args)) ≡ false → Acts program prefix types h h natives.CheckCatch args reported.Nothing
   unfolding answer
   passes_by e = record {
     does = λ c p. native_does program prefix types h c p natives.CheckCatch args (Rethrows (reference 0 args)) refl refl
         ∙ ap Some (passes_at prefix (terms_of h c) (part_with types h c p) (reference 0 args)
-        (ap (λ heap. is_stop prefix (class_at_number heap (reference 0 args))) (heap_of types h c p) ∙ e) ∙ effect_told types h c p (Goes Next));
+        (ap (λ heap. is_stop prefix (class_at_number heap (reference 0 args))) (heap_of types h c p) ∙ e) ∙ effect_reported types h c p (Goes Next));
     heap = refl;
     known = known;
   }

@@ -6,8 +6,8 @@ use Rattle.dj_names.specs.declared.run.Thresholds.{Thresholds}
 use Rattle.dj_model.specs.trusted.State.{Account}
 use Rattle.dj_model.specs.trusted.Charging as model
 use Rattle.dj_model.specs.trusted.Charging.{Fine, Over, added, passes, charge_one}
-use Rattle.dj_model.specs.Laws.{IsToldBy}
-use Rattle.dj_model.proofs.Fits.{ChargedTold, charge_told}
+use Rattle.dj_model.specs.Laws.{IsReportedBy}
+use Rattle.dj_model.proofs.Fits.{ChargedReported, charge_reported}
 use Rattle.dj_calls.specs.declared.accounter.Charged.TheVariants as charged
 use Rattle.dj_calls.specs.Counting.{Counter, AreLow, Adds}
 
@@ -41,29 +41,29 @@ adds_over limits c now exceeded charge n none sum e = rw (none, sum) (record { l
 
 -- ---- what the accounter reports after it
 
-compared_told : (limits : Thresholds) (c : Costs) (charge : Charge) (n : ℕ) → IsToldBy limits c None
-    → ChargedTold limits (account c None) (compared charge (added c charge n) (passes limits (added c charge n) charge))
+compared_reported : (limits : Thresholds) (c : Costs) (charge : Charge) (n : ℕ) → IsReportedBy limits c None
+    → ChargedReported limits (account c None) (compared charge (added c charge n) (passes limits (added c charge n) charge))
 unfolding charge_one
-compared_told limits c charge n told = charge_told limits (account c None) charge n told
+compared_reported limits c charge n reported = charge_reported limits (account c None) charge n reported
 
-pub fine_told : (limits : Thresholds) (c : Costs) (charge : Charge) (n : ℕ) → IsToldBy limits c None → passes limits (added c charge n) charge ≡ false
-    → IsToldBy limits (added c charge n) None
-fine_told limits c charge n told e = (subst (λ b. ChargedTold limits (account c None) (compared charge (added c charge n) b)) e (compared_told limits c charge n told)).0
+pub fine_reported : (limits : Thresholds) (c : Costs) (charge : Charge) (n : ℕ) → IsReportedBy limits c None → passes limits (added c charge n) charge ≡ false
+    → IsReportedBy limits (added c charge n) None
+fine_reported limits c charge n reported e = (subst (λ b. ChargedReported limits (account c None) (compared charge (added c charge n) b)) e (compared_reported limits c charge n reported)).0
 
-pub over_told : (limits : Thresholds) (c : Costs) (charge : Charge) (n : ℕ) → IsToldBy limits c None → passes limits (added c charge n) charge ≡ true
-    → IsToldBy limits (added c charge n) (Some charge)
-over_told limits c charge n told e = (subst (λ b. ChargedTold limits (account c None) (compared charge (added c charge n) b)) e (compared_told limits c charge n told)).0
+pub over_reported : (limits : Thresholds) (c : Costs) (charge : Charge) (n : ℕ) → IsReportedBy limits c None → passes limits (added c charge n) charge ≡ true
+    → IsReportedBy limits (added c charge n) (Some charge)
+over_reported limits c charge n reported e = (subst (λ b. ChargedReported limits (account c None) (compared charge (added c charge n) b)) e (compared_reported limits c charge n reported)).0
 
 -- ---- no sum passes 64 bits
 
-pub alloc_fits : (limits : Thresholds) (c : Costs) (n : ℕ) → AreLow limits → IsToldBy limits c None → n ≤ 2 ^ 63 + 16 → c.alloc + n < 2 ^ 64
-alloc_fits limits c n low told few = omega (arith, low.alloc, told.alloc)
+pub alloc_fits : (limits : Thresholds) (c : Costs) (n : ℕ) → AreLow limits → IsReportedBy limits c None → n ≤ 2 ^ 63 + 16 → c.alloc + n < 2 ^ 64
+alloc_fits limits c n low reported few = omega (arith, low.alloc, reported.alloc)
 
-pub invoke_fits : (limits : Thresholds) (c : Costs) (n : ℕ) → AreLow limits → IsToldBy limits c None → n ≤ 2 ^ 63 + 16 → c.invoke + n < 2 ^ 64
-invoke_fits limits c n low told few = omega (arith, low.invoke, told.invoke)
+pub invoke_fits : (limits : Thresholds) (c : Costs) (n : ℕ) → AreLow limits → IsReportedBy limits c None → n ≤ 2 ^ 63 + 16 → c.invoke + n < 2 ^ 64
+invoke_fits limits c n low reported few = omega (arith, low.invoke, reported.invoke)
 
-pub jump_fits : (limits : Thresholds) (c : Costs) (n : ℕ) → AreLow limits → IsToldBy limits c None → n ≤ 2 ^ 63 + 16 → c.jump + n < 2 ^ 64
-jump_fits limits c n low told few = omega (arith, low.jump, told.jump)
+pub jump_fits : (limits : Thresholds) (c : Costs) (n : ℕ) → AreLow limits → IsReportedBy limits c None → n ≤ 2 ^ 63 + 16 → c.jump + n < 2 ^ 64
+jump_fits limits c n low reported few = omega (arith, low.jump, reported.jump)
 
-pub throw_fits : (limits : Thresholds) (c : Costs) (n : ℕ) → AreLow limits → IsToldBy limits c None → n ≤ 2 ^ 63 + 16 → c.throw + n < 2 ^ 64
-throw_fits limits c n low told few = omega (arith, low.throw, told.throw)
+pub throw_fits : (limits : Thresholds) (c : Costs) (n : ℕ) → AreLow limits → IsReportedBy limits c None → n ≤ 2 ^ 63 + 16 → c.throw + n < 2 ^ 64
+throw_fits limits c n low reported few = omega (arith, low.throw, reported.throw)

@@ -19,7 +19,7 @@ use Rattle.dj_model.specs.trusted.Natives.{Answer, SetsElements, copied}
 use Rattle.dj_model.specs.trusted.Performing.{set_elements, set_object, with_elements_in, raises_after, perform}
 use Rattle.dj_model.proofs.MappedHeaps.{object_at_mapped, object_set}
 use Rattle.dj_natives.specs.Numbered.{type_at}
-use Rattle.dj_calls.specs.declared.answer.NativeAnswer.TheVariants as told
+use Rattle.dj_calls.specs.declared.answer.NativeAnswer.TheVariants as reported
 use Rattle.dj_calls.specs.declared.arrays.Copy.{Copy}
 use Rattle.dj_calls.specs.Calls.{Done, part_with, terms_of}
 use Rattle.dj_calls.specs.Copies.{IsCopy, CopiesSo, Moves, MovesSo, Takes, moved_of, takes_at}
@@ -107,18 +107,18 @@ module _ (program : Program) (prefix : Prefix) (types : List Ty) (h new : Limite
       ap (perform prefix (terms_of h None) (part_with types h None p)) (answer_is ∙ ap (SetsElements copy.target patched) e)
       ∙ ap (λ q. raises_after q raised) (elements_typed types h copy.target is.target.class element is.target.contents patched p is.target.is patched_long)
 
-  pub copied_all : n ≡ copy.count → Done prefix types h new answer told.Nothing
+  pub copied_all : n ≡ copy.count → Done prefix types h new answer reported.Nothing
   copied_all e =
-      subst (λ (x : LimitedHeap). Done prefix types h x answer told.Nothing) (sym new_is)
+      subst (λ (x : LimitedHeap). Done prefix types h x answer reported.Nothing) (sym new_is)
       (record {
         does = λ p. performed p None (ap (λ b. if b then None else Some raises.ArrayStore) (eq-eqb n copy.count e));
         heap = refl;
         known = patched_known;
       })
 
-  pub copied_part : (n ≡ copy.count → ⊥) → Done prefix types h new answer (told.Raise raises.ArrayStore)
+  pub copied_part : (n ≡ copy.count → ⊥) → Done prefix types h new answer (reported.Raise raises.ArrayStore)
   copied_part e =
-      subst (λ (x : LimitedHeap). Done prefix types h x answer (told.Raise raises.ArrayStore)) (sym new_is)
+      subst (λ (x : LimitedHeap). Done prefix types h x answer (reported.Raise raises.ArrayStore)) (sym new_is)
       (record {
         does = λ p. performed p (Some raises.ArrayStore) (ap (λ b. if b then None else Some raises.ArrayStore) (ne_eqb n copy.count e));
         heap = refl;

@@ -20,12 +20,12 @@ use Rattle.dj_calls.specs.declared.accounter.Charged.{Charged}
 use Rattle.dj_calls.specs.declared.accounter.Charged.TheVariants as charged
 use Rattle.dj_calls.specs.declared.answer.Answer as calls
 use Rattle.dj_calls.specs.declared.answer.NativeAnswer.{NativeAnswer}
-use Rattle.dj_calls.specs.declared.answer.NativeAnswer.TheVariants as told
+use Rattle.dj_calls.specs.declared.answer.NativeAnswer.TheVariants as reported
 use Rattle.dj_calls.specs.Counting as counting
 use Rattle.dj_calls.specs.Counting.{Counter, Counts, owed, text_amount, charged_by}
-use Rattle.dj_calls.specs.Calls.{typed_heap, seen_of, counting_of, terms_of, part_with, with_counter, given, effect_with, flow_of, flow_told, stop_told, Does, Performs, KeepsHeap, KeepsCounter, Calls, Done, Finished, Acts, Finishes}
+use Rattle.dj_calls.specs.Calls.{typed_heap, seen_of, counting_of, terms_of, part_with, with_counter, given, effect_with, flow_of, flow_reported, stop_reported, Does, Performs, KeepsHeap, KeepsCounter, Calls, Done, Finished, Acts, Finishes}
 use Rattle.dj_calls.specs.Known.{AreKnown}
-use Rattle.dj_calls.specs.Answers.{Tells, answer_view, is_answered, IsDue, IsDueOf}
+use Rattle.dj_calls.specs.Answers.{Says, answer_view, is_answered, IsDue, IsDueOf}
 use Rattle.dj_calls.proofs.Groups.{stops_plainly}
 
 -- ---- the charge comes first
@@ -85,14 +85,14 @@ charged_first prefix terms p (Rethrows object) = refl
 
 -- ---- what the accounter makes of it
 
-fine_exceeds_none : (e : Option Charge) → charged.Fine ≡ counting.told e → e ≡ None
+fine_exceeds_none : (e : Option Charge) → charged.Fine ≡ counting.reported e → e ≡ None
 fine_exceeds_none None is = refl
 fine_exceeds_none (Some charge) is = absurd cc
 
 thrown_fine : (p : Part) (c : Counter) (e : Option Charge) → e ≡ None → thrown_by p (charged_by c.account e) ≡ Within (with_account p c.account)
 thrown_fine p c e none = rw none refl
 
-thrown_stop : (p : Part) (c : Counter) (e : Option Charge) → charged.Stop ≡ counting.told e → thrown_by p (charged_by c.account e) ≡ Halts (goes (with_account p c.account) Stop)
+thrown_stop : (p : Part) (c : Counter) (e : Option Charge) → charged.Stop ≡ counting.reported e → thrown_by p (charged_by c.account e) ≡ Halts (goes (with_account p c.account) Stop)
 thrown_stop p c None is = absurd cc
 thrown_stop p c (Some charge) is = refl
 
@@ -167,22 +167,22 @@ module _ (prefix : Prefix) (types : List Ty) (old new : LimitedHeap) (a : Answer
 
 module _ (program : Program) (prefix : Prefix) (types : List Ty) (old new : LimitedHeap) (due : Option (Charge × ℕ)) (before after : Option Counter)
     (id : NativeId) (args : List Value) (a : Answer) where
-  does_told : (result : NativeAnswer) (flow : Flow) → asks id args ≡ None → answer id (seen_of program prefix types old) args ≡ a → owed a ≡ due
+  does_reported : (result : NativeAnswer) (flow : Flow) → asks id args ≡ None → answer id (seen_of program prefix types old) args ≡ a → owed a ≡ due
       → Counts due before after charged.Fine → DoesPlainly prefix types old new a result flow
       → Does program prefix types old new before after id args result (Some flow)
-  does_told result flow silent is owes counts does p =
+  does_reported result flow silent is owes counts does p =
       native_does program prefix types old before p id args a silent is
       ∙ ap Some (does_counted prefix types old new a result flow due before after owes counts does p)
 
   pub does_fine : (result : NativeAnswer) → asks id args ≡ None → answer id (seen_of program prefix types old) args ≡ a → owed a ≡ due
       → Counts due before after charged.Fine → Performs prefix types old new a result
-      → Does program prefix types old new before after id args result (flow_told id args result)
-  does_fine told.Nothing silent is owes counts does = does_told told.Nothing (flow_of told.Nothing) silent is owes counts does
-  does_fine (told.Gives v) silent is owes counts does = does_told (told.Gives v) (flow_of (told.Gives v)) silent is owes counts does
-  does_fine (told.Raise raised) silent is owes counts does = does_told (told.Raise raised) (flow_of (told.Raise raised)) silent is owes counts does
-  does_fine told.Stop silent is owes counts does = absurd does
-  does_fine (told.Full used size) silent is owes counts does = does_told (told.Full used size) (flow_of (told.Full used size)) silent is owes counts does
-  does_fine told.Memory silent is owes counts does = tt
+      → Does program prefix types old new before after id args result (flow_reported id args result)
+  does_fine reported.Nothing silent is owes counts does = does_reported reported.Nothing (flow_of reported.Nothing) silent is owes counts does
+  does_fine (reported.Gives v) silent is owes counts does = does_reported (reported.Gives v) (flow_of (reported.Gives v)) silent is owes counts does
+  does_fine (reported.Raise raised) silent is owes counts does = does_reported (reported.Raise raised) (flow_of (reported.Raise raised)) silent is owes counts does
+  does_fine reported.Stop silent is owes counts does = absurd does
+  does_fine (reported.Full used size) silent is owes counts does = does_reported (reported.Full used size) (flow_of (reported.Full used size)) silent is owes counts does
+  does_fine reported.Memory silent is owes counts does = tt
 
 -- a method that is charged for nothing does the same, whoever counts
 pub acts_done : (program : Program) (prefix : Prefix) (types : List Ty) (old new : LimitedHeap) (id : NativeId) (args : List Value) (a : Answer) (result : NativeAnswer)
@@ -196,13 +196,13 @@ acts_done program prefix types old new id args a result silent is owes done = re
 
 -- ---- where it passed it
 
-stop_effect : (types : List Ty) (h : LimitedHeap) (c : Option Counter) (p : Part) → goes (part_with types h c p) Stop ≡ effect_with types h c told.Stop p Stop
+stop_effect : (types : List Ty) (h : LimitedHeap) (c : Option Counter) (p : Part) → goes (part_with types h c p) Stop ≡ effect_with types h c reported.Stop p Stop
 stop_effect types h None p = refl
 stop_effect types h (Some c) p = refl
 
 does_stop : (program : Program) (prefix : Prefix) (types : List Ty) (h : LimitedHeap) (due : Option (Charge × ℕ)) (before after : Option Counter)
     (id : NativeId) (args : List Value) (a : Answer) → asks id args ≡ None → answer id (seen_of program prefix types h) args ≡ a → owed a ≡ due
-    → Counts due before after charged.Stop → Does program prefix types h h before after id args told.Stop (Some Stop)
+    → Counts due before after charged.Stop → Does program prefix types h h before after id args reported.Stop (Some Stop)
 does_stop program prefix types h due before after id args a silent is owes counts p =
     native_does program prefix types h before p id args a silent is
     ∙ ap Some (charged_first prefix (terms_of h before) (part_with types h before p) a
@@ -216,12 +216,12 @@ is_due (Some d) before after counts = (d, refl)
 
 pub stop_calls : (program : Program) (prefix : Prefix) (types : List Ty) (h : LimitedHeap) (due : Option (Charge × ℕ)) (before after : Option Counter)
     (id : NativeId) (args : List Value) (a : Answer) → asks id args ≡ None → answer id (seen_of program prefix types h) args ≡ a → owed a ≡ due
-    → Counts due before after charged.Stop → AreKnown types h → Calls program prefix types h h before after id args told.Stop
+    → Counts due before after charged.Stop → AreKnown types h → Calls program prefix types h h before after id args reported.Stop
 stop_calls program prefix types h due before after id args a silent is owes counts known =
     let some = is_due due before after counts in
     let plainly = stops_plainly id (seen_of program prefix types h) args some.0 (ap owed is ∙ owes ∙ some.1) in
     record {
-      does = subst (λ (flow : Flow). Does program prefix types h h before after id args told.Stop (Some flow)) (sym plainly)
+      does = subst (λ (flow : Flow). Does program prefix types h h before after id args reported.Stop (Some flow)) (sym plainly)
           (does_stop program prefix types h due before after id args a silent is owes counts);
       heap = refl;
       known = known;
@@ -244,23 +244,23 @@ module _ (program : Program) (prefix : Prefix) (types : List Ty) (old new : Limi
     counter = keeps_counter due before after charged.Fine counts;
   }
 
-  pub fine_calls : (told_by : Option calls.Answer) → Tells is_answered id (seen_of program prefix types old) args told_by → IsDue told_by due
-      → Counts due before after charged.Fine → Finishes program prefix types old new id args told_by result → Calls program prefix types old new before after id args result
+  pub fine_calls : (reported_by : Option calls.Answer) → Says is_answered id (seen_of program prefix types old) args reported_by → IsDue reported_by due
+      → Counts due before after charged.Fine → Finishes program prefix types old new id args reported_by result → Calls program prefix types old new before after id args result
   fine_calls None is owes counts acts =
       let same : after ≡ before = (subst (λ d. Counts d before after charged.Fine) owes counts).0 in
       subst (λ (c : Option Counter). Calls program prefix types old new before c id args result) (sym same)
       (record { does = acts.does before; heap = acts.heap; known = acts.known; counter = keeps_same before })
-  fine_calls (Some told_by) is owes counts done = fine_viewed (answer_view told_by) is owes counts done
+  fine_calls (Some reported_by) is owes counts done = fine_viewed (answer_view reported_by) is owes counts done
 
   stop_viewed : (view : Option Answer) → IfSome view (λ a. answer id (seen_of program prefix types old) args ≡ a) → IsDueOf view due
-      → Counts due before after charged.Stop → Calls program prefix types old old before after id args told.Stop
+      → Counts due before after charged.Stop → Calls program prefix types old old before after id args reported.Stop
   stop_viewed None is owes counts = let some = is_due due before after counts in absurd cc
   stop_viewed (Some a) is owes counts = stop_calls program prefix types old due before after id args a silent is owes counts known
 
-  pub stop_calls_all : (told_by : Option calls.Answer) → Tells is_answered id (seen_of program prefix types old) args told_by → IsDue told_by due
-      → Counts due before after charged.Stop → Calls program prefix types old old before after id args told.Stop
+  pub stop_calls_all : (reported_by : Option calls.Answer) → Says is_answered id (seen_of program prefix types old) args reported_by → IsDue reported_by due
+      → Counts due before after charged.Stop → Calls program prefix types old old before after id args reported.Stop
   stop_calls_all None is owes counts = let some = is_due due before after counts in absurd cc
-  stop_calls_all (Some told_by) is owes counts = stop_viewed (answer_view told_by) is owes counts
+  stop_calls_all (Some reported_by) is owes counts = stop_viewed (answer_view reported_by) is owes counts
 
 -- ---- where nobody counts
 

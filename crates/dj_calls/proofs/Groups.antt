@@ -8,7 +8,7 @@ use Rattle.dj_model.specs.trusted.Natives.{Seen, answer}
 use Rattle.dj_model.specs.trusted.State.{Stop}
 use Rattle.dj_calls.specs.Answers.{is_answered, is_adding, is_on_numbers, is_on_texts, is_making_text, is_on_builders, is_on_throwables, is_on_objects}
 use Rattle.dj_calls.specs.Counting.{owed}
-use Rattle.dj_calls.specs.Calls.{stop_told}
+use Rattle.dj_calls.specs.Calls.{stop_reported}
 
 pub none_is_answered : (id : NativeId) → is_adding id ≡ false → is_on_numbers id ≡ false → is_on_texts id ≡ false → is_making_text id ≡ false → is_on_builders id ≡ false → is_on_throwables id ≡ false → is_on_objects id ≡ false → is_answered id ≡ false
 none_is_answered natives.ObjectNew sums numbers texts makers builders throwables objects = absurd cc
@@ -69,7 +69,7 @@ none_is_answered natives.RecordArray sums numbers texts makers builders throwabl
 none_is_answered natives.CheckCatch sums numbers texts makers builders throwables objects = refl
 
 -- a charge that passes its threshold has no object yet that is thrown
-pub stops_plainly : (id : NativeId) (heap : Seen) (args : List Value) (due : Charge × ℕ) → owed (answer id heap args) ≡ Some due → stop_told id args ≡ Stop
+pub stops_plainly : (id : NativeId) (heap : Seen) (args : List Value) (due : Charge × ℕ) → owed (answer id heap args) ≡ Some due → stop_reported id args ≡ Stop
 unfolding answer
 stops_plainly natives.ObjectNew heap args due e = refl
 stops_plainly natives.ObjectEquals heap args due e = refl

@@ -185,7 +185,7 @@ fill_within old now r units at n ready long within so_far =
     let there : object_in now r ≡ Some (Array ready.class elements.Char filled) =
     ap (λ (h : LimitedHeap). object_in h r) before
     ∙ there_set old.heap.objects r (Array ready.class elements.Char ready.contents) ready.is (Array ready.class elements.Char filled) in
-    let front : length (take at (map pos units)) ≡ at = length-take-le at (map pos units) (omega (arith, within, long, length-map units pos)) in
+    let prefix : length (take at (map pos units)) ≡ at = length-take-le at (map pos units) (omega (arith, within, long, length-map units pos)) in
     let long_as : length filled ≡ length ready.contents =
-    length-append (take at (map pos units)) (drop (0 + at) ready.contents) ∙ omega (arith, front, length-drop (0 + at) ready.contents, size, long, within) in
+    length-append (take at (map pos units)) (drop (0 + at) ready.contents) ∙ omega (arith, prefix, length-drop (0 + at) ready.contents, size, long, within) in
     fill_found (object_in now r) ready.class filled at there (omega (arith, long_as, ready.long, within))

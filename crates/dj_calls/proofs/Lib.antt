@@ -11,7 +11,7 @@ pub mod Moves
 pub mod Takings
 pub mod CopyPlaces
 pub mod Copied
-pub mod Told
+pub mod Reported
 pub mod NameUnits
 pub mod NameFacts
 pub mod CountingFacts

@@ -23,17 +23,17 @@ got_other (x ∷ xs) zero (suc j) a apart = refl
 got_other (x ∷ xs) (suc i) zero a apart = refl
 got_other (x ∷ xs) (suc i) (suc j) a apart = got_other xs i j a (λ e. apart (ap suc e))
 
-tail_kept : (front olds : List ℤ) (i : ℕ) → length front ≤ i → length front ≤ length olds → slice_get (front ++ drop (length front) olds) i ≡ slice_get olds i
+tail_kept : (prefix olds : List ℤ) (i : ℕ) → length prefix ≤ i → length prefix ≤ length olds → slice_get (prefix ++ drop (length prefix) olds) i ≡ slice_get olds i
 tail_kept [] olds i le fits = refl
-tail_kept (f ∷ front) [] i le fits = absurd (omega (arith, fits))
-tail_kept (f ∷ front) (o ∷ olds) zero le fits = absurd (omega (arith, le))
-tail_kept (f ∷ front) (o ∷ olds) (suc i) le fits = tail_kept front olds i (omega (arith, le)) (omega (arith, fits))
+tail_kept (f ∷ prefix) [] i le fits = absurd (omega (arith, fits))
+tail_kept (f ∷ prefix) (o ∷ olds) zero le fits = absurd (omega (arith, le))
+tail_kept (f ∷ prefix) (o ∷ olds) (suc i) le fits = tail_kept prefix olds i (omega (arith, le)) (omega (arith, fits))
 
-front_kept : (olds rest : List ℤ) (k i : ℕ) → i < k → k ≤ length olds → slice_get (take k olds ++ rest) i ≡ slice_get olds i
-front_kept olds rest zero i less fits = absurd (omega (arith, less))
-front_kept [] rest (suc k) i less fits = absurd (omega (arith, fits))
-front_kept (o ∷ olds) rest (suc k) zero less fits = refl
-front_kept (o ∷ olds) rest (suc k) (suc i) less fits = front_kept olds rest k i (omega (arith, less)) (omega (arith, fits))
+prefix_kept : (olds rest : List ℤ) (k i : ℕ) → i < k → k ≤ length olds → slice_get (take k olds ++ rest) i ≡ slice_get olds i
+prefix_kept olds rest zero i less fits = absurd (omega (arith, less))
+prefix_kept [] rest (suc k) i less fits = absurd (omega (arith, fits))
+prefix_kept (o ∷ olds) rest (suc k) zero less fits = refl
+prefix_kept (o ∷ olds) rest (suc k) (suc i) less fits = prefix_kept olds rest k i (omega (arith, less)) (omega (arith, fits))
 
 down_set : (olds rest : List ℤ) (k : ℕ) (z : ℤ) → k < length olds → set (take (k + 1) olds ++ rest) k z ≡ take k olds ++ z ∷ rest
 down_set [] rest k z less = absurd (omega (arith, less))
@@ -126,11 +126,11 @@ module _ (old now : LimitedHeap) (element : Element) (copy : Copy) (is : IsCopy 
   target_long = subst (λ l. copy.to + copy.count ≤ length l)
       (same_array (object_in old copy.target) is.target.class other element el is.target.contents olds is.target.is to_is) is.target.within
 
-  abbrev front : List ℤ
-  front = take copy.to olds ++ take at (drop copy.from contents)
+  abbrev prefix : List ℤ
+  prefix = take copy.to olds ++ take at (drop copy.from contents)
 
-  front_long : length front ≡ copy.to + at
-  front_long =
+  prefix_long : length prefix ≡ copy.to + at
+  prefix_long =
       length-append (take copy.to olds) (take at (drop copy.from contents))
       ∙ omega (
         arith,
@@ -141,8 +141,8 @@ module _ (old now : LimitedHeap) (element : Element) (copy : Copy) (is : IsCopy 
   module _ (before : now ≡ record old { heap = with_object old.heap copy.target (Array other el (paste olds copy.to (drop copy.from contents) at)) }) (up : copy.to ≤ copy.from) where
     up_element : element_in now copy.source (copy.from + at) ≡ slice_get contents (copy.from + at)
     up_element = source_now old now copy.source copy.target class other el contents olds (paste olds copy.to (drop copy.from contents) at) from_is to_is before (copy.from + at)
-        (λ _. ap (λ k. slice_get (front ++ drop k olds) (copy.from + at)) (sym front_long)
-        ∙ tail_kept front olds (copy.from + at) (omega (arith, front_long, up)) (omega (arith, front_long, few, target_long)))
+        (λ _. ap (λ k. slice_get (prefix ++ drop k olds) (copy.from + at)) (sym prefix_long)
+        ∙ tail_kept prefix olds (copy.from + at) (omega (arith, prefix_long, up)) (omega (arith, prefix_long, few, target_long)))
 
     up_stored : (new : LimitedHeap) (z : ℤ) → element_in now copy.source (copy.from + at) ≡ Some z → IsKeptIn (object_in now copy.source) z
         → Replaces now new copy.target (λ o. with_number o (copy.to + at) z)
@@ -203,7 +203,7 @@ module _ (old now : LimitedHeap) (element : Element) (copy : Copy) (is : IsCopy 
     down_element =
         let long = target_long old now element copy is k k_few class other el contents olds from_is to_is in
         source_now old now copy.source copy.target class other el contents olds (take (copy.to + (k + 1)) olds ++ after_place) from_is to_is before (copy.from + k)
-        (λ _. front_kept olds after_place (copy.to + (k + 1)) (copy.from + k) (omega (arith, down)) (omega (arith, few, most, long)))
+        (λ _. prefix_kept olds after_place (copy.to + (k + 1)) (copy.from + k) (omega (arith, down)) (omega (arith, few, most, long)))
 
     down_stored : (new : LimitedHeap) (z : ℤ) → element_in now copy.source (copy.from + k) ≡ Some z → IsKeptIn (object_in now copy.source) z
         → Replaces now new copy.target (λ o. with_number o (copy.to + k) z)
@@ -265,7 +265,7 @@ up_target old now element copy is at few so_far =
     let contents = is.source.contents in
     let olds = is.target.contents in
     let long = is.target.within in
-    let size = front_long old now element copy is at few is.source.class is.target.class element contents olds is.source.is is.target.is in
+    let size = prefix_long old now element copy is at few is.source.class is.target.class element contents olds is.source.is is.target.is in
     target_some old now copy.source copy.target is.source.class is.target.class element contents olds (paste olds copy.to (drop copy.from contents) at) is.source.is is.target.is
     (so_far is.source.class is.target.class element contents olds is.source.is is.target.is) (copy.to + at)
     (omega (arith, few, long, size, length-append (take copy.to olds ++ take at (drop copy.from contents)) (drop (copy.to + at) olds), length-drop (copy.to + at) olds))

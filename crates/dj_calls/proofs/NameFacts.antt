@@ -42,13 +42,13 @@ after_all : (n : ℕ) (of : Of) → after_brackets (replicate n 91 ++ of_text of
 after_all zero of = element_first of
 after_all (suc n) of = after_all n of
 
-front_of : (n : ℕ) (rest : List ℕ) → take n (replicate n 91 ++ rest) ≡ replicate n 91
-front_of zero rest = refl
-front_of (suc n) rest = ap (λ l. 91 ∷ l) (front_of n rest)
+prefix_of : (n : ℕ) (rest : List ℕ) → take n (replicate n 91 ++ rest) ≡ replicate n 91
+prefix_of zero rest = refl
+prefix_of (suc n) rest = ap (λ l. 91 ∷ l) (prefix_of n rest)
 
-take_front : (front rest : List ℕ) → take (length front) (front ++ rest) ≡ front
-take_front [] rest = refl
-take_front (x ∷ front) rest = ap (λ l. x ∷ l) (take_front front rest)
+take_prefix : (front rest : List ℕ) → take (length front) (front ++ rest) ≡ front
+take_prefix [] rest = refl
+take_prefix (x ∷ front) rest = ap (λ l. x ∷ l) (take_prefix front rest)
 
 -- ---- elements
 
@@ -58,7 +58,7 @@ class_element prefix name =
     let size : length (name ++ 59 ∷ []) ≡ length name + 1 = length-append name (59 ∷ []) in
     let long : nat_lt (length text) 2 ≡ false = le-ltb (length text) 2 (omega (arith, size)) in
     let inner : slice_range text 1 (length text - 1) ≡ name =
-    ap (λ k. take k (name ++ 59 ∷ [])) (omega (arith, size)) ∙ take_front name (59 ∷ []) in
+    ap (λ k. take k (name ++ 59 ∷ [])) (omega (arith, size)) ∙ take_prefix name (59 ∷ []) in
     ap (λ t. if t then text else 76 ∷ plain_name prefix (slice_range text 1 (length text - 1)) ++ 59 ∷ []) long
     ∙ ap (λ l. 76 ∷ plain_name prefix l ++ 59 ∷ []) inner
 
@@ -95,7 +95,7 @@ plain_array prefix n of some =
     ∙ ap (λ t. if t then plain_name prefix text else take (length text - length (of_text of)) text ++ plain_elements prefix (of_text of))
     (ne_eqb (length (of_text of)) (length text) (λ e. omega (arith, size, some, e)))
     ∙ ap (λ k. take k text ++ plain_elements prefix (of_text of)) count
-    ∙ ap (λ l. l ++ plain_elements prefix (of_text of)) (front_of n (of_text of))
+    ∙ ap (λ l. l ++ plain_elements prefix (of_text of)) (prefix_of n (of_text of))
     ∙ ap (λ l. replicate n 91 ++ l) (element_plain prefix of)
 
 plain_type : (prefix : Prefix) (dims : ℕ) (of : Of) → (dims ≡ 0 → begins_array (class_name (record { dims = dims; of = of })) ≡ false)
@@ -110,9 +110,9 @@ plain_type prefix (suc dims) of plain =
     ∙ plain_array prefix (suc dims) of some
     ∙ sym (array_name (suc dims) (of_map (plain_name prefix) of) some)
 
-pub plain_told : (types : List Ty) (prefix : Prefix) (class : ℕ) (start text : List ℕ) → ArePlain types → class < length types → start ≡ prefix → text ≡ class_name (type_at types class)
+pub plain_reported : (types : List Ty) (prefix : Prefix) (class : ℕ) (start text : List ℕ) → ArePlain types → class < length types → start ≡ prefix → text ≡ class_name (type_at types class)
     → plain_text start text ≡ class_name (plain_class prefix (type_at types class))
-plain_told types prefix class start text plain within first named =
+plain_reported types prefix class start text plain within first named =
     ap (λ p. plain_text p text) first
     ∙ ap (plain_text prefix) named
     ∙ plain_type prefix (type_at types class).dims (type_at types class).of (plain class within)

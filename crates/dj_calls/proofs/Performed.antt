@@ -31,7 +31,7 @@ use Rattle.dj_model.specs.trusted.Performing.{Making, Made, NotMade, making, ret
 use Rattle.dj_model.proofs.MappedHeaps.{object_at_mapped, size_alike, new_mapped, number_alike, object_set}
 use Rattle.dj_natives.specs.Numbered.{type_at}
 use Rattle.dj_calls.specs.declared.answer.NativeAnswer.{NativeAnswer}
-use Rattle.dj_calls.specs.declared.answer.NativeAnswer.TheVariants as told
+use Rattle.dj_calls.specs.declared.answer.NativeAnswer.TheVariants as reported
 use Rattle.dj_calls.specs.Calls.{typed_heap, part_with, terms_of, Done, Performs, SetsField, set_in, with_reference, with_values, returned, refused_as, Fills, effect_with}
 use Rattle.dj_calls.specs.Known.{AreKnown, IsKnown}
 use Rattle.dj_calls.proofs.HeapLaws.{set_twice, there_within, there_is, there_set, remade, made_there}
@@ -169,22 +169,22 @@ module _ (prefix : Prefix) (types : List Ty) where
   returns_done h None known = record { does = λ p. refl; heap = refl; known = known }
   returns_done h (Some v) known = record { does = λ p. refl; heap = refl; known = known }
 
-  pub raises_done : (h : LimitedHeap) (raised : Raised) → AreKnown types h → Done prefix types h h (Raises raised) (told.Raise raised)
+  pub raises_done : (h : LimitedHeap) (raised : Raised) → AreKnown types h → Done prefix types h h (Raises raised) (reported.Raise raised)
   unfolding perform
   raises_done h raised known = record { does = λ p. refl; heap = refl; known = known }
 
-  pub adds_done : (h : LimitedHeap) (charge : Charge) (n : ℕ) → AreKnown types h → Done prefix types h h (Adds charge n) told.Nothing
+  pub adds_done : (h : LimitedHeap) (charge : Charge) (n : ℕ) → AreKnown types h → Done prefix types h h (Adds charge n) reported.Nothing
   unfolding perform
   adds_done h charge n known = record { does = λ p. refl; heap = refl; known = known }
 
-  pub memory_done : (h : LimitedHeap) (a : Answer) → AreKnown types h → Done prefix types h h a told.Memory
+  pub memory_done : (h : LimitedHeap) (a : Answer) → AreKnown types h → Done prefix types h h a reported.Memory
   memory_done h a known = record { does = tt; heap = refl; known = known }
 
   pub sets_done : (old new : LimitedHeap) (object : ℕ) (vs : List Value) → new ≡ set_in old object (with_values (object_in old object) vs) → AreKnown types old
-      → Done prefix types old new (SetsFields object vs) told.Nothing
+      → Done prefix types old new (SetsFields object vs) reported.Nothing
   unfolding perform
   sets_done old new object vs is known =
-      subst (λ (h : LimitedHeap). Done prefix types old h (SetsFields object vs) told.Nothing) (sym is)
+      subst (λ (h : LimitedHeap). Done prefix types old h (SetsFields object vs) reported.Nothing) (sym is)
       (record {
         does = λ p. ap (λ q. goes q (Goes Next)) (sets_typed types old object vs p);
         heap = limit_found old object (with_values (object_in old object) vs);
@@ -198,7 +198,7 @@ module _ (prefix : Prefix) (types : List Ty) where
     text_is limit p = ap (λ ty. making limit p (Text ty units)) (sym (type_is types class (class_type (string_name prefix)) is))
 
     pub text_made : (old new : LimitedHeap) (r : ℕ) → heaps.Makes old new (Text class units) r → AreKnown types old
-        → Done prefix types old new (MakesText units) (told.Gives (values.Ref r))
+        → Done prefix types old new (MakesText units) (reported.Gives (values.Ref r))
     unfolding perform
     text_made old new r makes known = record {
       does = λ p. ap returns_made (text_is (Some old.limit) (part_with types old None p) ∙ made types old new (Text class units) r makes p);
@@ -207,7 +207,7 @@ module _ (prefix : Prefix) (types : List Ty) where
     }
 
     pub text_full : (old : LimitedHeap) (used size : ℕ) → Refuses old (object_size (Text class units)) (errors.Full used size) → AreKnown types old
-        → Done prefix types old old (MakesText units) (told.Full used size)
+        → Done prefix types old old (MakesText units) (reported.Full used size)
     unfolding perform
     text_full old used size refuses known = record {
       does = λ p. ap returns_made (text_is (Some old.limit) (part_with types old None p) ∙ full types old (Text class units) used size refuses p);
@@ -216,12 +216,12 @@ module _ (prefix : Prefix) (types : List Ty) where
     }
 
     pub kept_made : (old mid new : LimitedHeap) (object r : ℕ) → heaps.Makes old mid (Text class units) r → SetsField mid new object 0 r → AreKnown types old
-        → Done prefix types old new (KeepsText object units) (told.Gives (values.Ref object))
+        → Done prefix types old new (KeepsText object units) (reported.Gives (values.Ref object))
     unfolding perform
     kept_made old mid new object r makes sets known =
         let middle = known_made types old mid (Text class units) r makes known (known_text types class units (class_type (string_name prefix)) is) in
         let now : new ≡ set_in mid object (with_values (object_in mid object) (values.Ref r ∷ [])) = sets ∙ ap (set_in mid object) (one_value (object_in mid object) r) in
-        subst (λ (h : LimitedHeap). Done prefix types old h (KeepsText object units) (told.Gives (values.Ref object))) (sym now)
+        subst (λ (h : LimitedHeap). Done prefix types old h (KeepsText object units) (reported.Gives (values.Ref object))) (sym now)
         (record {
           does = λ p. ap (keeps_made object) (text_is (Some old.limit) (part_with types old None p) ∙ made types old mid (Text class units) r makes p)
               ∙ ap (λ q. returns q (Some (values.Ref object))) (sets_typed types mid object (values.Ref r ∷ []) p);
@@ -230,7 +230,7 @@ module _ (prefix : Prefix) (types : List Ty) where
         })
 
     pub kept_full : (old : LimitedHeap) (object used size : ℕ) → Refuses old (object_size (Text class units)) (errors.Full used size) → AreKnown types old
-        → Done prefix types old old (KeepsText object units) (told.Full used size)
+        → Done prefix types old old (KeepsText object units) (reported.Full used size)
     unfolding perform
     kept_full old object used size refuses known = record {
       does = λ p. ap (keeps_made object) (text_is (Some old.limit) (part_with types old None p) ∙ full types old (Text class units) used size refuses p);
@@ -269,7 +269,7 @@ module _ (prefix : Prefix) (types : List Ty) where
     known_chars = record { class = slice_get_within types class (base_array bases.Char) is; holds = λ ref. absurd cc }
 
     pub chars_made : (old new : LimitedHeap) (r : ℕ) → heaps.Makes old new chars r → AreKnown types old
-        → Done prefix types old new (MakesChars units) (told.Gives (values.Ref r))
+        → Done prefix types old new (MakesChars units) (reported.Gives (values.Ref r))
     unfolding perform
     chars_made old new r makes known = record {
       does = λ p. ap returns_made (chars_is (Some old.limit) (part_with types old None p) ∙ made types old new chars r makes p);
@@ -278,7 +278,7 @@ module _ (prefix : Prefix) (types : List Ty) where
     }
 
     pub chars_full : (old : LimitedHeap) (used size : ℕ) → Refuses old (object_size chars) (errors.Full used size) → AreKnown types old
-        → Done prefix types old old (MakesChars units) (told.Full used size)
+        → Done prefix types old old (MakesChars units) (reported.Full used size)
     unfolding perform
     chars_full old used size refuses known = record {
       does = λ p. ap returns_made (chars_is (Some old.limit) (part_with types old None p) ∙ full types old chars used size refuses p);
@@ -298,7 +298,7 @@ module _ (prefix : Prefix) (types : List Ty) where
         (subst (λ (r : NativeAnswer). Done prefix types old old (MakesChars units) r) (sym e) (memory_done old (MakesChars units) known))
 
     pub filled : (old mid new : LimitedHeap) (r n : ℕ) → n ≡ length units → heaps.Makes old mid (Array class elements.Char (replicate n (pos 0))) r → Fills mid new r units
-        → AreKnown types old → Done prefix types old new (MakesChars units) (told.Gives (values.Ref r))
+        → AreKnown types old → Done prefix types old new (MakesChars units) (reported.Gives (values.Ref r))
     filled old mid new r n long makes fills known =
         let size : array_size elements.Char (length (map pos units)) ≡ array_size elements.Char (length (replicate n (pos 0))) =
         ap (array_size elements.Char) (length-map units pos ∙ sym long ∙ sym (length-replicate n (pos 0))) in

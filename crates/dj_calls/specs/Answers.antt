@@ -1,6 +1,6 @@
 -- What native methods answer, by groups of them.
 use Rattle.std.specs.Prelude.{◌≡◌, ℕ, ⊤, Bool, true, false, List, [], ◌∷◌, ◌++◌, Option, Some, None, Result, Ok, Err, IfSome}
-use Rattle.dj_names.specs.declared.lists.NoMemory.{NoMemory}
+use Rattle.dj_bytes.specs.declared.memory.NoMemory.{NoMemory}
 use Rattle.dj_names.specs.declared.run.Charge.{Charge}
 use Rattle.dj_names.specs.declared.run.Value.{Value}
 use Rattle.dj_names.specs.declared.run.Value.TheVariants as values
@@ -33,13 +33,13 @@ answered_by f (Err error) = None
 
 -- a builder's units and then more; where there was no memory for these there is no answer
 abbrev pub IsAppended : LimitedHeap → ℕ → Result (List ℕ) NoMemory → Option model.Answer → Type 0
-IsAppended h r (Ok more) told = IfSome told (λ a. model.KeepsText r (units_at h (field_at h r 0) ++ more) ≡ a)
-IsAppended h r (Err error) told = told ≡ None
+IsAppended h r (Ok more) reported = IfSome reported (λ a. model.KeepsText r (units_at h (field_at h r 0) ++ more) ≡ a)
+IsAppended h r (Err error) reported = reported ≡ None
 
 -- the answer is the model's, where there was memory for it; without one the method is none of the group
-abbrev pub Tells : (NativeId → Bool) → NativeId → Seen → List Value → Option Answer → Type 0
-Tells group id heap args (Some told) = IfSome (answer_view told) (λ a. answer id heap args ≡ a)
-Tells group id heap args None = group id ≡ false
+abbrev pub Says : (NativeId → Bool) → NativeId → Seen → List Value → Option Answer → Type 0
+Says group id heap args (Some reported) = IfSome (answer_view reported) (λ a. answer id heap args ≡ a)
+Says group id heap args None = group id ≡ false
 
 -- ---- groups
 
@@ -133,7 +133,7 @@ is_answered id = true
 -- it adds this amount to this sum
 abbrev pub AddsSo : Charge → ℕ → Option Answer → Type 0
 AddsSo charge amount None = ⊥
-AddsSo charge amount (Some told) = answer_view told ≡ Some (model.Adds charge amount)
+AddsSo charge amount (Some reported) = answer_view reported ≡ Some (model.Adds charge amount)
 
 -- where there was no memory for an answer nothing is due
 abbrev pub IsDueOf : Option model.Answer → Option (Charge × ℕ) → Type 0
@@ -142,4 +142,4 @@ IsDueOf (Some a) due = owed a ≡ due
 
 abbrev pub IsDue : Option Answer → Option (Charge × ℕ) → Type 0
 IsDue None due = due ≡ None
-IsDue (Some told) due = IsDueOf (answer_view told) due
+IsDue (Some reported) due = IsDueOf (answer_view reported) due

@@ -19,7 +19,7 @@ use Rattle.dj_model.specs.trusted.Natives.{Seen, reference}
 use Rattle.dj_model.specs.trusted.Performing.{class_at_number, seen, perform, native, with_fields}
 use Rattle.dj_calls.specs.declared.answer.Answer.{Answer}
 use Rattle.dj_calls.specs.declared.answer.NativeAnswer.{NativeAnswer}
-use Rattle.dj_calls.specs.declared.answer.NativeAnswer.TheVariants as told
+use Rattle.dj_calls.specs.declared.answer.NativeAnswer.TheVariants as reported
 use Rattle.dj_calls.specs.Counting.{Counter}
 use Rattle.dj_natives.specs.Numbered.{type_at}
 use Rattle.dj_calls.specs.Known.{AreKnown}
@@ -52,21 +52,21 @@ part_with types h counter p = with_counter counter (record p { heap = typed_heap
 -- ---- what a call answers
 
 abbrev pub given : NativeAnswer → List Value
-given (told.Gives v) = v ∷ []
+given (reported.Gives v) = v ∷ []
 given _ = []
 
 -- the object that is thrown again is the argument; a charge that passes its threshold has none yet
-abbrev pub stop_told : NativeId → List Value → Flow
-stop_told natives.CheckCatch args = Catch (reference 0 args)
-stop_told id args = Stop
+abbrev pub stop_reported : NativeId → List Value → Flow
+stop_reported natives.CheckCatch args = Catch (reference 0 args)
+stop_reported id args = Stop
 
-abbrev pub flow_told : NativeId → List Value → NativeAnswer → Option Flow
-flow_told id args told.Nothing = Some (Goes Next)
-flow_told id args (told.Gives v) = Some (Goes Next)
-flow_told id args (told.Raise raised) = Some (Goes (Raise raised))
-flow_told id args told.Stop = Some (stop_told id args)
-flow_told id args (told.Full used size) = Some (End (outcomes.HeapFull used size))
-flow_told id args told.Memory = None
+abbrev pub flow_reported : NativeId → List Value → NativeAnswer → Option Flow
+flow_reported id args reported.Nothing = Some (Goes Next)
+flow_reported id args (reported.Gives v) = Some (Goes Next)
+flow_reported id args (reported.Raise raised) = Some (Goes (Raise raised))
+flow_reported id args reported.Stop = Some (stop_reported id args)
+flow_reported id args (reported.Full used size) = Some (End (outcomes.HeapFull used size))
+flow_reported id args reported.Memory = None
 
 abbrev pub effect_with : List Ty → LimitedHeap → Option Counter → NativeAnswer → Part → Flow → Effect
 effect_with types h counter result p flow =
@@ -80,9 +80,9 @@ Does program prefix types old new before after id args result (Some flow) =
 
 -- a run that doesn't go on leaves the heap
 abbrev pub KeepsHeap : LimitedHeap → LimitedHeap → NativeAnswer → Type 0
-KeepsHeap old new told.Stop = new ≡ old
-KeepsHeap old new (told.Full used size) = new ≡ old
-KeepsHeap old new told.Memory = new ≡ old
+KeepsHeap old new reported.Stop = new ≡ old
+KeepsHeap old new (reported.Full used size) = new ≡ old
+KeepsHeap old new reported.Memory = new ≡ old
 KeepsHeap old new _ = new.limit ≡ old.limit
 
 -- the accounter stays what it is, but for its sums
@@ -93,7 +93,7 @@ KeepsCounter _ _ = ⊥
 
 pub record Calls (program : Program) (prefix : Prefix) (types : List Ty) (old new : LimitedHeap) (before after : Option Counter) (id : NativeId) (args : List Value)
     (result : NativeAnswer) : Type 0 where
-  pub does : Does program prefix types old new before after id args result (flow_told id args result)
+  pub does : Does program prefix types old new before after id args result (flow_reported id args result)
   pub heap : KeepsHeap old new result
   pub known : AreKnown types new
   pub counter : KeepsCounter before after
@@ -102,17 +102,17 @@ pub record Calls (program : Program) (prefix : Prefix) (types : List Ty) (old ne
 
 -- how the run goes on after what was done of an answer
 abbrev pub flow_of : NativeAnswer → Flow
-flow_of told.Nothing = Goes Next
-flow_of (told.Gives v) = Goes Next
-flow_of (told.Raise raised) = Goes (Raise raised)
-flow_of told.Stop = Stop
-flow_of (told.Full used size) = End (outcomes.HeapFull used size)
-flow_of told.Memory = Goes Next
+flow_of reported.Nothing = Goes Next
+flow_of (reported.Gives v) = Goes Next
+flow_of (reported.Raise raised) = Goes (Raise raised)
+flow_of reported.Stop = Stop
+flow_of (reported.Full used size) = End (outcomes.HeapFull used size)
+flow_of reported.Memory = Goes Next
 
 -- where nobody counts charges, such an answer of the model has this effect; nothing is said where there was no memory
 abbrev pub Performs : Prefix → List Ty → LimitedHeap → LimitedHeap → model.Answer → NativeAnswer → Type 0
-Performs prefix types old new answer told.Memory = ⊤
-Performs prefix types old new answer told.Stop = ⊥
+Performs prefix types old new answer reported.Memory = ⊤
+Performs prefix types old new answer reported.Stop = ⊥
 Performs prefix types old new answer result =
     (p : Part) → perform prefix (terms_of old None) (part_with types old None p) answer ≡ effect_with types new None result p (flow_of result)
 
@@ -123,16 +123,16 @@ pub record Done (prefix : Prefix) (types : List Ty) (old new : LimitedHeap) (ans
   pub known : AreKnown types new
 
 abbrev pub Finished : Prefix → List Ty → LimitedHeap → LimitedHeap → Option model.Answer → NativeAnswer → Type 0
-Finished prefix types old new None result = (result ≡ told.Memory) × (new ≡ old)
+Finished prefix types old new None result = (result ≡ reported.Memory) × (new ≡ old)
 Finished prefix types old new (Some answer) result = Done prefix types old new answer result
 
 abbrev pub returned : Option Value → NativeAnswer
-returned None = told.Nothing
-returned (Some v) = told.Gives v
+returned None = reported.Nothing
+returned (Some v) = reported.Gives v
 
 abbrev pub refused_as : HeapError → NativeAnswer
-refused_as (errors.Full used size) = told.Full used size
-refused_as errors.Memory = told.Memory
+refused_as (errors.Full used size) = reported.Full used size
+refused_as errors.Memory = reported.Memory
 
 -- an array of as many chars
 pub record IsFillable (h : LimitedHeap) (r n : ℕ) : Type 0 where
@@ -148,8 +148,8 @@ Fills old new r units = (class : ℕ) (contents : List ℤ) → object_in old r 
 
 -- whether the object is the one that stops the run
 abbrev pub Rethrows : Prefix → List Ty → LimitedHeap → ℕ → NativeAnswer → Type 0
-Rethrows prefix types h r told.Stop = is_stop prefix (class_at_number (typed_heap types h) r) ≡ true
-Rethrows prefix types h r told.Nothing = is_stop prefix (class_at_number (typed_heap types h) r) ≡ false
+Rethrows prefix types h r reported.Stop = is_stop prefix (class_at_number (typed_heap types h) r) ≡ true
+Rethrows prefix types h r reported.Nothing = is_stop prefix (class_at_number (typed_heap types h) r) ≡ false
 Rethrows prefix types h r _ = ⊥
 
 -- a field of an instance that has it is this reference now
@@ -172,10 +172,10 @@ SetsField old new object at r = new ≡ set_in old object (with_reference (objec
 
 -- what the two methods that have no answer of this kind do, and charge nothing for, whoever counts
 pub record Acts (program : Program) (prefix : Prefix) (types : List Ty) (old new : LimitedHeap) (id : NativeId) (args : List Value) (result : NativeAnswer) : Type 0 where
-  pub does : (counter : Option Counter) → Does program prefix types old new counter counter id args result (flow_told id args result)
+  pub does : (counter : Option Counter) → Does program prefix types old new counter counter id args result (flow_reported id args result)
   pub heap : KeepsHeap old new result
   pub known : AreKnown types new
 
 abbrev pub Finishes : Program → Prefix → List Ty → LimitedHeap → LimitedHeap → NativeId → List Value → Option Answer → NativeAnswer → Type 0
 Finishes program prefix types old new id args None result = Acts program prefix types old new id args result
-Finishes program prefix types old new id args (Some told) result = Finished prefix types old new (answer_view told) result
+Finishes program prefix types old new id args (Some reported) result = Finished prefix types old new (answer_view reported) result

@@ -31,15 +31,15 @@ abbrev pub charged_by : Account → Option Charge → model.Charged
 charged_by account None = model.Fine account
 charged_by account (Some charge) = model.Over charge account
 
-abbrev pub told : Option Charge → Charged
-told None = charged.Fine
-told (Some charge) = charged.Stop
+abbrev pub reported : Option Charge → Charged
+reported None = charged.Fine
+reported (Some charge) = charged.Stop
 
 -- a charge was added as in the model of a run: the account is the model's, and the answer is whether the run goes on
 pub record Adds (charge : Charge) (n : ℕ) (old new : Counter) (result : Charged) : Type 0 where
   pub limits : new.limits ≡ old.limits
   pub account : charge_one old.limits old.account charge n ≡ charged_by new.account new.account.exceeded
-  pub answer : result ≡ told new.account.exceeded
+  pub answer : result ≡ reported new.account.exceeded
 
 -- what a text of this many units is charged
 abbrev pub text_amount : ℕ → ℕ

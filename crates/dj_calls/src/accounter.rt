@@ -26,14 +26,14 @@ pub struct Accounter {
 }
 
 impl Model for Accounter {
-    ghost use Rattle.dj_model.specs.Laws.{IsToldBy};
+    ghost use Rattle.dj_model.specs.Laws.{IsReportedBy};
     ghost use Rattle.dj_calls.specs.Counting.{Counter, AreLow};
 
     ghost Value = { Counter };
 
     ghost view = { λ a. record { limits = a.limits; account = record { costs = a.costs; exceeded = a.exceeded } } };
 
-    ghost invariant = { λ a. AreLow a.limits × IsToldBy a.limits a.costs a.exceeded };
+    ghost invariant = { λ a. AreLow a.limits × IsReportedBy a.limits a.costs a.exceeded };
 }
 
 impl Accounter {
@@ -111,7 +111,7 @@ impl Accounter {
     }
 
     // Adds to a sum, where none is above its threshold.
-    #[tactic(auto, using(crate::proofs::Charges::fine_told, crate::proofs::Charges::over_told, crate::proofs::Charges::alloc_fits, crate::proofs::Charges::invoke_fits, crate::proofs::Charges::jump_fits, crate::proofs::Charges::throw_fits))]
+    #[tactic(auto, using(crate::proofs::Charges::fine_reported, crate::proofs::Charges::over_reported, crate::proofs::Charges::alloc_fits, crate::proofs::Charges::invoke_fits, crate::proofs::Charges::jump_fits, crate::proofs::Charges::throw_fits))]
     pub(crate) fn add(&mut self, charge: Charge, amount: u64) -> Charged
         requires { amount ≤ 2 ^ 63 + 16 }
         ensures { Adds charge amount self.old self.new result }

@@ -35,11 +35,11 @@ pub fn copy_array<C: Classes>(classes: &C, heap: &mut Heap, args: &[Value]) -> N
     requires kinds { map value_kind args.now ≡ (native_signature ArrayCopy).parameters }
     ensures { Acts (C.program classes.now) (C.prefix classes.now) (C.types classes.now) heap.old heap.new ArrayCopy args.now result }
 {
-    copy_told(classes, heap, args)
+    copy_reported(classes, heap, args)
 }
 
 // The same, by the model's answer.
-fn copy_told<C: Classes>(classes: &C, heap: &mut Heap, args: &[Value]) -> NativeAnswer
+fn copy_reported<C: Classes>(classes: &C, heap: &mut Heap, args: &[Value]) -> NativeAnswer
     requires known { AreKnown (C.types classes.now) heap.old }
     requires kinds { map value_kind args.now ≡ (native_signature ArrayCopy).parameters }
     ensures { Done (C.prefix classes.now) (C.types classes.now) heap.old heap.new (copy_answer (C.program classes.now) (C.prefix classes.now) (C.types classes.now) heap.old args.now) result }

@@ -4,7 +4,7 @@ ghost use Rattle.dj_names.specs.declared.descriptor.Ty.{Ty};
 ghost use Rattle.dj_model.specs.trusted.Types.{Prefix};
 ghost use Rattle.dj_model.specs.trusted.Program.{Program};
 ghost use Rattle.dj_model.specs.trusted.Natives as model;
-ghost use Rattle.dj_calls.specs.Answers.{answer_view, answered_by, IsAppended, Tells, is_on_builders};
+ghost use Rattle.dj_calls.specs.Answers.{answer_view, answered_by, IsAppended, Says, is_on_builders};
 ghost use Rattle.dj_calls.specs.Calls.{seen_of};
 ghost use Rattle.dj_calls.specs.Seen.{units_at, field_at, null_or_units};
 
@@ -20,7 +20,7 @@ use std::alloc::Global;
 // The answer of a method of StringBuilder: its field is a text, or null for no units.
 #[tactic(auto, using(crate::proofs::Others::no_on_builders), unfolding(dj_model::specs::trusted::Natives::answer))]
 pub fn on_builders(alloc: Global, heap: &Heap, id: NativeId, args: &[Value]) -> Option<Answer>
-    ensures { (program : Program) (prefix : Prefix) (types : List Ty) → Tells is_on_builders id (seen_of program prefix types heap.now) args.now result }
+    ensures { (program : Program) (prefix : Prefix) (types : List Ty) → Says is_on_builders id (seen_of program prefix types heap.now) args.now result }
 {
     let r = reference(args, 0);
     let text = field(heap, r, 0);

@@ -1,5 +1,5 @@
 ghost use Rattle.std.specs.Prelude.{◌≡◌, false, Some, None};
-ghost use Rattle.dj_calls.specs.Answers.{Tells, is_answered};
+ghost use Rattle.dj_calls.specs.Answers.{Says, is_answered};
 ghost use Rattle.dj_calls.specs.Calls.{Acts, Calls, Finishes, seen_of};
 ghost use Rattle.dj_calls.specs.Counting.{lent, left};
 ghost use Rattle.dj_calls.specs.Known.{AreKnown, AreArguments};
@@ -87,7 +87,7 @@ fn answer_of<C: Classes>(
 ) -> Option<Answer>
     requires known { AreKnown (C.types classes.now) heap.now }
     requires arguments { AreArguments id heap.now args.now }
-    ensures { Tells is_answered id (seen_of (C.program classes.now) (C.prefix classes.now) (C.types classes.now) heap.now) args.now result }
+    ensures { Says is_answered id (seen_of (C.program classes.now) (C.prefix classes.now) (C.types classes.now) heap.now) args.now result }
 {
     if let Some(answer) = on_sums(id, args) {
         return Some(answer);
@@ -120,7 +120,7 @@ fn finish<C: Classes>(
 ) -> NativeAnswer
     requires known { AreKnown (C.types classes.now) heap.old }
     requires arguments { AreArguments id heap.old args.now }
-    requires told { Tells is_answered id (seen_of (C.program classes.now) (C.prefix classes.now) (C.types classes.now) heap.old) args.now answer }
+    requires reported { Says is_answered id (seen_of (C.program classes.now) (C.prefix classes.now) (C.types classes.now) heap.old) args.now answer }
     ensures { Finishes (C.program classes.now) (C.prefix classes.now) (C.types classes.now) heap.old heap.new id args.now answer result }
 {
     match answer {

@@ -3,7 +3,7 @@ ghost use Rattle.dj_names.specs.declared.descriptor.Ty.{Ty};
 ghost use Rattle.dj_model.specs.trusted.Types.{Prefix};
 ghost use Rattle.dj_model.specs.trusted.Program.{Program};
 ghost use Rattle.dj_model.specs.trusted.Natives as model;
-ghost use Rattle.dj_calls.specs.Answers.{answer_view, answered_by, Tells, is_making_text};
+ghost use Rattle.dj_calls.specs.Answers.{answer_view, answered_by, Says, is_making_text};
 ghost use Rattle.dj_calls.specs.Calls.{seen_of};
 ghost use Rattle.dj_calls.specs.Known.{HoldsChars, IsFitting, IsOfChars};
 ghost use Rattle.dj_heap.specs.Heaps.{object_in};
@@ -20,7 +20,7 @@ use std::alloc::Global;
 #[tactic(auto, using(crate::proofs::Others::no_making_text), unfolding(dj_model::specs::trusted::Natives::answer))]
 pub fn making_text(alloc: Global, heap: &Heap, id: NativeId, args: &[Value]) -> Option<Answer>
     requires fits { IsFitting id heap.now args.now }
-    ensures { (program : Program) (prefix : Prefix) (types : List Ty) → Tells is_making_text id (seen_of program prefix types heap.now) args.now result }
+    ensures { (program : Program) (prefix : Prefix) (types : List Ty) → Says is_making_text id (seen_of program prefix types heap.now) args.now result }
 {
     let r = reference(args, 0);
     let text = u64::from(r);

@@ -3,7 +3,7 @@ ghost use Rattle.std.specs.Int.{w32, w64, int_wrap};
 ghost use Rattle.dj_names.specs.trusted.Values.{value_kind};
 ghost use Rattle.dj_model.specs.NativeKinds.{native_signature};
 ghost use Rattle.dj_model.specs.trusted.Natives.{Seen};
-ghost use Rattle.dj_calls.specs.Answers.{Tells, is_on_numbers};
+ghost use Rattle.dj_calls.specs.Answers.{Says, is_on_numbers};
 ghost use Rattle.std.specs.Prelude.{unsigned_abs};
 
 use crate::answer::{Answer, given};
@@ -14,7 +14,7 @@ use dj_names::{NativeId, Value};
 #[tactic(auto, using(crate::proofs::Others::no_on_numbers), unfolding(dj_model::specs::trusted::Natives::answer))]
 pub fn on_numbers(id: NativeId, args: &[Value]) -> Option<Answer>
     requires { map value_kind args.now ≡ (native_signature id).parameters }
-    ensures { (heap : Seen) → Tells is_on_numbers id heap args.now result }
+    ensures { (heap : Seen) → Says is_on_numbers id heap args.now result }
 {
     match id {
         NativeId::AbsInt => given(Value::Int(abs_int(int(args, 0)))),

@@ -1,6 +1,6 @@
 ghost use Rattle.std.specs.Prelude.{◌≡◌, IfOk, IfSome};
 ghost use Rattle.dj_model.specs.trusted.Natives.{MakesText, object_text};
-ghost use Rattle.dj_calls.specs.Answers.{answer_view, Tells, is_on_objects};
+ghost use Rattle.dj_calls.specs.Answers.{answer_view, Says, is_on_objects};
 ghost use Rattle.dj_calls.specs.Names.{shown_at};
 ghost use Rattle.dj_calls.specs.Calls.{Acts, Done, seen_of, typed_heap};
 ghost use Rattle.dj_names.specs.declared.native.NativeId.TheVariants.{CheckCatch};
@@ -29,7 +29,7 @@ pub fn on_objects<C: Classes>(
     args: &[Value],
 ) -> Option<Answer>
     requires known { AreKnown (C.types classes.now) heap.now }
-    ensures { Tells is_on_objects id (seen_of (C.program classes.now) (C.prefix classes.now) (C.types classes.now) heap.now) args.now result }
+    ensures { Says is_on_objects id (seen_of (C.program classes.now) (C.prefix classes.now) (C.types classes.now) heap.now) args.now result }
 {
     let r = reference(args, 0);
     match id {

@@ -3,7 +3,7 @@ ghost use Rattle.dj_names.specs.declared.run.Charge.TheVariants as charges;
 ghost use Rattle.dj_names.specs.trusted.Values.{value_kind};
 ghost use Rattle.dj_model.specs.NativeKinds.{native_signature};
 ghost use Rattle.dj_model.specs.trusted.Natives.{Seen};
-ghost use Rattle.dj_calls.specs.Answers.{Tells, is_adding, AddsSo, IsDue};
+ghost use Rattle.dj_calls.specs.Answers.{Says, is_adding, AddsSo, IsDue};
 ghost use Rattle.dj_calls.specs.Counting.{Counts, due_view, text_amount};
 
 use crate::accounter::{Accounter, Charged};
@@ -17,7 +17,7 @@ use dj_names::{Charge, NativeId, Units, Value};
 #[tactic(auto, using(crate::proofs::Others::no_adding), unfolding(dj_model::specs::trusted::Natives::answer))]
 pub fn on_sums(id: NativeId, args: &[Value]) -> Option<Answer>
     requires { map value_kind args.now ≡ (native_signature id).parameters }
-    ensures { (heap : Seen) → Tells is_adding id heap args.now result }
+    ensures { (heap : Seen) → Says is_adding id heap args.now result }
 {
     match id {
         NativeId::RecordJump => adds(Charge::Jump, 1),

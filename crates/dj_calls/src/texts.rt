@@ -6,7 +6,7 @@ ghost use Rattle.dj_names.specs.trusted.Types.{same_name};
 ghost use Rattle.dj_model.specs.trusted.Types.{Prefix};
 ghost use Rattle.dj_model.specs.trusted.Program.{Program};
 ghost use Rattle.dj_model.specs.trusted.Natives as model;
-ghost use Rattle.dj_calls.specs.Answers.{answer_view, Tells, is_on_texts};
+ghost use Rattle.dj_calls.specs.Answers.{answer_view, Says, is_on_texts};
 ghost use Rattle.dj_calls.specs.Calls.{seen_of};
 ghost use Rattle.dj_calls.specs.Seen.{units_at, is_text_at};
 
@@ -19,7 +19,7 @@ use dj_names::{NativeId, Raised, Value};
 // The answer of a method of String that makes no object.
 #[tactic(auto, using(crate::proofs::Others::no_on_texts), unfolding(dj_model::specs::trusted::Natives::answer))]
 pub fn on_texts(heap: &Heap, id: NativeId, args: &[Value]) -> Option<Answer>
-    ensures { (program : Program) (prefix : Prefix) (types : List Ty) → Tells is_on_texts id (seen_of program prefix types heap.now) args.now result }
+    ensures { (program : Program) (prefix : Prefix) (types : List Ty) → Says is_on_texts id (seen_of program prefix types heap.now) args.now result }
 {
     let r = reference(args, 0);
     let other = reference(args, 1);

@@ -1,6 +1,6 @@
 ghost use Rattle.std.specs.Prelude.{◌≡◌, ◌%◌, ◌^◌};
 ghost use Rattle.dj_calls.specs.Seen.{field_at};
-ghost use Rattle.dj_calls.specs.Answers.{Tells, is_on_throwables};
+ghost use Rattle.dj_calls.specs.Answers.{Says, is_on_throwables};
 ghost use Rattle.dj_calls.specs.Calls.{seen_of};
 ghost use Rattle.dj_names.specs.declared.descriptor.Ty.{Ty};
 ghost use Rattle.dj_model.specs.trusted.Types.{Prefix};
@@ -16,7 +16,7 @@ use dj_names::{NativeId, Value};
 // The answer of a method of Throwable: its fields are the message and the cause.
 #[tactic(auto, using(crate::proofs::Others::no_on_throwables), unfolding(dj_model::specs::trusted::Natives::answer))]
 pub fn on_throwables(heap: &Heap, id: NativeId, args: &[Value]) -> Option<Answer>
-    ensures { (program : Program) (prefix : Prefix) (types : List Ty) → Tells is_on_throwables id (seen_of program prefix types heap.now) args.now result }
+    ensures { (program : Program) (prefix : Prefix) (types : List Ty) → Says is_on_throwables id (seen_of program prefix types heap.now) args.now result }
 {
     let object = reference(args, 0);
     match id {

@@ -17,8 +17,8 @@ use Rattle.dj_labels.specs.trusted.Labels.{IsLabelled}
 use Rattle.dj_labels.specs.Faults.{Yields}
 use Rattle.dj_report.proofs.Sorted.{contains_none, contains_cases}
 use Rattle.dj_check.specs.declared.code.WholeCode.{WholeCode}
-use Rattle.dj_check.specs.declared.code.MethodCode.{MethodCode}
-use Rattle.dj_check.specs.declared.code.MethodCode.TheVariants as methods
+use Rattle.dj_check.specs.declared.code.MethodBody.{MethodBody}
+use Rattle.dj_check.specs.declared.code.MethodBody.TheVariants as methods
 use Rattle.dj_check.specs.trusted.Attributes.{codes_of, maps_of}
 use Rattle.dj_check.specs.trusted.Malformed.{IsBodiless, IsFaultyCode, IsFaultyBody, IsFaultyMethod}
 use Rattle.dj_check.specs.Passes.{lacks_memory, bodies_in, IsWholeCode, IsMappedView, IsCodeView, IsWholeBody, IsWholeMethod, IsBodilessView, IsOwnView, IsMethodView}
@@ -104,13 +104,13 @@ pub faulty_body : (pool : List Constant) (m : MemberInfo) (body : List ℕ) → 
 faulty_body pool m body one bad = inr (inr (body, subst (λ (xs : List (List ℕ)). Contains xs body) (sym one) (0, omega arith, refl), bad))
 
 -- what a native or abstract method has
-pub bodiless_view : (pool : List Constant) (m : MemberInfo) (view : MethodCode) → IsBodiless m → IsBodilessView (codes_of pool m) view → IsMethodView pool m view
+pub bodiless_view : (pool : List Constant) (m : MemberInfo) (view : MethodBody) → IsBodiless m → IsBodilessView (codes_of pool m) view → IsMethodView pool m view
 bodiless_view pool m methods.Faulty is some = inr (inl (is, some))
 bodiless_view pool m methods.Bodiless is none = (bodiless_sound pool m is none, none)
 bodiless_view pool m (methods.Whole code) is none = absurd none
 
 -- what another method has
-pub own_view : (pool : List Constant) (m : MemberInfo) (view : MethodCode) → (IsBodiless m → ⊥) → IsOwnView pool (codes_of pool m) view → IsMethodView pool m view
+pub own_view : (pool : List Constant) (m : MemberInfo) (view : MethodBody) → (IsBodiless m → ⊥) → IsOwnView pool (codes_of pool m) view → IsMethodView pool m view
 own_view pool m methods.Faulty own bad = elim bad [
   | inl other ↦ inl (own, other)
   | inr (body, one, faulty) ↦ faulty_body pool m body one faulty

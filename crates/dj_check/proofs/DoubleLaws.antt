@@ -17,7 +17,7 @@ use Rattle.dj_rules.specs.trusted.Violations.{this_name}
 use Rattle.dj_rules.specs.Views.{path_file_view}
 use Rattle.dj_check.specs.declared.doubles.NamedFile.{NamedFile}
 use Rattle.dj_check.specs.trusted.Malformed.{IsGood}
-use Rattle.dj_check.specs.Passes.{TellsName}
+use Rattle.dj_check.specs.Passes.{SaysName}
 use Rattle.dj_check.specs.trusted.Rules.{HasDouble, IsDuplicateLine}
 use Rattle.dj_check.specs.Doubles.{IsText, IsBelow, IsNameAt, IsAgainAt, IsRepeated, IsNamedAmong, IsLineAmongNames, IsRepeatedLine, IsNamedAs, AreNamed}
 use Rattle.dj_check.proofs.Anys.{slice_get_push}
@@ -80,10 +80,10 @@ pub was_new : (there new : Bool) → new ≡ not there → new ≡ true → ther
 was_new true new e f t = let g : false ≡ true = sym e ∙ f in absurd cc
 was_new false new e f t = absurd cc
 
-pub told_among : (names : List (List ℕ)) (file : NamedFile) (k : Bor (List ℕ)) (b : Bool) → file.name ≡ Some k → (IsTrue b ↔ Contains names k.now) → IsTrue b ↔ IsNamedAmong names file
-told_among names file k b e told = (
-  λ t. record { text = k.now; is = subst (λ (n : Option (Bor (List ℕ))). IsText n k.now) (sym e) refl; among = told.0 t },
-  λ among. told.1 (subst (λ (z : List ℕ). Contains names z) (subst (λ (n : Option (Bor (List ℕ))). IsText n among.text) e among.is) among.among),
+pub reported_among : (names : List (List ℕ)) (file : NamedFile) (k : Bor (List ℕ)) (b : Bool) → file.name ≡ Some k → (IsTrue b ↔ Contains names k.now) → IsTrue b ↔ IsNamedAmong names file
+reported_among names file k b e reported = (
+  λ t. record { text = k.now; is = subst (λ (n : Option (Bor (List ℕ))). IsText n k.now) (sym e) refl; among = reported.0 t },
+  λ among. reported.1 (subst (λ (z : List ℕ). Contains names z) (subst (λ (n : Option (Bor (List ℕ))). IsText n among.text) e among.is) among.among),
 )
 
 -- one file more
@@ -120,7 +120,7 @@ all_repeated files i names past are t = (
 -- ---- lines
 
 pub line_by_name : (names : List (List ℕ)) (file : NamedFile) (double : Bool) (a b : List Violation) → (IsTrue double ↔ IsNamedAmong names file) → Adds (λ v. IsTrue double × (v ≡ file_line file.path.now 5)) a b → Adds (IsLineAmongNames names file) a b
-line_by_name names file double a b told = adds_same (λ v. IsTrue double × (v ≡ file_line file.path.now 5)) (IsLineAmongNames names file) a b (λ v. ((λ is. (told.0 is.0, is.1)), (λ is. (told.1 is.0, is.1))))
+line_by_name names file double a b reported = adds_same (λ v. IsTrue double × (v ≡ file_line file.path.now 5)) (IsLineAmongNames names file) a b (λ v. ((λ is. (reported.0 is.0, is.1)), (λ is. (reported.1 is.0, is.1))))
 
 pub lines_by_names : (files : List NamedFile) (names : List (List ℕ)) (a b : List Violation) → ((t : List ℕ) → Contains names t ↔ IsRepeated files t) → Adds (IsLineAmong (IsLineAmongNames names) files) a b → Adds (IsLineAmong (IsRepeatedLine files) files) a b
 lines_by_names files names a b are = adds_same (IsLineAmong (IsLineAmongNames names) files) (IsLineAmong (IsRepeatedLine files) files) a b (λ v. (
@@ -131,11 +131,11 @@ lines_by_names files names a b are = adds_same (IsLineAmong (IsLineAmongNames na
 -- ---- names of files
 
 -- the name that is reported is that of the class
-of_name : (file : PathFile) (name : Option (Bor (List ℕ))) (text : List ℕ) → TellsName file name → IsText name text → (c : ClassFile) × IsGood file.bytes.now c × (this_name c ≡ text)
-of_name file None text tells is = absurd is
+of_name : (file : PathFile) (name : Option (Bor (List ℕ))) (text : List ℕ) → SaysName file name → IsText name text → (c : ClassFile) × IsGood file.bytes.now c × (this_name c ≡ text)
+of_name file None text says is = absurd is
 of_name file (Some name) text (c, good, e) is = (c, good, sym (is ∙ e))
 
-to_name : (file : PathFile) (name : Option (Bor (List ℕ))) (c : ClassFile) → TellsName file name → IsGood file.bytes.now c → IsText name (this_name c)
+to_name : (file : PathFile) (name : Option (Bor (List ℕ))) (c : ClassFile) → SaysName file name → IsGood file.bytes.now c → IsText name (this_name c)
 to_name file None c refused good = absurd (refused_not_good file.bytes.now c good refused)
 to_name file (Some name) c (d, same, e) good = sym (e ∙ ap this_name (one_class_file tests_decide file.bytes.now d c same.file good.file))
 
@@ -186,9 +186,9 @@ named_at : (files : List PathFile) (named : List NamedFile) → AreNamed files n
     → (c : ClassFile) × Stands files named place c × (this_name c ≡ text)
 named_at files named are place own text at is =
     let seen = beside named files place own (sym are.all) at in
-    let told = are.each place seen.0 own seen.1 at in
-    let class = of_name seen.0 own.name text told.name is in
-    (class.0, record { file = seen.0; found = seen.1; good = class.1; own = own; at = at; is = told; text = subst (IsText own.name) (sym class.2) is }, class.2)
+    let reported = are.each place seen.0 own seen.1 at in
+    let class = of_name seen.0 own.name text reported.name is in
+    (class.0, record { file = seen.0; found = seen.1; good = class.1; own = own; at = at; is = reported; text = subst (IsText own.name) (sym class.2) is }, class.2)
 
 name_at : (named : List NamedFile) (place : ℕ) (own : NamedFile) (text : List ℕ) → slice_get named place ≡ Some own → IsText own.name text → IsNameAt named text place
 name_at named place own text at is = (some_is (λ (file : NamedFile). IsText file.name text) (slice_get named place) own at).0 is

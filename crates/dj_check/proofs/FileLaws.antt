@@ -11,7 +11,7 @@ use Rattle.dj_report.proofs.Adding.{adds_same, adds_both}
 use Rattle.dj_rules.specs.trusted.Violations.{member_text, this_name}
 use Rattle.dj_rules.specs.Lines.{pair_text}
 use Rattle.dj_check.specs.declared.judged.JudgedText.{JudgedText}
-use Rattle.dj_check.specs.declared.marks.Place.{Place}
+use Rattle.dj_check.specs.declared.marks.MarkPlace.{MarkPlace}
 use Rattle.dj_check.specs.declared.marks.Mark.{Mark}
 use Rattle.dj_check.specs.Judged.{IsTextAt, AreTexts, first_in, first_of}
 use Rattle.dj_check.specs.trusted.Malformed.{IsFaulty, IsRefused, IsGood}
@@ -22,17 +22,17 @@ use Rattle.dj_check.specs.Marks.{place_of, AreMarksOf, names_in, IsMarkLine}
 
 pub naming_lines : (path : List ℕ) (c : ClassFile) (reserved float : Bool) (x0 x1 x2 : List Violation) → (IsTrue reserved ↔ IsReserved (this_name c)) → (IsTrue float ↔ HasFloatConstant c)
     → Adds (λ v. IsTrue reserved × (v ≡ file_line path 4)) x0 x1 → Adds (λ v. IsTrue float × (v ≡ file_line path 12)) x1 x2 → Adds (IsNamingLine path c) x0 x2
-naming_lines path c reserved float x0 x1 x2 told_reserved told_float first second =
+naming_lines path c reserved float x0 x1 x2 reported_reserved reported_float first second =
     adds_same (λ v. (IsTrue reserved × (v ≡ file_line path 4)) ⊎ (IsTrue float × (v ≡ file_line path 12))) (IsNamingLine path c) x0 x2 (λ v. (
-      λ any. elim any [ inl r ↦ inl (told_reserved.0 r.0, r.1) | inr f ↦ inr (told_float.0 f.0, f.1) ],
-      λ any. elim any [ inl r ↦ inl (told_reserved.1 r.0, r.1) | inr f ↦ inr (told_float.1 f.0, f.1) ],
+      λ any. elim any [ inl r ↦ inl (reported_reserved.0 r.0, r.1) | inr f ↦ inr (reported_float.0 f.0, f.1) ],
+      λ any. elim any [ inl r ↦ inl (reported_reserved.1 r.0, r.1) | inr f ↦ inr (reported_float.1 f.0, f.1) ],
     )) (adds_both (λ v. IsTrue reserved × (v ≡ file_line path 4)) (λ v. IsTrue float × (v ≡ file_line path 12)) x0 x1 x2 first second)
 
 -- ---- from marks to lines
 
 same_text : (pool : List Constant) (texts : List JudgedText) (index : ℕ) → AreTexts pool texts → (found : Option JudgedText) → ((t : JudgedText) → found ≡ Some t → IsTextAt pool index t) → text_at pool (first_of index found) ≡ text_at pool index
-same_text pool texts index are None told = refl
-same_text pool texts index are (Some t) told = (told t refl).first
+same_text pool texts index are None reported = refl
+same_text pool texts index are (Some t) reported = (reported t refl).first
 
 pub first_text : (pool : List Constant) (texts : List JudgedText) (index : ℕ) → AreTexts pool texts → text_at pool (first_in texts index) ≡ text_at pool index
 first_text pool texts index are = same_text pool texts index are _ (are.each index)
@@ -45,7 +45,7 @@ pub member_lines : (texts : List JudgedText) (Violates : MemberInfo → Option �
     → ((mark : Mark) × AreMarksOf texts Violates members mark × IsMarkLine path c.pool mark v) ↔ IsMemberLine Violates members path c v
 member_lines texts Violates members path c are v = (
   λ (mark, (m, own, (placed, such)), line).
-      let named = ap (λ (p : Place). pair_text c.pool (p.name, p.desc)) placed ∙ names_text c.pool texts m are in
+      let named = ap (λ (p : MarkPlace). pair_text c.pool (p.name, p.desc)) placed ∙ names_text c.pool texts m are in
       record { member = m; own = own; number = mark.place.number; rule = mark.rule; such = such; line = line ∙ ap (λ (t : List ℕ). line_at path t mark.place.number mark.rule) named },
   λ is.
       let mark : Mark = record { place = place_of (names_in texts is.member) is.number; rule = is.rule } in

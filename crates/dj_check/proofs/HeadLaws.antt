@@ -38,8 +38,8 @@ module _ {X : Type 0} (P : ℕ → X → Type 0) where
 -- the index that stands for a text
 pub class_text_pushed : (pool : List Constant) (texts : List JudgedText) (index name first : ℕ) (found : Option ℕ) (a b : List ℕ) → found ≡ option_and_then class_text_of (constant_at pool index) → found ≡ Some name → first ≡ first_in texts name
     → b ≡ a ++ first ∷ [] → Gains (IsClassText pool texts index) a b
-class_text_pushed pool texts index name first found a b seen is told push =
-    gains_some (λ (n : ℕ) (x : ℕ). x ≡ first_in texts n) (option_and_then class_text_of (constant_at pool index)) name a b (sym seen ∙ is) (subst (λ (f : ℕ). Gains (λ (x : ℕ). x ≡ f) a b) told (pushed first a b push))
+class_text_pushed pool texts index name first found a b seen is reported push =
+    gains_some (λ (n : ℕ) (x : ℕ). x ≡ first_in texts n) (option_and_then class_text_of (constant_at pool index)) name a b (sym seen ∙ is) (subst (λ (f : ℕ). Gains (λ (x : ℕ). x ≡ f) a b) reported (pushed first a b push))
 
 pub no_class_text : (pool : List Constant) (texts : List JudgedText) (index : ℕ) (found : Option ℕ) (a : List ℕ) → found ≡ option_and_then class_text_of (constant_at pool index) → found ≡ None → Gains (IsClassText pool texts index) a a
 no_class_text pool texts index found a seen is = gains_none (λ (n : ℕ) (x : ℕ). x ≡ first_in texts n) (option_and_then class_text_of (constant_at pool index)) a (sym seen ∙ is)

@@ -160,7 +160,7 @@ to_hierarchy files heads owners are v is =
       good = owned.good;
       such = elim is.such [
         | inl bad ↦ inl ((alike_violate (Stands (map head_view heads)) (StandsAmong (map path_file_view files)) (to_classes files heads owners are) (from_classes files heads owners are) is.head (head_of class) alike).0 bad)
-        | inr t ↦ inr (owned.told.0 t)
+        | inr t ↦ inr (owned.reported.0 t)
       ];
       line = is.line ∙ ap (λ (p : List ℕ). file_line p 6) owned.path;
     }
@@ -180,7 +180,7 @@ from_hierarchy files heads owners are v is =
         | inl bad ↦
             inl ((alike_violate (Stands (map head_view heads)) (StandsAmong (map path_file_view files)) (to_classes files heads owners are) (from_classes files heads owners are) (head_view head) (head_of is.class)
             (head_alike is.class head at.1.is.head_is)).1 bad)
-        | inr repeats ↦ inr (at.1.is.told.1 repeats)
+        | inr repeats ↦ inr (at.1.is.reported.1 repeats)
       ];
       line = is.line ∙ ap (λ (f : File). file_line f.0 6) (sym seen.2) ∙ ap (λ (p : List ℕ). file_line p 6) (sym at.1.is.path);
     }

@@ -23,10 +23,10 @@ use Rattle.dj_check.proofs.Anys.{slice_get_push}
 
 -- ---- descriptors
 
-pub told_float : (text : List ℕ) (desc : Desc) (b : Bool) → Describes text desc → (IsTrue b ↔ MentionsFloat desc) → IsTrue b ↔ HasFloat text
-told_float text desc b described told = (
-  λ t. (desc, described, told.0 t),
-  λ has. told.1 (subst MentionsFloat (described_once text has.0 desc has.1 described) has.2),
+pub reported_float : (text : List ℕ) (desc : Desc) (b : Bool) → Describes text desc → (IsTrue b ↔ MentionsFloat desc) → IsTrue b ↔ HasFloat text
+reported_float text desc b described reported = (
+  λ t. (desc, described, reported.0 t),
+  λ has. reported.1 (subst MentionsFloat (described_once text has.0 desc has.1 described) has.2),
 )
 
 type_begins : (dims : ℕ) (of : Of) → ((of ≡ ofs.Base bases.Float) ⊎ (of ≡ ofs.Base bases.Double)) → BeginsFloat (replicate dims 91 ++ of_text of)
@@ -55,8 +55,8 @@ past_texts pool (suc i) past = ap (λ (k : Option Constant). option_and_then tex
 pub nothing_is : {A : Type 0} (found : Option A) (P : A → Type 0) → found ≡ None → IsSomeAnd found P → ⊥
 nothing_is found P none is = subst (λ o. IsSomeAnd o P) none is
 
-pub not_told : {A : Type 0} (found : Option A) (P : A → Type 0) → found ≡ None → IsTrue false ↔ IsSomeAnd found P
-not_told found P none = ((λ t. absurd cc), (λ is. absurd (nothing_is found P none is)))
+pub not_reported : {A : Type 0} (found : Option A) (P : A → Type 0) → found ≡ None → IsTrue false ↔ IsSomeAnd found P
+not_reported found P none = ((λ t. absurd cc), (λ is. absurd (nothing_is found P none is)))
 
 is_kept : (old new : Indexes) (pool : List Constant) (index : ℕ) (marked : Bool) (text : JudgedText) → ((key : List ℕ) (n : ℕ) → noted_at old key ≡ Some n → noted_at new key ≡ Some n) → IsNumberedBy old pool index marked text → IsNumberedBy new pool index marked text
 is_kept old new pool index marked text kept number key own at = kept key text.first (number key own at)
@@ -128,18 +128,18 @@ all_numbered c indexes marks texts count whole marked are =
 -- ---- values of fields
 
 pub one_value : (pool : List Constant) (f : MemberInfo) (body : List ℕ) (b : Bool) → values_of pool f ≡ body ∷ [] → (IsTrue b ↔ IsValueFor pool f.desc body) → IsTrue (not b) ↔ IsFaultyField pool f
-one_value pool f body true one told = (
+one_value pool f body true one reported = (
   λ t. absurd cc,
   λ faulty. elim faulty [
     | inl two ↦ let e = ap length one in absurd (omega arith)
     | inr (other, own, bad) ↦
         elim (contains_cases body [] other (subst (λ (xs : List (List ℕ)). Contains xs other) one own)) [
-          | inl same ↦ absurd (bad (subst (IsValueFor pool f.desc) same (told.0 refl)))
+          | inl same ↦ absurd (bad (subst (IsValueFor pool f.desc) same (reported.0 refl)))
           | inr none ↦ absurd (contains_none other none)
         ]
   ],
 )
-one_value pool f body false one told = (
-  λ t. inr (body, subst (λ (xs : List (List ℕ)). Contains xs body) (sym one) (0, omega arith, refl), λ is. let e = told.1 is in absurd cc),
+one_value pool f body false one reported = (
+  λ t. inr (body, subst (λ (xs : List (List ℕ)). Contains xs body) (sym one) (0, omega arith, refl), λ is. let e = reported.1 is in absurd cc),
   λ faulty. refl,
 )

@@ -18,8 +18,8 @@ Text = Bor (List ℕ)
 abbrev pub now_of : Text → List ℕ
 now_of name = name.now
 
-gains_front : (y : List ℕ) (xs : List (List ℕ)) → Gains (λ t. t ≡ y) xs (y ∷ xs)
-gains_front y xs t = (
+gains_prefix : (y : List ℕ) (xs : List (List ℕ)) → Gains (λ t. t ≡ y) xs (y ∷ xs)
+gains_prefix y xs t = (
   λ m. elim (contains_cases y xs t m) [ inl e ↦ inr (sym e) | inr old ↦ inl old ],
   λ any. elim any [ inl old ↦ contains_later y xs t old | inr e ↦ subst (λ (z : List ℕ). Contains (y ∷ xs) z) (sym e) (contains_first y xs) ],
 )
@@ -56,12 +56,12 @@ same_text x y e = slice_cmp-IsAntisymmetric nat_cmp-IsAntisymmetric x.now y.now 
 
 by_order : (x : Text) (xs : List Text) (k : Text) (r : Ordering) → text_order k x ≡ r → Gains (λ t. t ≡ k.now) (map now_of xs) (map now_of (insert_key text_order xs k))
     → Gains (λ t. t ≡ k.now) (map now_of (x ∷ xs)) (map now_of (insert_key text_order (x ∷ xs) k))
-by_order x xs k Less e rest = rw e (gains_front k.now (x.now ∷ map now_of xs))
+by_order x xs k Less e rest = rw e (gains_prefix k.now (x.now ∷ map now_of xs))
 by_order x xs k Equal e rest = rw e (gains_same k.now x.now (map now_of xs) (same_text k x e))
 by_order x xs k Greater e rest = rw e (gains_later (λ t. t ≡ k.now) x.now (map now_of xs) (map now_of (insert_key text_order xs k)) rest)
 
 inserted : (xs : List Text) (k : Text) → Gains (λ t. t ≡ k.now) (map now_of xs) (map now_of (insert_key text_order xs k))
-inserted [] k = gains_front k.now []
+inserted [] k = gains_prefix k.now []
 inserted (x ∷ xs) k = by_order x xs k (text_order k x) refl (inserted xs k)
 
 pub noted : (names more : BTreeSet Text) (k : Text) → more.keys ≡ insert_key text_order names.keys k → Gains (λ t. t ≡ k.now) (texts_in names) (texts_in more)

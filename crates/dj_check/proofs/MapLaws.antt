@@ -22,9 +22,9 @@ use Rattle.dj_check.specs.Passes.{lacks_memory_of_frames, bodies_in, HasFramesAt
 
 -- two lists of types, of which the first has none
 pub floats_of_both : (first second : List VType) (b : Bool) → (HaveFloats first → ⊥) → (IsTrue b ↔ HaveFloats second) → IsTrue b ↔ HaveFloats (first ++ second)
-floats_of_both first second b none told = (
-  λ t. let has = told.0 t in (has.0, Contains-append_right first second has.0 has.1, has.2),
-  λ has. elim (Contains-append_cases first second has.0 has.1) [ inl old ↦ absurd (none (has.0, old, has.2)) | inr new ↦ told.1 (has.0, new, has.2) ],
+floats_of_both first second b none reported = (
+  λ t. let has = reported.0 t in (has.0, Contains-append_right first second has.0 has.1, has.2),
+  λ has. elim (Contains-append_cases first second has.0 has.1) [ inl old ↦ absurd (none (has.0, old, has.2)) | inr new ↦ reported.1 (has.0, new, has.2) ],
 )
 
 no_frames : (starts body : List ℕ) (e : FrameError) → IsStrictlyIncreasing starts → IsFault body starts e → AreFramesAt starts body None
@@ -59,24 +59,24 @@ no_floats (Some frames) e has = (let none : frames ≡ [] = cc in contains_none 
 
 floats_of : (code : List ℕ) (map : Option (Bor (List ℕ))) (frames : Option (List Frame)) (b : Bool) → HasFrames code (bodies_in map) frames → (IsTrue b ↔ HasFloatFrames frames)
     → IsTrue b ↔ ((body : List ℕ) × Contains (bodies_in map) body × IsFloatMap code body)
-floats_of code None frames b has told = (
-  λ t. absurd (no_floats frames has (told.0 t)),
+floats_of code None frames b has reported = (
+  λ t. absurd (no_floats frames has (reported.0 t)),
   λ (m : (body : List ℕ) × Contains [] body × IsFloatMap code body). absurd (contains_none m.0 m.1),
 )
-floats_of code (Some body) None b are told = (
-  λ t. absurd (told.0 t),
+floats_of code (Some body) None b are reported = (
+  λ t. absurd (reported.0 t),
   λ (m : (other : List ℕ) × Contains (body.now ∷ []) other × IsFloatMap code other).
       let is = map_at code are.starts are.instrs body.now are.cut (subst (IsFloatMap code) (only body.now m.0 m.1) m.2) in
       absurd (are.are is.frames is.map),
 )
-floats_of code (Some body) (Some frames) b are told = (
-  λ t. (body.now, (0, omega arith, refl), record { starts = are.starts; instrs = are.instrs; cut = are.cut; map = record { frames = frames; map = are.are; float = told.0 t } }),
+floats_of code (Some body) (Some frames) b are reported = (
+  λ t. (body.now, (0, omega arith, refl), record { starts = are.starts; instrs = are.instrs; cut = are.cut; map = record { frames = frames; map = are.are; float = reported.0 t } }),
   λ (m : (other : List ℕ) × Contains (body.now ∷ []) other × IsFloatMap code other).
       let is = map_at code are.starts are.instrs body.now are.cut (subst (IsFloatMap code) (only body.now m.0 m.1) m.2) in
       let rise = starts_increase code are.starts (record { instrs = are.instrs; cut = are.cut }) in
-      told.1 (subst HaveFloatType (one_stack_map body.now are.starts is.frames frames rise is.map are.are) is.float),
+      reported.1 (subst HaveFloatType (one_stack_map body.now are.starts is.frames frames rise is.map are.are) is.float),
 )
 
 -- of whole code
-pub floats_told : (code : WholeCode) (b : Bool) → HasFrames code.code.now (bodies_in code.map) code.frames → (IsTrue b ↔ HasFloatFrames code.frames) → IsTrue b ↔ HasMapOf code
-floats_told code b has told = floats_of code.code.now code.map code.frames b has told
+pub floats_reported : (code : WholeCode) (b : Bool) → HasFrames code.code.now (bodies_in code.map) code.frames → (IsTrue b ↔ HasFloatFrames code.frames) → IsTrue b ↔ HasMapOf code
+floats_reported code b has reported = floats_of code.code.now code.map code.frames b has reported

@@ -16,23 +16,23 @@ use Rattle.dj_class.specs.Members.{member_of}
 use Rattle.dj_class.specs.trusted.ClassFile.{MemberInfo, IsMethod}
 use Rattle.dj_check.specs.declared.judged.JudgedText.{JudgedText}
 use Rattle.dj_check.proofs.Anys.{seen_any, from_seen_any}
-use Rattle.dj_check.specs.declared.marks.Place.{Place}
+use Rattle.dj_check.specs.declared.marks.MarkPlace.{MarkPlace}
 use Rattle.dj_check.specs.declared.marks.Mark.{Mark}
 use Rattle.dj_check.specs.trusted.Methods.{InstrViolates, CatchesError}
 use Rattle.dj_check.specs.trusted.Instructions.{IsDynamic, IsReflection, IsFloat, IsSubroutine, IsBreakpoint, IsMultiArray}
 use Rattle.dj_check.specs.Marks.{mark_at, place_of, MarksAt, MarksOf, ViolatesBelow, RangeViolates, IsAmongRanges, CodeMark, AreMarksOf, names_in}
 
 -- the marks of one rule at a place
-pub at_rule : (place : Place) (rule : ℕ) (b : Bool) (P : Type 0) (a c : List Mark) → (IsTrue b ↔ P) → Gains (λ mark. IsTrue b × (mark ≡ mark_at place rule)) a c
+pub at_rule : (place : MarkPlace) (rule : ℕ) (b : Bool) (P : Type 0) (a c : List Mark) → (IsTrue b ↔ P) → Gains (λ mark. IsTrue b × (mark ≡ mark_at place rule)) a c
     → Gains (MarksAt place (λ r. P × (r ≡ rule))) a c
-at_rule place rule b P a c told =
+at_rule place rule b P a c reported =
     adds_same (λ mark. IsTrue b × (mark ≡ mark_at place rule)) (MarksAt place (λ r. P × (r ≡ rule))) a c (λ mark. (
-      λ is. (ap (λ (m : Mark). m.place) is.1, (told.0 is.0, ap (λ (m : Mark). m.rule) is.1)),
-      λ is. (told.1 is.1.0, λ i. record { place = is.0 i; rule = is.1.1 i }),
+      λ is. (ap (λ (m : Mark). m.place) is.1, (reported.0 is.0, ap (λ (m : Mark). m.rule) is.1)),
+      λ is. (reported.1 is.1.0, λ i. record { place = is.0 i; rule = is.1.1 i }),
     ))
 
 -- those of two conditions
-pub both_at : (place : Place) (P Q : ℕ → Type 0) (a b c : List Mark) → Gains (MarksAt place P) a b → Gains (MarksAt place Q) b c → Gains (MarksAt place (λ r. P r ⊎ Q r)) a c
+pub both_at : (place : MarkPlace) (P Q : ℕ → Type 0) (a b c : List Mark) → Gains (MarksAt place P) a b → Gains (MarksAt place Q) b c → Gains (MarksAt place (λ r. P r ⊎ Q r)) a c
 both_at place P Q a b c first second =
     adds_same (λ mark. MarksAt place P mark ⊎ MarksAt place Q mark) (MarksAt place (λ r. P r ⊎ Q r)) a c (λ mark. (
       λ any. elim any [ inl is ↦ (is.0, inl is.1) | inr is ↦ (is.0, inr is.1) ],
@@ -40,7 +40,7 @@ both_at place P Q a b c first second =
     )) (adds_both (MarksAt place P) (MarksAt place Q) a b c first second)
 
 -- those of an instruction, rule by rule
-pub instr_marks : (place : Place) (pool : List Constant) (instr : Instr) (x0 x1 x2 x3 x4 x5 x6 : List Mark)
+pub instr_marks : (place : MarkPlace) (pool : List Constant) (instr : Instr) (x0 x1 x2 x3 x4 x5 x6 : List Mark)
     → Gains (MarksAt place (λ r. IsDynamic pool instr × (r ≡ 9))) x0 x1 → Gains (MarksAt place (λ r. IsReflection pool instr × (r ≡ 10))) x1 x2
     → Gains (MarksAt place (λ r. IsFloat pool instr × (r ≡ 12))) x2 x3 → Gains (MarksAt place (λ r. IsSubroutine pool instr × (r ≡ 13))) x3 x4
     → Gains (MarksAt place (λ r. IsBreakpoint pool instr × (r ≡ 14))) x4 x5 → Gains (MarksAt place (λ r. IsMultiArray pool instr × (r ≡ 15))) x5 x6
@@ -57,8 +57,8 @@ instr_marks place pool instr x0 x1 x2 x3 x4 x5 x6 dynamic reflection float subro
 -- a place of these names, by its own number
 own_place : (names : ℕ × ℕ) (mark : Mark) (number : Option ℕ) → mark.place ≡ place_of names number → (mark.place.number ≡ number) × (mark.place ≡ place_of names mark.place.number)
 own_place names mark number e =
-    let told = ap (λ (p : Place). p.number) e in
-    (told, e ∙ sym (ap (place_of names) told))
+    let reported = ap (λ (p : MarkPlace). p.number) e in
+    (reported, e ∙ sym (ap (place_of names) reported))
 
 some_instr : (a b : Instr) → Some a ≡ Some b → a ≡ b
 some_instr a b e = cc
@@ -94,12 +94,12 @@ more_below names pool code i instr a b c stands before here =
 
 pub handler_mark : (names : ℕ × ℕ) (pool : List Constant) (range : Protected) (b : Bool) (a c : List Mark) → (IsTrue b ↔ CatchesError pool range.catch_type)
     → Gains (λ mark. IsTrue b × (mark ≡ mark_at (place_of names (Some range.handler)) 11)) a c → Gains (MarksOf names (RangeViolates pool range)) a c
-handler_mark names pool range b a c told =
+handler_mark names pool range b a c reported =
     adds_same (λ mark. IsTrue b × (mark ≡ mark_at (place_of names (Some range.handler)) 11)) (MarksOf names (RangeViolates pool range)) a c (λ mark. (
       λ is.
           let own = own_place names mark (Some range.handler) (ap (λ (m : Mark). m.place) is.1) in
-          (own.1, (own.0, told.0 is.0, ap (λ (m : Mark). m.rule) is.1)),
-      λ is. (told.1 is.1.1, λ i. record { place = (is.0 ∙ ap (place_of names) is.1.0) i; rule = is.1.2 i }),
+          (own.1, (own.0, reported.0 is.0, ap (λ (m : Mark). m.rule) is.1)),
+      λ is. (reported.1 is.1.1, λ i. record { place = (is.0 ∙ ap (place_of names) is.1.0) i; rule = is.1.2 i }),
     ))
 
 -- ---- labelled code

@@ -6,10 +6,10 @@ use Rattle.std.specs.Cmp.{and_equiv, on_equiv, nat_eq_equiv}
 use Rattle.std.specs.Cmp.Lexicographic.{options_equiv}
 use Rattle.std.proofs.lemmas.Bool.{eqb-true}
 use Rattle.dj_report.proofs.Adding.{once_members}
-use Rattle.dj_check.specs.declared.marks.Place.{Place}
+use Rattle.dj_check.specs.declared.marks.MarkPlace.{MarkPlace}
 use Rattle.dj_check.specs.declared.marks.Mark.{Mark}
 
-abbrev pub same_place_test : Place → Place → Bool
+abbrev pub same_place_test : MarkPlace → MarkPlace → Bool
 same_place_test p q = nat_eq p.name q.name && (nat_eq p.desc q.desc && option_eq nat_eq p.number q.number)
 
 abbrev pub same_mark_test : Mark → Mark → Bool
@@ -25,7 +25,7 @@ same_numbers None (Some y) e = absurd cc
 same_numbers (Some x) None e = absurd cc
 same_numbers (Some x) (Some y) e = λ i. Some (eqb-true x y e i)
 
-same_places : (p q : Place) → same_place_test p q ≡ true → p ≡ q
+same_places : (p q : MarkPlace) → same_place_test p q ≡ true → p ≡ q
 same_places p q e =
     let all = both_true (nat_eq p.name q.name) (nat_eq p.desc q.desc && option_eq nat_eq p.number q.number) e in
     let rest = both_true (nat_eq p.desc q.desc) (option_eq nat_eq p.number q.number) all.1 in
@@ -38,5 +38,5 @@ same_marks x y e =
 
 pub once_marks : (a b c : List Mark) → IsPermutation a b → c ≡ dedup same_mark_test b → (mark : Mark) → Contains c mark ↔ Contains a mark
 once_marks = once_members
-    (and_equiv (on_equiv (λ (m : Mark). m.place) (and_equiv (on_equiv (λ (p : Place). p.name) nat_eq_equiv) (and_equiv (on_equiv (λ (p : Place). p.desc) nat_eq_equiv) (on_equiv (λ (p : Place). p.number) (options_equiv nat_eq_equiv)))))
+    (and_equiv (on_equiv (λ (m : Mark). m.place) (and_equiv (on_equiv (λ (p : MarkPlace). p.name) nat_eq_equiv) (and_equiv (on_equiv (λ (p : MarkPlace). p.desc) nat_eq_equiv) (on_equiv (λ (p : MarkPlace). p.number) (options_equiv nat_eq_equiv)))))
     (on_equiv (λ (m : Mark). m.rule) nat_eq_equiv)) same_marks

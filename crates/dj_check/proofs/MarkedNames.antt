@@ -66,10 +66,10 @@ all_marked views i marks le are m own =
 
 -- what is written back over a list of the same length
 pub written : (xs ys : List Bool) (n : ℕ) → length xs ≡ n → take n (xs ++ ys) ≡ xs
-written xs ys n e = subst (λ (k : ℕ). take k (xs ++ ys) ≡ xs) e (front xs) where
-  front : (zs : List Bool) → take (length zs) (zs ++ ys) ≡ zs
-  front [] = refl
-  front (z ∷ zs) = ap (λ (more : List Bool). z ∷ more) (front zs)
+written xs ys n e = subst (λ (k : ℕ). take k (xs ++ ys) ≡ xs) e (prefix xs) where
+  prefix : (zs : List Bool) → take (length zs) (zs ++ ys) ≡ zs
+  prefix [] = refl
+  prefix (z ∷ zs) = ap (λ (more : List Bool). z ∷ more) (prefix zs)
 
 -- those of a class file
 pub members_marked : (c : ClassFile) (start mid marks : List Bool) → length start ≡ length c.pool + 1 → StayMarked start mid → ((m : MemberInfo) → Contains c.fields m → AreNamesMarked mid m) → StayMarked mid marks

@@ -14,7 +14,7 @@ use Rattle.dj_report.specs.Lines.{Gains}
 use Rattle.dj_report.proofs.Sorted.{contains_none, contains_cases}
 use Rattle.dj_report.proofs.Adding.{adds_same, adds_both}
 use Rattle.dj_check.specs.declared.code.WholeCode.{WholeCode}
-use Rattle.dj_check.specs.declared.marks.Place.{Place}
+use Rattle.dj_check.specs.declared.marks.MarkPlace.{MarkPlace}
 use Rattle.dj_check.specs.declared.marks.Mark.{Mark}
 use Rattle.dj_check.specs.trusted.Attributes.{codes_of, maps_of}
 use Rattle.dj_check.specs.trusted.Code.{IsCodeOf, IsLabelledOf, IsFloatMap, HasFloatMap}
@@ -84,10 +84,10 @@ from_whole pool m code is number rule v = record {
 
 -- ---- stack maps
 
-pub told_map : (pool : List Constant) (m : MemberInfo) (code : WholeCode) (b : Bool) → IsWholeMethod pool m code → (IsTrue b ↔ HasMapOf code) → IsTrue b ↔ HasFloatMap pool m
-told_map pool m code b is told = (
+pub reported_map : (pool : List Constant) (m : MemberInfo) (code : WholeCode) (b : Bool) → IsWholeMethod pool m code → (IsTrue b ↔ HasMapOf code) → IsTrue b ↔ HasFloatMap pool m
+reported_map pool m code b is reported = (
   λ t.
-      let has = told.0 t in (
+      let has = reported.0 t in (
         is.whole.info,
         is_own pool m code is,
         (has.0, subst (λ (xs : List (List ℕ)). Contains xs has.0) (sym is.whole.whole.maps) has.1, subst (λ (bytes : List ℕ). IsFloatMap bytes has.0) is.whole.whole.bytes has.2),
@@ -95,7 +95,7 @@ told_map pool m code b is told = (
   λ has.
       let info = own_info pool m code is has.0 has.1 in
       let body = has.2.0 in
-      told.1 (
+      reported.1 (
         body,
         subst (λ (xs : List (List ℕ)). Contains xs body) is.whole.whole.maps (subst (λ (i : CodeInfo). Contains (maps_of pool i) body) info has.2.1),
         subst (λ (bytes : List ℕ). IsFloatMap bytes body) (sym is.whole.whole.bytes) (subst (λ (i : CodeInfo). IsFloatMap i.code body) info has.2.2),
@@ -106,9 +106,9 @@ pub float_by_desc : (pool : List Constant) (m : MemberInfo) → NamesFloat pool 
 float_by_desc pool m is = ((λ t. inl is), (λ h. refl))
 
 pub float_by_map : (pool : List Constant) (m : MemberInfo) (b : Bool) → (NamesFloat pool m.desc → ⊥) → (IsTrue b ↔ HasFloatMap pool m) → IsTrue b ↔ IsFloatMethod pool m
-float_by_map pool m b none told = (
-  λ t. inr (told.0 t),
-  λ is. elim is [ inl desc ↦ absurd (none desc) | inr has ↦ told.1 has ],
+float_by_map pool m b none reported = (
+  λ t. inr (reported.0 t),
+  λ is. elim is [ inl desc ↦ absurd (none desc) | inr has ↦ reported.1 has ],
 )
 
 -- ---- marks of a method
@@ -119,7 +119,7 @@ some_bodies bodies body one none = let e = ap length (sym one ∙ none) in omega
 pub method_marks : (c : ClassFile) (m : MemberInfo) (names : ℕ × ℕ) (code : WholeCode) (float interface_code : Bool) (a b d : List Mark) → IsWholeMethod c.pool m code
     → (IsTrue float ↔ IsFloatMethod c.pool m) → (IsTrue interface_code ↔ IsInterfaceMethod c m)
     → Gains (MarksOf names (RuledWhole float interface_code)) a b → Gains (CodeMark names c.pool code.labelled) b d → Gains (MarksOf names (MethodViolates c m)) a d
-method_marks c m names code float interface_code a b d is told_float told_interface whole within =
+method_marks c m names code float interface_code a b d is reported_float reported_interface whole within =
     adds_same (λ mark. MarksOf names (RuledWhole float interface_code) mark ⊎ CodeMark names c.pool code.labelled mark) (MarksOf names (MethodViolates c m)) a d (λ mark. (
       λ any. elim any [
         | inl w ↦ (
@@ -127,8 +127,8 @@ method_marks c m names code float interface_code a b d is told_float told_interf
           inl (
             w.1.0,
             elim w.1.1 [
-              | inl f ↦ inl (told_float.0 f.0, f.1)
-              | inr i ↦ inr ((told_interface.0 i.0, some_bodies (codes_of c.pool m) is.body is.one), i.1)
+              | inl f ↦ inl (reported_float.0 f.0, f.1)
+              | inr i ↦ inr ((reported_interface.0 i.0, some_bodies (codes_of c.pool m) is.body is.one), i.1)
             ],
           ),
         )
@@ -140,8 +140,8 @@ method_marks c m names code float interface_code a b d is told_float told_interf
           (
             w.0,
             elim w.1 [
-              | inl f ↦ inl (told_float.1 f.0, f.1)
-              | inr i ↦ inr (told_interface.1 i.0.0, i.1)
+              | inl f ↦ inl (reported_float.1 f.0, f.1)
+              | inr i ↦ inr (reported_interface.1 i.0.0, i.1)
             ],
           ),
         )
@@ -154,13 +154,13 @@ no_code_of pool m info none own = contains_none own.body (subst (λ (xs : List (
 
 pub bodiless_marks : (c : ClassFile) (m : MemberInfo) (names : ℕ × ℕ) (float : Bool) (a b : List Mark) → codes_of c.pool m ≡ []
     → (IsTrue float ↔ NamesFloat c.pool m.desc) → Gains (MarksOf names (RuledWhole float false)) a b → Gains (MarksOf names (MethodViolates c m)) a b
-bodiless_marks c m names float a b none told =
+bodiless_marks c m names float a b none reported =
     adds_same (MarksOf names (RuledWhole float false)) (MarksOf names (MethodViolates c m)) a b (λ mark. (
-      λ w. (w.0, inl (w.1.0, elim w.1.1 [ inl f ↦ inl (inl (told.0 f.0), f.1) | inr i ↦ (let e = i.0 in absurd cc) ])),
+      λ w. (w.0, inl (w.1.0, elim w.1.1 [ inl f ↦ inl (inl (reported.0 f.0), f.1) | inr i ↦ (let e = i.0 in absurd cc) ])),
       λ v. elim v.1 [
         | inl w ↦ elim w.1 [
           | inl f ↦ elim f.0 [
-            | inl desc ↦ (v.0, (w.0, inl (told.1 desc, f.1)))
+            | inl desc ↦ (v.0, (w.0, inl (reported.1 desc, f.1)))
             | inr has ↦ absurd (no_code_of c.pool m has.0 none has.1)
           ]
           | inr i ↦ absurd (i.0.1 none)
@@ -171,8 +171,8 @@ bodiless_marks c m names float a b none told =
 
 own_place : (names : ℕ × ℕ) (mark : Mark) (number : Option ℕ) → mark.place ≡ place_of names number → (mark.place.number ≡ number) × (mark.place ≡ place_of names mark.place.number)
 own_place names mark number e =
-    let told = ap (λ (p : Place). p.number) e in
-    (told, e ∙ sym (ap (place_of names) told))
+    let reported = ap (λ (p : MarkPlace). p.number) e in
+    (reported, e ∙ sym (ap (place_of names) reported))
 
 -- those of rules on a member as a whole
 pub whole_marks : (names : ℕ × ℕ) (float interface_code : Bool) (a b d : List Mark)
@@ -193,8 +193,8 @@ whole_marks names float interface_code a b d first second =
 -- that of a field
 pub field_mark : (c : ClassFile) (f : MemberInfo) (names : ℕ × ℕ) (b : Bool) (x y : List Mark) → (IsTrue b ↔ NamesFloat c.pool f.desc)
     → Gains (λ mark. IsTrue b × (mark ≡ mark_at (place_of names None) 12)) x y → Gains (MarksOf names (FieldViolates c f)) x y
-field_mark c f names b x y told =
+field_mark c f names b x y reported =
     adds_same (λ mark. IsTrue b × (mark ≡ mark_at (place_of names None) 12)) (MarksOf names (FieldViolates c f)) x y (λ mark. (
-      λ is. let own = own_place names mark None (ap (λ (m : Mark). m.place) is.1) in (own.1, (told.0 is.0, own.0, ap (λ (m : Mark). m.rule) is.1)),
-      λ is. (told.1 is.1.0, λ i. record { place = (is.0 ∙ ap (place_of names) is.1.1) i; rule = is.1.2 i }),
+      λ is. let own = own_place names mark None (ap (λ (m : Mark). m.place) is.1) in (own.1, (reported.0 is.0, own.0, ap (λ (m : Mark). m.rule) is.1)),
+      λ is. (reported.1 is.1.0, λ i. record { place = (is.0 ∙ ap (place_of names) is.1.1) i; rule = is.1.2 i }),
     ))

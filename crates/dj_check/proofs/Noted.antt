@@ -11,8 +11,8 @@ use Rattle.dj_pool.specs.trusted.Pool.{Constant, text_at}
 use Rattle.dj_check.specs.declared.judged.JudgedText.{JudgedText}
 use Rattle.dj_check.specs.trusted.Floats.{HasFloat, NamesFloat}
 use Rattle.dj_check.specs.trusted.Classes.{IsReflectiveText, NamesReflectiveText}
-use Rattle.dj_check.specs.Judged.{Indexes, noted_at, AreRight, Notes, IsToldText, IsJudgedText, AreFirstTexts}
-use Rattle.dj_check.proofs.Judging.{not_told}
+use Rattle.dj_check.specs.Judged.{Indexes, noted_at, AreRight, Notes, IsReportedText, IsJudgedText, AreFirstTexts}
+use Rattle.dj_check.proofs.Judging.{not_reported}
 
 abbrev pub bor : List ℕ → Bor (List ℕ)
 bor text = record { ref_ptr = (0, 0); now = text }
@@ -111,8 +111,8 @@ copied_some found at key seen is = sym seen ∙ ap option_copied is
 pub copied_none : (found : Option (Bor (List ℕ))) (at : Option (List ℕ)) → option_copied found ≡ at → found ≡ None → at ≡ None
 copied_none found at seen is = sym seen ∙ ap option_copied is
 
-pub told_some : (P : List ℕ → Type 0) (b : Bool) (found : Option (List ℕ)) (key : List ℕ) → found ≡ Some key → (IsTrue b ↔ P key) → IsTrue b ↔ IsSomeAnd found P
-told_some P b found key at told = subst (λ (o : Option (List ℕ)). IsTrue b ↔ IsSomeAnd o P) (sym at) told
+pub reported_some : (P : List ℕ → Type 0) (b : Bool) (found : Option (List ℕ)) (key : List ℕ) → found ≡ Some key → (IsTrue b ↔ P key) → IsTrue b ↔ IsSomeAnd found P
+reported_some P b found key at reported = subst (λ (o : Option (List ℕ)). IsTrue b ↔ IsSomeAnd o P) (sym at) reported
 
 first_is : (pool : List Constant) (old : Indexes) (index first : ℕ) (key : List ℕ) → text_at pool index ≡ Some key → AreRight pool old → ((first ≡ index) ⊎ (noted_at old key ≡ Some first)) → text_at pool first ≡ text_at pool index
 first_is pool old index first key at right (inl same) = ap (text_at pool) same
@@ -125,17 +125,17 @@ right_more pool old new key index marked first at right notes text n e = elim (n
 ]
 
 -- the index has this text
-pub judged_some : (pool : List Constant) (old new : Indexes) (index : ℕ) (marked : Bool) (key : List ℕ) (text : JudgedText) → text_at pool index ≡ Some key → AreRight pool old → IsToldText old new key index marked text
+pub judged_some : (pool : List Constant) (old new : Indexes) (index : ℕ) (marked : Bool) (key : List ℕ) (text : JudgedText) → text_at pool index ≡ Some key → AreRight pool old → IsReportedText old new key index marked text
     → IsJudgedText pool old new index marked text
-judged_some pool old new index marked key text at right told = record {
+judged_some pool old new index marked key text at right reported = record {
   means = record {
-    float = told_some HasFloat text.float (text_at pool index) key at told.float;
-    reflective = told_some IsReflectiveText text.reflective (text_at pool index) key at told.reflective;
-    first = first_is pool old index text.first key at right told.notes.same;
+    float = reported_some HasFloat text.float (text_at pool index) key at reported.float;
+    reflective = reported_some IsReflectiveText text.reflective (text_at pool index) key at reported.reflective;
+    first = first_is pool old index text.first key at right reported.notes.same;
   };
-  number = λ t own is. subst (λ (k : List ℕ). noted_at new k ≡ Some text.first) (some_text key t (sym at ∙ is)) (told.notes.own own);
-  kept = told.notes.kept;
-  right = right_more pool old new key index marked text.first at right told.notes;
+  number = λ t own is. subst (λ (k : List ℕ). noted_at new k ≡ Some text.first) (some_text key t (sym at ∙ is)) (reported.notes.own own);
+  kept = reported.notes.kept;
+  right = right_more pool old new key index marked text.first at right reported.notes;
 }
 
 -- the index has no text
@@ -143,8 +143,8 @@ pub judged_none : (pool : List Constant) (indexes : Indexes) (index : ℕ) (mark
     → IsJudgedText pool indexes indexes index marked text
 judged_none pool indexes index marked text none float reflective first right = record {
   means = record {
-    float = subst (λ (b : Bool). IsTrue b ↔ NamesFloat pool index) (sym float) (not_told (text_at pool index) HasFloat none);
-    reflective = subst (λ (b : Bool). IsTrue b ↔ NamesReflectiveText pool index) (sym reflective) (not_told (text_at pool index) IsReflectiveText none);
+    float = subst (λ (b : Bool). IsTrue b ↔ NamesFloat pool index) (sym float) (not_reported (text_at pool index) HasFloat none);
+    reflective = subst (λ (b : Bool). IsTrue b ↔ NamesReflectiveText pool index) (sym reflective) (not_reported (text_at pool index) IsReflectiveText none);
     first = ap (text_at pool) first;
   };
   number = λ t own is. absurd (none_is (text_at pool index) t none is);

@@ -13,16 +13,16 @@ use Rattle.dj_check.specs.trusted.Classes.{IsReflectiveText, NamesReflectiveText
 use Rattle.dj_check.specs.Judged.{first_of, first_in, AreTexts, AreNumbered, IsMarked, AreMembersMarked, IsOwnText, AreOwnTexts}
 use Rattle.dj_check.specs.Prints.{AreDistinct}
 use Rattle.dj_check.proofs.Anys.{slice_get_push}
-use Rattle.dj_check.proofs.Judging.{not_told, within_pool}
-use Rattle.dj_check.proofs.Noted.{told_some}
+use Rattle.dj_check.proofs.Judging.{not_reported, within_pool}
+use Rattle.dj_check.proofs.Noted.{reported_some}
 
 -- the index has this text
 pub own_some : (pool : List Constant) (index : ℕ) (key : List ℕ) (text : JudgedText) → text_at pool index ≡ Some key → (IsTrue text.float ↔ HasFloat key) → (IsTrue text.reflective ↔ IsReflectiveText key) → text.first ≡ index
     → IsOwnText pool index text
 own_some pool index key text at float reflective first = record {
   means = record {
-    float = told_some HasFloat text.float (text_at pool index) key at float;
-    reflective = told_some IsReflectiveText text.reflective (text_at pool index) key at reflective;
+    float = reported_some HasFloat text.float (text_at pool index) key at float;
+    reflective = reported_some IsReflectiveText text.reflective (text_at pool index) key at reflective;
     first = ap (text_at pool) first;
   };
   own = first;
@@ -32,8 +32,8 @@ own_some pool index key text at float reflective first = record {
 pub own_none : (pool : List Constant) (index : ℕ) (text : JudgedText) → text_at pool index ≡ None → text.float ≡ false → text.reflective ≡ false → text.first ≡ index → IsOwnText pool index text
 own_none pool index text none float reflective first = record {
   means = record {
-    float = subst (λ (b : Bool). IsTrue b ↔ NamesFloat pool index) (sym float) (not_told (text_at pool index) HasFloat none);
-    reflective = subst (λ (b : Bool). IsTrue b ↔ NamesReflectiveText pool index) (sym reflective) (not_told (text_at pool index) IsReflectiveText none);
+    float = subst (λ (b : Bool). IsTrue b ↔ NamesFloat pool index) (sym float) (not_reported (text_at pool index) HasFloat none);
+    reflective = subst (λ (b : Bool). IsTrue b ↔ NamesReflectiveText pool index) (sym reflective) (not_reported (text_at pool index) IsReflectiveText none);
     first = ap (text_at pool) first;
   };
   own = first;

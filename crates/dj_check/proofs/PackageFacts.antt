@@ -7,28 +7,28 @@ use Rattle.dj_check.specs.trusted.Classes.{BeginsWith, IsReserved, IsReflective}
 
 -- the text is the prefix and something after it, maybe nothing
 abbrev GoesOn : List ℕ → List ℕ → Type 0
-GoesOn front text = (rest : List ℕ) × (text ≡ front ++ rest)
+GoesOn prefix text = (rest : List ℕ) × (text ≡ prefix ++ rest)
 
 both-true : (a b : Bool) → (a && b) ≡ true → (a ≡ true) × (b ≡ true)
 both-true true b e = (refl, e)
 both-true false b e = absurd cc
 
-goes-on : (front text : List ℕ) → BeginsWith text front → GoesOn front text
+goes-on : (prefix text : List ℕ) → BeginsWith text prefix → GoesOn prefix text
 goes-on [] text begins = (text, refl)
-goes-on (f ∷ front) [] begins = absurd cc
-goes-on (f ∷ front) (t ∷ text) begins =
+goes-on (f ∷ prefix) [] begins = absurd cc
+goes-on (f ∷ prefix) (t ∷ text) begins =
     let each = both-true _ _ begins in
     let first : f ≡ t = eqb-true f t each.0 in
-    let later = goes-on front text each.1 in
+    let later = goes-on prefix text each.1 in
     (later.0, cc)
 
 and-true : (a b : Bool) → a ≡ true → b ≡ true → (a && b) ≡ true
 and-true true b one other = other
 and-true false b one other = absurd cc
 
-begins : (front rest : List ℕ) → BeginsWith (front ++ rest) front
+begins : (prefix rest : List ℕ) → BeginsWith (prefix ++ rest) prefix
 begins [] rest = refl
-begins (f ∷ front) rest = and-true (nat_eq f f) _ (eq-eqb f f refl) (begins front rest)
+begins (f ∷ prefix) rest = and-true (nat_eq f f) _ (eq-eqb f f refl) (begins prefix rest)
 
 -- what is reserved goes on after one of the three, and whatever goes on after one of them is reserved
 reserved-names : (name : List ℕ) → IsReserved name → GoesOn (codes "sandbox/") name ⊎ (GoesOn (codes "java/") name ⊎ GoesOn (codes "javax/") name)

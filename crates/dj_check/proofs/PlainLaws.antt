@@ -6,7 +6,7 @@ use Rattle.dj_ops.specs.declared.instruction.Instr.TheVariants as instrs
 use Rattle.dj_pool.specs.trusted.Pool.{Constant}
 use Rattle.dj_report.specs.Lines.{Gains}
 use Rattle.dj_report.proofs.Adding.{adds_nothing}
-use Rattle.dj_check.specs.declared.marks.Place.{Place}
+use Rattle.dj_check.specs.declared.marks.MarkPlace.{MarkPlace}
 use Rattle.dj_check.specs.declared.marks.Mark.{Mark}
 use Rattle.dj_check.specs.trusted.Opcodes.{is_float_op, is_subroutine_jump}
 use Rattle.dj_check.specs.Instructions.{is_plain}
@@ -100,9 +100,9 @@ violates_none pool (instrs.Array base) rule plain v = absurd cc
 violates_none pool (instrs.Multi index dims) rule plain v = absurd cc
 
 -- so they have no marks
-pub plain_marks : (place : Place) (pool : List Constant) (instr : Instr) (marks : List Mark) → is_plain instr ≡ true → Gains (MarksAt place (InstrViolates pool instr)) marks marks
+pub plain_marks : (place : MarkPlace) (pool : List Constant) (instr : Instr) (marks : List Mark) → is_plain instr ≡ true → Gains (MarksAt place (InstrViolates pool instr)) marks marks
 plain_marks place pool instr marks plain = adds_nothing (MarksAt place (InstrViolates pool instr)) marks (λ mark is. violates_none pool instr mark.rule plain is.1)
 
 -- nor has an instruction that violates no rule
-pub untold_marks : (place : Place) (pool : List Constant) (instr : Instr) (marks : List Mark) (told : Bool) → (IsTrue told ↔ ((rule : ℕ) × InstrViolates pool instr rule)) → told ≡ false → Gains (MarksAt place (InstrViolates pool instr)) marks marks
-untold_marks place pool instr marks told says none = adds_nothing (MarksAt place (InstrViolates pool instr)) marks (λ mark is. never told (says.1 (mark.rule, is.1)) none)
+pub unreported_marks : (place : MarkPlace) (pool : List Constant) (instr : Instr) (marks : List Mark) (reported : Bool) → (IsTrue reported ↔ ((rule : ℕ) × InstrViolates pool instr rule)) → reported ≡ false → Gains (MarksAt place (InstrViolates pool instr)) marks marks
+unreported_marks place pool instr marks reported says none = adds_nothing (MarksAt place (InstrViolates pool instr)) marks (λ mark is. never reported (says.1 (mark.rule, is.1)) none)

@@ -133,8 +133,8 @@ none_again names i seen past are again =
 -- the names of the member that a loop meets
 pub names_at : (texts : List JudgedText) (views : List MemberView) (i : ℕ) (item : MemberView) (names : Pair) → i < length views → item ≡ get_or views i item → names ≡ names_in texts (member_of item)
     → slice_get (names_of texts (map member_of views)) i ≡ Some names
-names_at texts views i item names lt is told =
-    to_slice_get_map (names_in texts) (map member_of views) i (member_of item) (to_slice_get_map member_of views i item (slice_get-get_or views i item lt ∙ ap Some (sym is))) ∙ ap Some (sym told)
+names_at texts views i item names lt is reported =
+    to_slice_get_map (names_in texts) (map member_of views) i (member_of item) (to_slice_get_map member_of views i item (slice_get-get_or views i item lt ∙ ap Some (sym is))) ∙ ap Some (sym reported)
 
 pub names_length : (texts : List JudgedText) (views : List MemberView) → length (names_of texts (map member_of views)) ≡ length views
 names_length texts views = simp length-map
@@ -194,9 +194,9 @@ to_again c texts members are member named is =
 
 pub again_repeated : (N D : List ℕ → Type 0) (c : ClassFile) (texts : List JudgedText) (members : List MemberInfo) (b : Bool) → AreTexts c.pool texts → AreNumbered c texts → ((m : MemberInfo) → Contains members m → IsMemberOf c m)
     → AllByRecursion (IsMember N D c.pool) members → (IsTrue b ↔ HasAgain (names_of texts members)) → IsTrue b ↔ AreRepeated c.pool members
-again_repeated N D c texts members b are numbered member all told = (
-  λ t. from_again c.pool texts members are (told.0 t),
-  λ is. told.1 (to_again c texts members numbered member (members_named N D c.pool members all) is),
+again_repeated N D c texts members b are numbered member all reported = (
+  λ t. from_again c.pool texts members are (reported.0 t),
+  λ is. reported.1 (to_again c texts members numbered member (members_named N D c.pool members all) is),
 )
 
 -- ---- two fields or two methods

@@ -49,10 +49,10 @@ no_bracket text class other array =
 
 -- of another text, where it is a class's name
 pub reflective_name : (text : List ℕ) (b : Bool) → starts_with nat_eq text (91 ∷ []) ≡ false → (IsTrue b ↔ (IsReflective text × IsClassName text)) → IsTrue b ↔ IsReflectiveText text
-reflective_name text b other told = (
-  λ t. let is = told.0 t in record { class = text; stands = inl (is.1, refl); reflective = is.0 },
+reflective_name text b other reported = (
+  λ t. let is = reported.0 t in record { class = text; stands = inl (is.1, refl); reflective = is.0 },
   λ has. elim has.stands [
-    | inl same ↦ told.1 (subst IsReflective same.1 has.reflective, same.0)
+    | inl same ↦ reported.1 (subst IsReflective same.1 has.reflective, same.0)
     | inr array ↦ absurd (no_bracket text has.class other array)
   ],
 )
@@ -63,13 +63,13 @@ same_type a b e = cc
 -- an array's descriptor for its element's class
 pub reflective_array : (text : List ℕ) (ty : Ty) (b : Bool) → (IsClassName text → ⊥) → Describes text (descs.Field ty)
     → (IsTrue b ↔ ((1 ≤ ty.dims) × IsReflective (element_class ty.of))) → IsTrue b ↔ IsReflectiveText text
-reflective_array text ty b other described told = (
-  λ t. let is = told.0 t in record { class = element_class ty.of; stands = inr (record { ty = ty; array = is.0; described = described; element = refl }); reflective = is.1 },
+reflective_array text ty b other described reported = (
+  λ t. let is = reported.0 t in record { class = element_class ty.of; stands = inr (record { ty = ty; array = is.0; described = described; element = refl }); reflective = is.1 },
   λ has. elim has.stands [
     | inl name ↦ absurd (other name.0)
     | inr array ↦
         let same = same_type array.ty ty (described_once text (descs.Field array.ty) (descs.Field ty) array.described described) in
-        told.1 (subst (λ (t : Ty). 1 ≤ t.dims) same array.array, subst (λ (t : Ty). IsReflective (element_class t.of)) same (subst IsReflective array.element has.reflective))
+        reported.1 (subst (λ (t : Ty). 1 ≤ t.dims) same array.array, subst (λ (t : Ty). IsReflective (element_class t.of)) same (subst IsReflective array.element has.reflective))
   ],
 )
 

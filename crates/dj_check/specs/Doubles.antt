@@ -6,7 +6,7 @@ use Rattle.dj_report.specs.declared.report.Violation.{Violation}
 use Rattle.dj_report.specs.declared.report.PathFile.{PathFile}
 use Rattle.dj_report.specs.trusted.Lines.{file_line}
 use Rattle.dj_check.specs.declared.doubles.NamedFile.{NamedFile}
-use Rattle.dj_check.specs.Passes.{TellsName}
+use Rattle.dj_check.specs.Passes.{SaysName}
 
 -- the texts of the set
 abbrev pub texts_in : BTreeSet (Bor (List ℕ)) → List (List ℕ)
@@ -50,7 +50,7 @@ IsRepeatedLine files file v = ((text : List ℕ) × IsText file.name text × IsR
 -- the file has this path, and its class's name is kept where it has one
 pub record IsNamedAs (file : PathFile) (named : NamedFile) : Type 0 where
   pub path : named.path.now ≡ file.path.now
-  pub name : TellsName file named.name
+  pub name : SaysName file named.name
 
 -- the same for all, place by place
 pub record AreNamed (files : List PathFile) (named : List NamedFile) : Type 0 where

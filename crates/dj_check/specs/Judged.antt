@@ -95,7 +95,7 @@ pub record Notes (old new : Indexes) (key : List ℕ) (index : ℕ) (marked : Bo
   pub known : (text : List ℕ) (n : ℕ) → noted_at new text ≡ Some n → (noted_at old text ≡ Some n) ⊎ ((text ≡ key) × (n ≡ index))
 
 -- what is kept of a text, which is that at the index
-pub record IsToldText (old new : Indexes) (key : List ℕ) (index : ℕ) (marked : Bool) (text : JudgedText) : Type 0 where
+pub record IsReportedText (old new : Indexes) (key : List ℕ) (index : ℕ) (marked : Bool) (text : JudgedText) : Type 0 where
   pub float : IsTrue text.float ↔ HasFloat key
   pub reflective : IsTrue text.reflective ↔ IsReflectiveText key
   pub notes : Notes old new key index marked text.first

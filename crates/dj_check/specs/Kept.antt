@@ -44,7 +44,7 @@ pub record IsOwned (file : PathFile) (c : ClassFile) (head : ClassHead) (owner :
   pub good : IsGood file.bytes.now c
   pub path : owner.path.now ≡ file.path.now
   pub head_is : IsHeadOf c head
-  pub told : IsTrue owner.repeats ↔ HasRepeats c
+  pub reported : IsTrue owner.repeats ↔ HasRepeats c
 
 -- it is at this place
 pub record OwnsAt (heads : List ClassHead) (owners : List Owner) (file : PathFile) (c : ClassFile) (place : ℕ) : Type 0 where

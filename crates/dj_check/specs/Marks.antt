@@ -7,22 +7,22 @@ use Rattle.dj_labels.specs.declared.labelled.Protected.{Protected}
 use Rattle.dj_labels.specs.declared.labelled.Labelled.{Labelled}
 use Rattle.dj_report.specs.declared.report.Violation.{Violation}
 use Rattle.dj_rules.specs.Lines.{pair_text}
-use Rattle.dj_check.specs.declared.marks.Place.{Place}
+use Rattle.dj_check.specs.declared.marks.MarkPlace.{MarkPlace}
 use Rattle.dj_check.specs.declared.marks.Mark.{Mark}
 use Rattle.dj_check.specs.declared.judged.JudgedText.{JudgedText}
 use Rattle.dj_check.specs.Judged.{first_in}
 use Rattle.dj_check.specs.trusted.Methods.{InstrViolates, CatchesError, CodeViolates}
 use Rattle.dj_check.specs.trusted.Rules.{line_at}
 
-abbrev pub mark_at : Place → ℕ → Mark
+abbrev pub mark_at : MarkPlace → ℕ → Mark
 mark_at place rule = record { place = place; rule = rule }
 
 -- the place of the names, at an instruction or as a whole
-abbrev pub place_of : ℕ × ℕ → Option ℕ → Place
+abbrev pub place_of : ℕ × ℕ → Option ℕ → MarkPlace
 place_of names number = record { name = names.0; desc = names.1; number = number }
 
 -- marks at a place of the rules of a condition
-abbrev pub MarksAt : Place → (ℕ → Type 0) → Mark → Type 0
+abbrev pub MarksAt : MarkPlace → (ℕ → Type 0) → Mark → Type 0
 MarksAt place IsSuch mark = (mark.place ≡ place) × IsSuch mark.rule
 
 -- marks of these names, with numbers and rules of a condition

@@ -18,8 +18,8 @@ use Rattle.dj_frames.specs.declared.read.FrameError.TheVariants as frame_errors
 use Rattle.dj_labels.specs.trusted.Labels.{IsLabelled}
 use Rattle.dj_labels.specs.Passes.{AreStarts}
 use Rattle.dj_check.specs.declared.code.WholeCode.{WholeCode}
-use Rattle.dj_check.specs.declared.code.MethodCode.{MethodCode}
-use Rattle.dj_check.specs.declared.code.MethodCode.TheVariants as methods
+use Rattle.dj_check.specs.declared.code.MethodBody.{MethodBody}
+use Rattle.dj_check.specs.declared.code.MethodBody.TheVariants as methods
 use Rattle.dj_check.specs.declared.good.GoodFile.{GoodFile}
 use Rattle.dj_check.specs.trusted.Heads.{HasRepeats}
 use Rattle.dj_check.specs.Gathered.{IsHeadOf}
@@ -101,7 +101,7 @@ IsBodyView pool body None = IsFaultyBody pool body
 IsBodyView pool body (Some code) = IsWholeBody pool body code
 
 -- what a native or abstract method has that has these bodies of code
-abbrev pub IsBodilessView : List (List ℕ) → MethodCode → Type 0
+abbrev pub IsBodilessView : List (List ℕ) → MethodBody → Type 0
 IsBodilessView bodies methods.Faulty = bodies ≢ []
 IsBodilessView bodies methods.Bodiless = bodies ≡ []
 IsBodilessView bodies (methods.Whole code) = ⊥
@@ -116,7 +116,7 @@ pub record IsOneBody (pool : List Constant) (bodies : List (List ℕ)) (code : W
 abbrev pub HasBadBodies : List Constant → List (List ℕ) → Type 0
 HasBadBodies pool bodies = (length bodies ≢ 1) ⊎ ((body : List ℕ) × (bodies ≡ body ∷ []) × IsFaultyBody pool body)
 
-abbrev pub IsOwnView : List Constant → List (List ℕ) → MethodCode → Type 0
+abbrev pub IsOwnView : List Constant → List (List ℕ) → MethodBody → Type 0
 IsOwnView pool bodies methods.Faulty = HasBadBodies pool bodies
 IsOwnView pool bodies methods.Bodiless = ⊥
 IsOwnView pool bodies (methods.Whole code) = IsOneBody pool bodies code
@@ -128,7 +128,7 @@ pub record IsWholeMethod (pool : List Constant) (m : MemberInfo) (code : WholeCo
   pub one : codes_of pool m ≡ body ∷ []
   pub whole : IsWholeBody pool body code
 
-abbrev pub IsMethodView : List Constant → MemberInfo → MethodCode → Type 0
+abbrev pub IsMethodView : List Constant → MemberInfo → MethodBody → Type 0
 IsMethodView pool m methods.Faulty = IsFaultyMethod pool m
 IsMethodView pool m methods.Bodiless = (IsFaultyMethod pool m → ⊥) × (codes_of pool m ≡ [])
 IsMethodView pool m (methods.Whole code) = IsWholeMethod pool m code
@@ -148,9 +148,9 @@ HasMapOf code = (body : List ℕ) × Contains (bodies_in code.map) body × IsFlo
 -- the head of the class, and whether two fields or two methods have the same name and the same descriptor
 pub record IsGoodPart (c : ClassFile) (part : GoodFile) : Type 0 where
   pub head_is : IsHeadOf c part.head
-  pub told : IsTrue part.repeats ↔ HasRepeats c
+  pub reported : IsTrue part.repeats ↔ HasRepeats c
 
 -- the class's name, and none where rule 1 is violated
-abbrev pub TellsName : PathFile → Option (Bor (List ℕ)) → Type 0
-TellsName file None = IsRefused file.bytes.now
-TellsName file (Some name) = (c : ClassFile) × IsGood file.bytes.now c × (name.now ≡ this_name c)
+abbrev pub SaysName : PathFile → Option (Bor (List ℕ)) → Type 0
+SaysName file None = IsRefused file.bytes.now
+SaysName file (Some name) = (c : ClassFile) × IsGood file.bytes.now c × (name.now ≡ this_name c)

@@ -31,7 +31,7 @@ pub struct WholeCode<'a> {
 
 /// The code that a method has.
 #[derive(Debug, Drop)]
-pub enum MethodCode<'a> {
+pub enum MethodBody<'a> {
     /// A part of it is faulty.
     Faulty,
     /// There is no code, as the method is native or abstract.
@@ -152,13 +152,13 @@ fn code_of_body<'a>(
 }
 
 // The answer for a native or abstract method whose Code attributes have these bodies.
-fn bodiless_code<'a>(bodies: &[&'a [u8]]) -> MethodCode<'a>
+fn bodiless_code<'a>(bodies: &[&'a [u8]]) -> MethodBody<'a>
     ensures { IsBodilessView (map (λ body. body.now) bodies.now) result }
 {
     if bodies.is_empty() {
-        MethodCode::Bodiless
+        MethodBody::Bodiless
     } else {
-        MethodCode::Faulty
+        MethodBody::Faulty
     }
 }
 
@@ -167,16 +167,16 @@ fn own_code<'a>(
     alloc: Global,
     pool: &Pool<'_>,
     bodies: &[&'a [u8]],
-) -> Result<MethodCode<'a>, RulesError>
+) -> Result<MethodBody<'a>, RulesError>
     requires { All (λ body. length body.now < 2 ^ 32) bodies.now }
     ensures { IfOk result (IsOwnView pool.now (map (λ body. body.now) bodies.now)) }
 {
     match bodies {
         [body] => match code_of_body(alloc, pool, body)? {
-            Some(code) => Ok(MethodCode::Whole(code)),
-            None => Ok(MethodCode::Faulty),
+            Some(code) => Ok(MethodBody::Whole(code)),
+            None => Ok(MethodBody::Faulty),
         },
-        _ => Ok(MethodCode::Faulty),
+        _ => Ok(MethodBody::Faulty),
     }
 }
 
@@ -185,7 +185,7 @@ pub fn code_of_method<'a>(
     alloc: Global,
     pool: &Pool<'_>,
     method: &MemberView<'a>,
-) -> Result<MethodCode<'a>, RulesError>
+) -> Result<MethodBody<'a>, RulesError>
     requires { AllByRecursion (IsAttribute pool.now) (member_of method.now).attributes }
     ensures { IfOk result (IsMethodView pool.now (member_of method.now)) }
 {

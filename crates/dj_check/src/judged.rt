@@ -6,7 +6,7 @@ ghost use Rattle.dj_class.specs.Members.{member_of};
 ghost use Rattle.dj_class.specs.Views.{class_of};
 ghost use Rattle.dj_check.specs.trusted.Floats.{HasFloat, IsFloating, HasFloating, MentionsFloat};
 ghost use Rattle.dj_check.specs.trusted.Classes.{IsReflective, IsReflectiveText, element_class};
-ghost use Rattle.dj_check.specs.Judged.{IsTextAt, AreTexts, first_in, BeginsFloat, is_float_letter, AreNumbered, IsMarked, StayMarked, AreNamesMarked, AreMembersMarked, AreRight, Notes, IsToldText, IsJudgedText, IsOwnText, AreOwnTexts};
+ghost use Rattle.dj_check.specs.Judged.{IsTextAt, AreTexts, first_in, BeginsFloat, is_float_letter, AreNumbered, IsMarked, StayMarked, AreNamesMarked, AreMembersMarked, AreRight, Notes, IsReportedText, IsJudgedText, IsOwnText, AreOwnTexts};
 
 use crate::prints::are_distinct;
 use dj_class::{ClassView, MemberView};
@@ -242,7 +242,7 @@ fn judge_text<'p>(
     index: u16,
     marked: bool,
 ) -> Result<JudgedText, RulesError>
-    ensures { IfOk result (IsToldText indexes.old indexes.new text.now index marked) }
+    ensures { IfOk result (IsReportedText indexes.old indexes.new text.now index marked) }
 {
     let float = has_float(alloc, text)?;
     let reflective = is_reflective_text(alloc, text)?;

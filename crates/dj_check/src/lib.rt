@@ -21,7 +21,7 @@ mod prints;
 mod repeats;
 
 pub use classes::{add_naming_lines, class_name};
-pub use code::{MethodCode, WholeCode, code_of_method};
+pub use code::{MethodBody, WholeCode, code_of_method};
 pub use dj_rules::RulesError;
 pub use doubles::{NamedFile, add_duplicate_lines};
 pub use fields::has_faulty_field;
@@ -30,6 +30,6 @@ pub use hierarchy::{Owner, add_hierarchy_lines};
 pub use instructions::violates_instr;
 pub use judged::{JudgedText, judge_texts, marked_names, text_in};
 pub use lines::add_mark_lines;
-pub use marks::{Mark, Place, add_mark_if};
+pub use marks::{Mark, MarkPlace, add_mark_if};
 pub use methods::{add_bodiless_marks, add_field_marks, add_own_marks, names_of};
 pub use passes::catches_error;

@@ -6,7 +6,7 @@ use dj_rules::RulesError;
 
 /// A part of a file that may have lines: a member, by the indexes of its name and descriptor, as a whole or at the instruction of this number.
 #[derive(Clone, Copy, Debug, PartialEq, Eq, PartialOrd, Ord)]
-pub struct Place {
+pub struct MarkPlace {
     pub name: u16,
     pub desc: u16,
     pub number: Option<u32>,
@@ -15,14 +15,14 @@ pub struct Place {
 /// A violation: a rule and a place. A line is made of it only where one is needed.
 #[derive(Clone, Copy, Debug, PartialEq, Eq, PartialOrd, Ord)]
 pub struct Mark {
-    pub place: Place,
+    pub place: MarkPlace,
     pub rule: u8,
 }
 
 /// Appends the mark of a rule, if it is violated.
 pub fn add_mark_if(
     marks: &mut Vec<Mark>,
-    place: Place,
+    place: MarkPlace,
     rule: u8,
     violated: bool,
 ) -> Result<(), RulesError>

@@ -14,7 +14,7 @@ ghost use Rattle.dj_check.specs.Passes.{IsWholeMethod, HasFloatFrames};
 use crate::code::WholeCode;
 use crate::judged::{JudgedText, text_in};
 use crate::maps::have_float_type;
-use crate::marks::{Mark, Place, add_mark_if};
+use crate::marks::{Mark, MarkPlace, add_mark_if};
 use crate::passes::add_code_marks;
 use dj_class::{ClassView, MemberView};
 use dj_pool::Pool;
@@ -65,7 +65,7 @@ fn add_whole_marks(
 ) -> Result<(), RulesError>
     ensures { OnOk result (Gains (MarksOf names (RuledWhole float interface_code)) marks.old.items marks.new.items) }
 {
-    let place = Place {
+    let place = MarkPlace {
         name: names.0,
         desc: names.1,
         number: None,
@@ -144,7 +144,7 @@ fn add_field_mark(
     ensures { OnOk result (Gains (MarksOf (names_in texts.now (member_of field.now)) (FieldViolates (class_of view.now) (member_of field.now))) marks.old.items marks.new.items) }
 {
     let names = names_of(&view.pool, texts, field);
-    let place = Place {
+    let place = MarkPlace {
         name: names.0,
         desc: names.1,
         number: None,

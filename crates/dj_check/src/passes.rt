@@ -10,7 +10,7 @@ use crate::instructions::{
     violates_instr,
 };
 use crate::judged::JudgedText;
-use crate::marks::{Mark, Place, add_mark_if};
+use crate::marks::{Mark, MarkPlace, add_mark_if};
 use dj_labels::{Labelled, Protected};
 use dj_ops::Instr;
 use dj_pool::Pool;
@@ -34,7 +34,7 @@ const MULTI_ARRAY: u8 = 15;
 // Appends the marks of an instruction at its place.
 fn add_instr_marks(
     marks: &mut Vec<Mark>,
-    place: Place,
+    place: MarkPlace,
     pool: &Pool<'_>,
     texts: &[JudgedText],
     instr: &Instr,
@@ -53,7 +53,7 @@ fn add_instr_marks(
 // The same; an instruction that violates no rule, as most do, is passed over quickly.
 fn add_marks_at(
     marks: &mut Vec<Mark>,
-    place: Place,
+    place: MarkPlace,
     pool: &Pool<'_>,
     texts: &[JudgedText],
     instr: &Instr,
@@ -80,7 +80,7 @@ fn add_all_instr_marks(
     ensures { OnOk result (Gains (MarksOf names (ViolatesBelow (length code.now) pool.now code.now)) marks.old.items marks.new.items) }
 {
     for at in 0..code.len() {
-        let place = Place {
+        let place = MarkPlace {
             name: names.0,
             desc: names.1,
             number: Some(at as u32),
@@ -118,7 +118,7 @@ fn add_handler_mark(
 ) -> Result<(), RulesError>
     ensures { OnOk result (Gains (MarksOf names (RangeViolates pool.now range)) marks.old.items marks.new.items) }
 {
-    let place = Place {
+    let place = MarkPlace {
         name: names.0,
         desc: names.1,
         number: Some(range.handler),

@@ -133,105 +133,105 @@ place_of (errors.Pool (pool_errors.Text index)) = index
 place_of _ = 0
 
 -- a class that is an array's: where its index stands, and no other kind of error
-pub denied-told : ReadsClass array_file (Err (errors.Index 20))
+pub denied-reported : ReadsClass array_file (Err (errors.Index 20))
 unfolding array_file utf8_at number4_at number8_at named_at paired_at handle_at untagged_at constant_at_cursor slot_at slots_at first_unlinked linked_slots_at pool_at unit_read long_read two_read three_read units_read modified_utf8_test unqualified_name_test method_name_test class_name_test field_descriptor_test method_descriptor_test array_descriptor_test reads_class_name dims_read name_read class_read of_read type_read params_read field_read return_read method_read many_at table_at index_at attribute_at member_at magic_at header_at heading_at class_file_of
-denied-told = reads_class tests_decide array_file (Err (errors.Index 20)) (are_bytes array_file refl) refl
+denied-reported = reads_class tests_decide array_file (Err (errors.Index 20)) (are_bytes array_file refl) refl
 
 denied-place_not : ReadsClass array_file (Err (errors.Index 18)) → ⊥
 unfolding place_of
-denied-place_not h = let same = one_fault tests_decide array_file _ _ h denied-told in omega (arith, ap place_of same)
+denied-place_not h = let same = one_fault tests_decide array_file _ _ h denied-reported in omega (arith, ap place_of same)
 
 denied-cut_not : ReadsClass array_file (Err (errors.Cut 20)) → ⊥
-denied-cut_not h = let same = one_fault tests_decide array_file _ _ h denied-told in absurd cc
+denied-cut_not h = let same = one_fault tests_decide array_file _ _ h denied-reported in absurd cc
 
 denied-link_not : ReadsClass array_file (Err (errors.Pool (pool_errors.Link 2))) → ⊥
-denied-link_not h = let same = one_fault tests_decide array_file _ _ h denied-told in absurd cc
+denied-link_not h = let same = one_fault tests_decide array_file _ _ h denied-reported in absurd cc
 
 denied-trailing_not : ReadsClass array_file (Err (errors.Trailing 20)) → ⊥
-denied-trailing_not h = let same = one_fault tests_decide array_file _ _ h denied-told in absurd cc
+denied-trailing_not h = let same = one_fault tests_decide array_file _ _ h denied-reported in absurd cc
 
 denied-view_not : (view : ClassView) → ReadsClass array_file (Ok view) → ⊥
-denied-view_not view h = faulty_is_malformed tests_decide array_file _ denied-told (class_of view) h
+denied-view_not view h = faulty_is_malformed tests_decide array_file _ denied-reported (class_of view) h
 
 -- an item that is not there whole: where it begins, not where the bytes end
-cut-told : ReadsClass (take 97 bytes_a) (Err (errors.Cut 90))
+cut-reported : ReadsClass (take 97 bytes_a) (Err (errors.Cut 90))
 unfolding bytes_a utf8_at number4_at number8_at named_at paired_at handle_at untagged_at constant_at_cursor slot_at slots_at first_unlinked linked_slots_at pool_at unit_read long_read two_read three_read units_read modified_utf8_test unqualified_name_test method_name_test class_name_test field_descriptor_test method_descriptor_test array_descriptor_test reads_class_name dims_read name_read class_read of_read type_read params_read field_read return_read method_read many_at table_at index_at attribute_at member_at magic_at header_at heading_at class_file_of
-cut-told = reads_class tests_decide (take 97 bytes_a) (Err (errors.Cut 90)) (are_bytes (take 97 bytes_a) refl) refl
+cut-reported = reads_class tests_decide (take 97 bytes_a) (Err (errors.Cut 90)) (are_bytes (take 97 bytes_a) refl) refl
 
 cut-place_not : ReadsClass (take 97 bytes_a) (Err (errors.Cut 97)) → ⊥
 unfolding place_of
-cut-place_not h = let same = one_fault tests_decide (take 97 bytes_a) _ _ h cut-told in omega (arith, ap place_of same)
+cut-place_not h = let same = one_fault tests_decide (take 97 bytes_a) _ _ h cut-reported in omega (arith, ap place_of same)
 
 cut-denied_not : ReadsClass (take 97 bytes_a) (Err (errors.Index 90)) → ⊥
-cut-denied_not h = let same = one_fault tests_decide (take 97 bytes_a) _ _ h cut-told in absurd cc
+cut-denied_not h = let same = one_fault tests_decide (take 97 bytes_a) _ _ h cut-reported in absurd cc
 
 cut-trailing_not : ReadsClass (take 97 bytes_a) (Err (errors.Trailing 97)) → ⊥
-cut-trailing_not h = let same = one_fault tests_decide (take 97 bytes_a) _ _ h cut-told in absurd cc
+cut-trailing_not h = let same = one_fault tests_decide (take 97 bytes_a) _ _ h cut-reported in absurd cc
 
 cut-view_not : (view : ClassView) → ReadsClass (take 97 bytes_a) (Ok view) → ⊥
-cut-view_not view h = faulty_is_malformed tests_decide (take 97 bytes_a) _ cut-told (class_of view) h
+cut-view_not view h = faulty_is_malformed tests_decide (take 97 bytes_a) _ cut-reported (class_of view) h
 
 -- a byte after the last item
-trailing-told : ReadsClass (bytes_a ++ 0 ∷ []) (Err (errors.Trailing 106))
+trailing-reported : ReadsClass (bytes_a ++ 0 ∷ []) (Err (errors.Trailing 106))
 unfolding bytes_a utf8_at number4_at number8_at named_at paired_at handle_at untagged_at constant_at_cursor slot_at slots_at first_unlinked linked_slots_at pool_at unit_read long_read two_read three_read units_read modified_utf8_test unqualified_name_test method_name_test class_name_test field_descriptor_test method_descriptor_test array_descriptor_test reads_class_name dims_read name_read class_read of_read type_read params_read field_read return_read method_read many_at table_at index_at attribute_at member_at magic_at header_at heading_at class_file_of
-trailing-told = reads_class tests_decide (bytes_a ++ 0 ∷ []) (Err (errors.Trailing 106)) (are_bytes (bytes_a ++ 0 ∷ []) refl) refl
+trailing-reported = reads_class tests_decide (bytes_a ++ 0 ∷ []) (Err (errors.Trailing 106)) (are_bytes (bytes_a ++ 0 ∷ []) refl) refl
 
 trailing-place_not : ReadsClass (bytes_a ++ 0 ∷ []) (Err (errors.Trailing 105)) → ⊥
 unfolding place_of
-trailing-place_not h = let same = one_fault tests_decide (bytes_a ++ 0 ∷ []) _ _ h trailing-told in omega (arith, ap place_of same)
+trailing-place_not h = let same = one_fault tests_decide (bytes_a ++ 0 ∷ []) _ _ h trailing-reported in omega (arith, ap place_of same)
 
 trailing-cut_not : ReadsClass (bytes_a ++ 0 ∷ []) (Err (errors.Cut 106)) → ⊥
-trailing-cut_not h = let same = one_fault tests_decide (bytes_a ++ 0 ∷ []) _ _ h trailing-told in absurd cc
+trailing-cut_not h = let same = one_fault tests_decide (bytes_a ++ 0 ∷ []) _ _ h trailing-reported in absurd cc
 
 trailing-view_not : (view : ClassView) → ReadsClass (bytes_a ++ 0 ∷ []) (Ok view) → ⊥
-trailing-view_not view h = faulty_is_malformed tests_decide (bytes_a ++ 0 ∷ []) _ trailing-told (class_of view) h
+trailing-view_not view h = faulty_is_malformed tests_decide (bytes_a ++ 0 ∷ []) _ trailing-reported (class_of view) h
 
 -- another magic number, though all else is a class file's
-magic-told : ReadsClass (changed 3 191) (Err errors.Magic)
+magic-reported : ReadsClass (changed 3 191) (Err errors.Magic)
 unfolding bytes_a changed utf8_at number4_at number8_at named_at paired_at handle_at untagged_at constant_at_cursor slot_at slots_at first_unlinked linked_slots_at pool_at unit_read long_read two_read three_read units_read modified_utf8_test unqualified_name_test method_name_test class_name_test field_descriptor_test method_descriptor_test array_descriptor_test reads_class_name dims_read name_read class_read of_read type_read params_read field_read return_read method_read many_at table_at index_at attribute_at member_at magic_at header_at heading_at class_file_of
-magic-told = reads_class tests_decide (changed 3 191) (Err errors.Magic) (are_bytes (changed 3 191) refl) refl
+magic-reported = reads_class tests_decide (changed 3 191) (Err errors.Magic) (are_bytes (changed 3 191) refl) refl
 
 magic-cut_not : ReadsClass (changed 3 191) (Err (errors.Cut 0)) → ⊥
-magic-cut_not h = let same = one_fault tests_decide (changed 3 191) _ _ h magic-told in absurd cc
+magic-cut_not h = let same = one_fault tests_decide (changed 3 191) _ _ h magic-reported in absurd cc
 
 magic-denied_not : ReadsClass (changed 3 191) (Err (errors.Index 0)) → ⊥
-magic-denied_not h = let same = one_fault tests_decide (changed 3 191) _ _ h magic-told in absurd cc
+magic-denied_not h = let same = one_fault tests_decide (changed 3 191) _ _ h magic-reported in absurd cc
 
 magic-view_not : (view : ClassView) → ReadsClass (changed 3 191) (Ok view) → ⊥
-magic-view_not view h = faulty_is_malformed tests_decide (changed 3 191) _ magic-told (class_of view) h
+magic-view_not view h = faulty_is_malformed tests_decide (changed 3 191) _ magic-reported (class_of view) h
 
 -- a class in the pool that names a class
-link-told : ReadsClass (changed 16 4) (Err (errors.Pool (pool_errors.Link 2)))
+link-reported : ReadsClass (changed 16 4) (Err (errors.Pool (pool_errors.Link 2)))
 unfolding bytes_a changed utf8_at number4_at number8_at named_at paired_at handle_at untagged_at constant_at_cursor slot_at slots_at first_unlinked linked_slots_at pool_at unit_read long_read two_read three_read units_read modified_utf8_test unqualified_name_test method_name_test class_name_test field_descriptor_test method_descriptor_test array_descriptor_test reads_class_name dims_read name_read class_read of_read type_read params_read field_read return_read method_read many_at table_at index_at attribute_at member_at magic_at header_at heading_at class_file_of
-link-told = reads_class tests_decide (changed 16 4) (Err (errors.Pool (pool_errors.Link 2))) (are_bytes (changed 16 4) refl) refl
+link-reported = reads_class tests_decide (changed 16 4) (Err (errors.Pool (pool_errors.Link 2))) (are_bytes (changed 16 4) refl) refl
 
 link-index_not : ReadsClass (changed 16 4) (Err (errors.Pool (pool_errors.Link 1))) → ⊥
 unfolding place_of
-link-index_not h = let same = one_fault tests_decide (changed 16 4) _ _ h link-told in omega (arith, ap place_of same)
+link-index_not h = let same = one_fault tests_decide (changed 16 4) _ _ h link-reported in omega (arith, ap place_of same)
 
 link-text_not : ReadsClass (changed 16 4) (Err (errors.Pool (pool_errors.Text 2))) → ⊥
-link-text_not h = let same = one_fault tests_decide (changed 16 4) _ _ h link-told in absurd cc
+link-text_not h = let same = one_fault tests_decide (changed 16 4) _ _ h link-reported in absurd cc
 
 link-denied_not : ReadsClass (changed 16 4) (Err (errors.Index 2)) → ⊥
-link-denied_not h = let same = one_fault tests_decide (changed 16 4) _ _ h link-told in absurd cc
+link-denied_not h = let same = one_fault tests_decide (changed 16 4) _ _ h link-reported in absurd cc
 
 link-view_not : (view : ClassView) → ReadsClass (changed 16 4) (Ok view) → ⊥
-link-view_not view h = faulty_is_malformed tests_decide (changed 16 4) _ link-told (class_of view) h
+link-view_not view h = faulty_is_malformed tests_decide (changed 16 4) _ link-reported (class_of view) h
 
 -- a tag that is none
-tag-told : ReadsClass (changed 10 2) (Err (errors.Pool (pool_errors.Tag 10)))
+tag-reported : ReadsClass (changed 10 2) (Err (errors.Pool (pool_errors.Tag 10)))
 unfolding bytes_a changed utf8_at number4_at number8_at named_at paired_at handle_at untagged_at constant_at_cursor slot_at slots_at first_unlinked linked_slots_at pool_at unit_read long_read two_read three_read units_read modified_utf8_test unqualified_name_test method_name_test class_name_test field_descriptor_test method_descriptor_test array_descriptor_test reads_class_name dims_read name_read class_read of_read type_read params_read field_read return_read method_read many_at table_at index_at attribute_at member_at magic_at header_at heading_at class_file_of
-tag-told = reads_class tests_decide (changed 10 2) (Err (errors.Pool (pool_errors.Tag 10))) (are_bytes (changed 10 2) refl) refl
+tag-reported = reads_class tests_decide (changed 10 2) (Err (errors.Pool (pool_errors.Tag 10))) (are_bytes (changed 10 2) refl) refl
 
 tag-place_not : ReadsClass (changed 10 2) (Err (errors.Pool (pool_errors.Tag 8))) → ⊥
 unfolding place_of
-tag-place_not h = let same = one_fault tests_decide (changed 10 2) _ _ h tag-told in omega (arith, ap place_of same)
+tag-place_not h = let same = one_fault tests_decide (changed 10 2) _ _ h tag-reported in omega (arith, ap place_of same)
 
 tag-cut_not : ReadsClass (changed 10 2) (Err (errors.Pool (pool_errors.Cut 10))) → ⊥
-tag-cut_not h = let same = one_fault tests_decide (changed 10 2) _ _ h tag-told in absurd cc
+tag-cut_not h = let same = one_fault tests_decide (changed 10 2) _ _ h tag-reported in absurd cc
 
 tag-outer_cut_not : ReadsClass (changed 10 2) (Err (errors.Cut 10)) → ⊥
-tag-outer_cut_not h = let same = one_fault tests_decide (changed 10 2) _ _ h tag-told in absurd cc
+tag-outer_cut_not h = let same = one_fault tests_decide (changed 10 2) _ _ h tag-reported in absurd cc
 
 tag-view_not : (view : ClassView) → ReadsClass (changed 10 2) (Ok view) → ⊥
-tag-view_not view h = faulty_is_malformed tests_decide (changed 10 2) _ tag-told (class_of view) h
+tag-view_not view h = faulty_is_malformed tests_decide (changed 10 2) _ tag-reported (class_of view) h

@@ -115,14 +115,14 @@ parts_are : (versions : ℕ × ℕ) (pool : List Constant) (h : Heading) (fields
 parts_are versions pool h fields methods attributes =
     regroup (header_bytes versions.0 versions.1) (pool_bytes pool) (u2 h.flags) (u2 h.this_class) (u2 h.super_class) (table_bytes u2 h.interfaces) (table_bytes member_bytes fields) (table_bytes member_bytes methods) (table_bytes attribute_bytes attributes)
 
-regroup_front : (v p h r : List ℕ) → (v ++ (p ++ h)) ++ r ≡ v ++ (p ++ (h ++ r))
-regroup_front v p h r = simp append_assoc
+regroup_prefix : (v p h r : List ℕ) → (v ++ (p ++ h)) ++ r ≡ v ++ (p ++ (h ++ r))
+regroup_prefix v p h r = simp append_assoc
 
 whole_takes : (versions : ℕ × ℕ) (pool : List Constant) (h : Heading) (a b : Cursor) (x : ClassFile)
     → AreVersions versions → IsPool pool → IsHeading pool h → Spans a (header_bytes versions.0 versions.1 ++ (pool_bytes pool ++ heading_bytes h)) b → Tail pool versions h b x → IsClassFile a.rest x
 whole_takes versions pool h a b x gv gp gh s t =
-    let front : a.rest ≡ header_bytes versions.0 versions.1 ++ (pool_bytes pool ++ (heading_bytes h ++ b.rest)) = s.parts ∙ regroup_front (header_bytes versions.0 versions.1) (pool_bytes pool) (heading_bytes h) b.rest in
-    let all : a.rest ≡ header_bytes versions.0 versions.1 ++ (pool_bytes pool ++ (heading_bytes h ++ tail_bytes t.fields t.methods t.attributes)) = front ∙ ap (λ (r : List ℕ). header_bytes versions.0 versions.1 ++ (pool_bytes pool ++ (heading_bytes h ++ r))) t.parts in
+    let prefix : a.rest ≡ header_bytes versions.0 versions.1 ++ (pool_bytes pool ++ (heading_bytes h ++ b.rest)) = s.parts ∙ regroup_prefix (header_bytes versions.0 versions.1) (pool_bytes pool) (heading_bytes h) b.rest in
+    let all : a.rest ≡ header_bytes versions.0 versions.1 ++ (pool_bytes pool ++ (heading_bytes h ++ tail_bytes t.fields t.methods t.attributes)) = prefix ∙ ap (λ (r : List ℕ). header_bytes versions.0 versions.1 ++ (pool_bytes pool ++ (heading_bytes h ++ r))) t.parts in
     let whole : a.rest ≡ class_bytes (whole_of pool versions h t.fields t.methods t.attributes) = all ∙ parts_are versions pool h t.fields t.methods t.attributes in
     subst (IsClassFile a.rest) t.made (record {
       spelled = whole;
@@ -213,9 +213,9 @@ file_refuses d =
     end_refuses class_errors.Trailing (whole_of pool versions heading fields methods attributes)))))))
 
 -- the first fault is what the reader meets
-pub fault_told : TestsDecide → (bytes : List ℕ) (e : ClassError) → IsBytes bytes → class_file_of bytes ≡ Err e → IsFault bytes e
+pub fault_reported : TestsDecide → (bytes : List ℕ) (e : ClassError) → IsBytes bytes → class_file_of bytes ≡ Err e → IsFault bytes e
 unfolding class_file_of
-fault_told d bytes e fits h = (file_refuses d).tells (start_of bytes) e fits h
+fault_reported d bytes e fits h = (file_refuses d).says (start_of bytes) e fits h
 
 pub fault_again : TestsDecide → (bytes : List ℕ) (e : ClassError) → IsFault bytes e → class_file_of bytes ≡ Err e
 unfolding class_file_of

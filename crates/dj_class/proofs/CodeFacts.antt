@@ -7,7 +7,7 @@ use Rattle.dj_class.specs.declared.class.ClassError.TheVariants as errors
 use Rattle.dj_class.specs.declared.code.CodeView.{CodeView}
 use Rattle.dj_class.specs.trusted.Code.{CodeInfo, code_info_bytes, IsCode}
 use Rattle.dj_class.specs.CodeViews.{code_of, ReadsCode}
-use Rattle.dj_class.specs.CodeReading.{code_length_at, code_front_at, row_at, code_attribute_at, code_read}
+use Rattle.dj_class.specs.CodeReading.{code_length_at, code_prefix_at, row_at, code_attribute_at, code_read}
 use Rattle.dj_class.proofs.CodeLaws.{reads_code, one_code, one_code_fault, faulty_is_no_code}
 
 -- ---- a body with two rows and two attributes
@@ -40,7 +40,7 @@ unfolding swapped body bytes
 swapped-bytes_not h = absurd cc
 
 body-read : code_read bytes ≡ Ok body
-unfolding body bytes many_at table_at code_length_at code_front_at row_at code_attribute_at code_read
+unfolding body bytes many_at table_at code_length_at code_prefix_at row_at code_attribute_at code_read
 body-read = refl
 
 -- ---- and what is wrong with others
@@ -83,7 +83,7 @@ answers =
     ∷ []
 
 bodies-read : map code_read bodies ≡ answers
-unfolding bodies answers with_byte bytes many_at table_at code_length_at code_front_at row_at code_attribute_at code_read
+unfolding bodies answers with_byte bytes many_at table_at code_length_at code_prefix_at row_at code_attribute_at code_read
 bodies-read = refl
 
 -- ---- what reading answers
@@ -151,7 +151,7 @@ body-refused (errors.Index place) h = absurd (faulty_is_no_code bytes (errors.In
 body-refused (errors.Trailing place) h = absurd (faulty_is_no_code bytes (errors.Trailing place) h body body-is)
 
 body-cut_not : ReadsCode bytes (Err (errors.Cut 43)) → ⊥
-body-cut_not h = let told = body-refused (errors.Cut 43) h in absurd cc
+body-cut_not h = let reported = body-refused (errors.Cut 43) h in absurd cc
 
 -- the place that an error has
 place_of : ClassError → ℕ
@@ -161,55 +161,55 @@ place_of (errors.Trailing place) = place
 place_of _ = 0
 
 -- a byte after the last item: its place, and no other kind of error
-pub trailing-told : ReadsCode (bytes ++ 0 ∷ []) (Err (errors.Trailing 45))
-unfolding bytes many_at table_at code_length_at code_front_at row_at code_attribute_at code_read
-trailing-told = reads_code (bytes ++ 0 ∷ []) (Err (errors.Trailing 45)) (are_bytes (bytes ++ 0 ∷ []) refl) refl
+pub trailing-reported : ReadsCode (bytes ++ 0 ∷ []) (Err (errors.Trailing 45))
+unfolding bytes many_at table_at code_length_at code_prefix_at row_at code_attribute_at code_read
+trailing-reported = reads_code (bytes ++ 0 ∷ []) (Err (errors.Trailing 45)) (are_bytes (bytes ++ 0 ∷ []) refl) refl
 
 trailing-place_not : ReadsCode (bytes ++ 0 ∷ []) (Err (errors.Trailing 44)) → ⊥
 unfolding place_of
-trailing-place_not h = let same = one_code_fault (bytes ++ 0 ∷ []) _ _ h trailing-told in omega (arith, ap place_of same)
+trailing-place_not h = let same = one_code_fault (bytes ++ 0 ∷ []) _ _ h trailing-reported in omega (arith, ap place_of same)
 
 trailing-cut_not : ReadsCode (bytes ++ 0 ∷ []) (Err (errors.Cut 45)) → ⊥
-trailing-cut_not h = let same = one_code_fault (bytes ++ 0 ∷ []) _ _ h trailing-told in absurd cc
+trailing-cut_not h = let same = one_code_fault (bytes ++ 0 ∷ []) _ _ h trailing-reported in absurd cc
 
 trailing-index_not : ReadsCode (bytes ++ 0 ∷ []) (Err (errors.Index 4)) → ⊥
-trailing-index_not h = let same = one_code_fault (bytes ++ 0 ∷ []) _ _ h trailing-told in absurd cc
+trailing-index_not h = let same = one_code_fault (bytes ++ 0 ∷ []) _ _ h trailing-reported in absurd cc
 
 trailing-view_not : (view : CodeView) → ReadsCode (bytes ++ 0 ∷ []) (Ok view) → ⊥
-trailing-view_not view h = faulty_is_no_code (bytes ++ 0 ∷ []) _ trailing-told (code_of view) h
+trailing-view_not view h = faulty_is_no_code (bytes ++ 0 ∷ []) _ trailing-reported (code_of view) h
 
 -- an item that is not there whole: where it begins, not where the bytes end
-cut-told : ReadsCode (take 44 bytes) (Err (errors.Cut 43))
-unfolding bytes many_at table_at code_length_at code_front_at row_at code_attribute_at code_read
-cut-told = reads_code (take 44 bytes) (Err (errors.Cut 43)) (are_bytes (take 44 bytes) refl) refl
+cut-reported : ReadsCode (take 44 bytes) (Err (errors.Cut 43))
+unfolding bytes many_at table_at code_length_at code_prefix_at row_at code_attribute_at code_read
+cut-reported = reads_code (take 44 bytes) (Err (errors.Cut 43)) (are_bytes (take 44 bytes) refl) refl
 
 cut-place_not : ReadsCode (take 44 bytes) (Err (errors.Cut 44)) → ⊥
 unfolding place_of
-cut-place_not h = let same = one_code_fault (take 44 bytes) _ _ h cut-told in omega (arith, ap place_of same)
+cut-place_not h = let same = one_code_fault (take 44 bytes) _ _ h cut-reported in omega (arith, ap place_of same)
 
 cut-trailing_not : ReadsCode (take 44 bytes) (Err (errors.Trailing 44)) → ⊥
-cut-trailing_not h = let same = one_code_fault (take 44 bytes) _ _ h cut-told in absurd cc
+cut-trailing_not h = let same = one_code_fault (take 44 bytes) _ _ h cut-reported in absurd cc
 
 cut-index_not : ReadsCode (take 44 bytes) (Err (errors.Index 43)) → ⊥
-cut-index_not h = let same = one_code_fault (take 44 bytes) _ _ h cut-told in absurd cc
+cut-index_not h = let same = one_code_fault (take 44 bytes) _ _ h cut-reported in absurd cc
 
 cut-view_not : (view : CodeView) → ReadsCode (take 44 bytes) (Ok view) → ⊥
-cut-view_not view h = faulty_is_no_code (take 44 bytes) _ cut-told (code_of view) h
+cut-view_not view h = faulty_is_no_code (take 44 bytes) _ cut-reported (code_of view) h
 
 -- a length that no code has: where it stands
-pub length-told : ReadsCode (with_byte 5 1) (Err (errors.Index 4))
-unfolding bytes with_byte many_at table_at code_length_at code_front_at row_at code_attribute_at code_read
-length-told = reads_code (with_byte 5 1) (Err (errors.Index 4)) (are_bytes (with_byte 5 1) refl) refl
+pub length-reported : ReadsCode (with_byte 5 1) (Err (errors.Index 4))
+unfolding bytes with_byte many_at table_at code_length_at code_prefix_at row_at code_attribute_at code_read
+length-reported = reads_code (with_byte 5 1) (Err (errors.Index 4)) (are_bytes (with_byte 5 1) refl) refl
 
 length-place_not : ReadsCode (with_byte 5 1) (Err (errors.Index 6)) → ⊥
 unfolding place_of
-length-place_not h = let same = one_code_fault (with_byte 5 1) _ _ h length-told in omega (arith, ap place_of same)
+length-place_not h = let same = one_code_fault (with_byte 5 1) _ _ h length-reported in omega (arith, ap place_of same)
 
 length-cut_not : ReadsCode (with_byte 5 1) (Err (errors.Cut 4)) → ⊥
-length-cut_not h = let same = one_code_fault (with_byte 5 1) _ _ h length-told in absurd cc
+length-cut_not h = let same = one_code_fault (with_byte 5 1) _ _ h length-reported in absurd cc
 
 length-later_not : ReadsCode (with_byte 5 1) (Err (errors.Cut 8)) → ⊥
-length-later_not h = let same = one_code_fault (with_byte 5 1) _ _ h length-told in absurd cc
+length-later_not h = let same = one_code_fault (with_byte 5 1) _ _ h length-reported in absurd cc
 
 length-view_not : (view : CodeView) → ReadsCode (with_byte 5 1) (Ok view) → ⊥
-length-view_not view h = faulty_is_no_code (with_byte 5 1) _ length-told (code_of view) h
+length-view_not view h = faulty_is_no_code (with_byte 5 1) _ length-reported (code_of view) h

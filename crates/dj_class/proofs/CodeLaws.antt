@@ -24,7 +24,7 @@ use Rattle.dj_class.specs.Faults.{Fault, Cut2}
 use Rattle.dj_class.specs.CodeFaults.{IsCodeLength, LengthFault, RowFault, CodeAttributeFault, BodyFault, IsCodeFault}
 use Rattle.dj_class.specs.CodeViews.{code_of, ReadsCode}
 use Rattle.dj_class.specs.Laws.{CodeOrFault, IsOneCode, IsFaultyCode}
-use Rattle.dj_class.specs.CodeReading.{code_length_at, code_front_at, row_at, code_attribute_at, code_read}
+use Rattle.dj_class.specs.CodeReading.{code_length_at, code_prefix_at, row_at, code_attribute_at, code_read}
 use Rattle.dj_class.specs.Memory.{code_is_memory}
 
 -- ---- rows
@@ -113,43 +113,43 @@ length_refuses : Refuses code_length_at LengthFault
 unfolding code_length_at
 length_refuses = guard_refuses (λ n. nat_lt 0 n && nat_lt n 65536) IsCodeLength class_errors.Index (u4_reads class_errors.Cut) (u4_refuses class_errors.Cut) (λ n h. grind (arith, nat_tests)) (λ n h. grind (arith, nat_tests))
 
-abbrev front_bytes : ℕ × ℕ × List ℕ → List ℕ
-front_bytes f = u2 f.0 ++ (u2 f.1 ++ (u4 (length f.2) ++ f.2))
+abbrev prefix_bytes : ℕ × ℕ × List ℕ → List ℕ
+prefix_bytes f = u2 f.0 ++ (u2 f.1 ++ (u4 (length f.2) ++ f.2))
 
-record IsFront (f : ℕ × ℕ × List ℕ) : Type 0 where
+record IsPrefix (f : ℕ × ℕ × List ℕ) : Type 0 where
   pub max_stack : f.0 < 2 ^ 16
   pub max_locals : f.1 < 2 ^ 16
   pub code : IsCodeLength (length f.2)
 
-front_takes : (c : Cursor) (x : (ℕ × ℕ × List ℕ) × Cursor) → IsBytes c.rest → code_front_at c ≡ Ok x → Spans c (front_bytes x.0) x.1 × IsFront x.0
-unfolding code_front_at
-front_takes c x fits e =
+prefix_takes : (c : Cursor) (x : (ℕ × ℕ × List ℕ) × Cursor) → IsBytes c.rest → code_prefix_at c ≡ Ok x → Spans c (prefix_bytes x.0) x.1 × IsPrefix x.0
+unfolding code_prefix_at
+prefix_takes c x fits e =
     let max_stack = step_takes (u2_reads class_errors.Cut) c fits e in
     let max_locals = step_takes (u2_reads class_errors.Cut) max_stack.next max_stack.fits max_stack.rest in
     let len = step_takes length_reads max_locals.next max_locals.fits max_locals.rest in
     let code = step_takes (block_reads class_errors.Cut len.value) len.next len.fits len.rest in
     let made : ((max_stack.value, max_locals.value, code.value), code.next) ≡ x = cc (code.rest) in
     let whole : Spans c (u2 max_stack.value ++ (u2 max_locals.value ++ (u4 len.value ++ code.value))) code.next = Spans-then max_stack.spans (Spans-then max_locals.spans (Spans-then len.spans code.spans)) in
-    let spelled : Spans c (front_bytes (max_stack.value, max_locals.value, code.value)) code.next = subst (λ (k : ℕ). Spans c (u2 max_stack.value ++ (u2 max_locals.value ++ (u4 k ++ code.value))) code.next) (sym code.good) whole in
-    subst (λ (y : (ℕ × ℕ × List ℕ) × Cursor). Spans c (front_bytes y.0) y.1 × IsFront y.0) made
+    let spelled : Spans c (prefix_bytes (max_stack.value, max_locals.value, code.value)) code.next = subst (λ (k : ℕ). Spans c (u2 max_stack.value ++ (u2 max_locals.value ++ (u4 k ++ code.value))) code.next) (sym code.good) whole in
+    subst (λ (y : (ℕ × ℕ × List ℕ) × Cursor). Spans c (prefix_bytes y.0) y.1 × IsPrefix y.0) made
     (spelled, record { max_stack = max_stack.good; max_locals = max_locals.good; code = subst IsCodeLength (sym code.good) len.good })
 
-front_again : (c : Cursor) (f : ℕ × ℕ × List ℕ) (next : Cursor) → IsFront f → Spans c (front_bytes f) next → code_front_at c ≡ Ok (f, next)
-unfolding code_front_at
-front_again c f next good s =
+prefix_again : (c : Cursor) (f : ℕ × ℕ × List ℕ) (next : Cursor) → IsPrefix f → Spans c (prefix_bytes f) next → code_prefix_at c ≡ Ok (f, next)
+unfolding code_prefix_at
+prefix_again c f next good s =
     let max_stack = step_again (u2_reads class_errors.Cut) c f.0 (u2 f.1 ++ (u4 (length f.2) ++ f.2)) next good.max_stack s in
     let max_locals = step_again (u2_reads class_errors.Cut) max_stack.0 f.1 (u4 (length f.2) ++ f.2) next good.max_locals max_stack.2 in
     let len = step_again length_reads max_locals.0 (length f.2) f.2 next good.code max_locals.2 in
     bind_again _ max_stack.1 (bind_again _ max_locals.1 (bind_again _ len.1 (bind_again _ ((block_reads class_errors.Cut (length f.2)).again len.0 f.2 next refl len.2) refl)))
 
-front_reads : Reads code_front_at front_bytes IsFront
-front_reads = record { takes = front_takes; again = front_again }
+prefix_reads : Reads code_prefix_at prefix_bytes IsPrefix
+prefix_reads = record { takes = prefix_takes; again = prefix_again }
 
 -- this, and what follows it
-front_refuses_then : {B : Type 0} {Later : Fault} (k : (ℕ × ℕ × List ℕ) × Cursor → Result B ClassError) → ((f : ℕ × ℕ × List ℕ) → IsFront f → Refuses (λ c. k (f, c)) Later)
-    → Refuses (λ c. code_front_at c >>= k) (InTurn Cut2 u2 Fits2 (λ max_stack. InTurn Cut2 u2 Fits2 (λ max_locals. InTurn LengthFault u4 IsCodeLength (λ len. InTurn (IsCut class_errors.Cut len) (λ code. code) (λ code. length code ≡ len) (λ code. Later)))))
-unfolding code_front_at
-front_refuses_then k later = Refuses-same
+prefix_refuses_then : {B : Type 0} {Later : Fault} (k : (ℕ × ℕ × List ℕ) × Cursor → Result B ClassError) → ((f : ℕ × ℕ × List ℕ) → IsPrefix f → Refuses (λ c. k (f, c)) Later)
+    → Refuses (λ c. code_prefix_at c >>= k) (InTurn Cut2 u2 Fits2 (λ max_stack. InTurn Cut2 u2 Fits2 (λ max_locals. InTurn LengthFault u4 IsCodeLength (λ len. InTurn (IsCut class_errors.Cut len) (λ code. code) (λ code. length code ≡ len) (λ code. Later)))))
+unfolding code_prefix_at
+prefix_refuses_then k later = Refuses-same
     (λ c. four_steps (u2_at class_errors.Cut c) (λ max_stack. u2_at class_errors.Cut max_stack.1) (λ max_stack max_locals. code_length_at max_locals.1) (λ max_stack max_locals len. block_at class_errors.Cut len.0 len.1)
     (λ max_stack max_locals len code. ((max_stack.0, max_locals.0, code.0), code.1)) k)
     (refuses_then _ (u2_reads class_errors.Cut) (u2_refuses class_errors.Cut) (λ max_stack fits_stack.
@@ -160,8 +160,8 @@ front_refuses_then k later = Refuses-same
 
 -- ---- the whole body
 
-abbrev front_of : CodeInfo → ℕ × ℕ × List ℕ
-front_of c = (c.max_stack, c.max_locals, c.code)
+abbrev prefix_of : CodeInfo → ℕ × ℕ × List ℕ
+prefix_of c = (c.max_stack, c.max_locals, c.code)
 
 abbrev whole_of : ℕ × ℕ × List ℕ → List CatchRow → List AttributeInfo → CodeInfo
 whole_of f table attributes = record { max_stack = f.0; max_locals = f.1; code = f.2; table = table; attributes = attributes }
@@ -171,25 +171,25 @@ regroup s l n c t a = simp append_assoc
 
 -- the bytes, part by part
 parts_are : (f : ℕ × ℕ × List ℕ) (table : List CatchRow) (attributes : List AttributeInfo)
-    → front_bytes f ++ (table_bytes row_bytes table ++ table_bytes attribute_bytes attributes) ≡ code_info_bytes (whole_of f table attributes)
+    → prefix_bytes f ++ (table_bytes row_bytes table ++ table_bytes attribute_bytes attributes) ≡ code_info_bytes (whole_of f table attributes)
 parts_are f table attributes = regroup (u2 f.0) (u2 f.1) (u4 (length f.2)) f.2 (table_bytes row_bytes table) (table_bytes attribute_bytes attributes)
 
 code_takes : (body : List ℕ) (c : CodeInfo) → IsBytes body → code_read body ≡ Ok c → IsCode body c
 unfolding code_read
 code_takes body c fits e =
-    let front = step_takes front_reads (start_of body) fits e in
-    let table = step_takes (table_reads class_errors.Cut row_reads) front.next front.fits front.rest in
+    let prefix = step_takes prefix_reads (start_of body) fits e in
+    let table = step_takes (table_reads class_errors.Cut row_reads) prefix.next prefix.fits prefix.rest in
     let attributes = step_takes (table_reads class_errors.Cut code_attribute_reads) table.next table.fits table.rest in
     let g = guard_ok _ attributes.rest in
     let nothing : attributes.next.rest ≡ [] = nil_from_length attributes.next.rest (eqb-true _ _ g.0) in
-    let spans : Spans (start_of body) (front_bytes front.value ++ (table_bytes row_bytes table.value ++ table_bytes attribute_bytes attributes.value)) attributes.next = Spans-then front.spans (Spans-then table.spans attributes.spans) in
+    let spans : Spans (start_of body) (prefix_bytes prefix.value ++ (table_bytes row_bytes table.value ++ table_bytes attribute_bytes attributes.value)) attributes.next = Spans-then prefix.spans (Spans-then table.spans attributes.spans) in
     subst (IsCode body) g.1 (record {
-      spelled = Spans-end (start_of body) _ attributes.next spans nothing ∙ parts_are front.value table.value attributes.value;
+      spelled = Spans-end (start_of body) _ attributes.next spans nothing ∙ parts_are prefix.value table.value attributes.value;
       valid = record {
-        max_stack = front.good.max_stack;
-        max_locals = front.good.max_locals;
-        some_code = front.good.code.0;
-        few_code = front.good.code.1;
+        max_stack = prefix.good.max_stack;
+        max_locals = prefix.good.max_locals;
+        some_code = prefix.good.code.0;
+        few_code = prefix.good.code.1;
         row_count = table.good.0;
         rows = table.good.1;
         attribute_count = attributes.good.0;
@@ -203,12 +203,12 @@ code_again body c is =
     let v = is.valid in
     let end : Cursor = record { place = length body; rest = [] } in
     let tail : List ℕ = table_bytes row_bytes c.table ++ table_bytes attribute_bytes c.attributes in
-    let spelled : body ≡ front_bytes (front_of c) ++ tail = is.spelled ∙ sym (parts_are (front_of c) c.table c.attributes) in
-    let whole : Spans (start_of body) (front_bytes (front_of c) ++ tail) end = record { parts = spelled ∙ sym (append-nil _); place = omega (arith, ap length spelled) } in
-    let front = step_again front_reads (start_of body) (front_of c) tail end (record { max_stack = v.max_stack; max_locals = v.max_locals; code = (v.some_code, v.few_code) }) whole in
-    let table = step_again (table_reads class_errors.Cut row_reads) front.0 c.table (table_bytes attribute_bytes c.attributes) end (v.row_count, v.rows) front.2 in
+    let spelled : body ≡ prefix_bytes (prefix_of c) ++ tail = is.spelled ∙ sym (parts_are (prefix_of c) c.table c.attributes) in
+    let whole : Spans (start_of body) (prefix_bytes (prefix_of c) ++ tail) end = record { parts = spelled ∙ sym (append-nil _); place = omega (arith, ap length spelled) } in
+    let prefix = step_again prefix_reads (start_of body) (prefix_of c) tail end (record { max_stack = v.max_stack; max_locals = v.max_locals; code = (v.some_code, v.few_code) }) whole in
+    let table = step_again (table_reads class_errors.Cut row_reads) prefix.0 c.table (table_bytes attribute_bytes c.attributes) end (v.row_count, v.rows) prefix.2 in
     let attributes = (table_reads class_errors.Cut code_attribute_reads).again table.0 c.attributes end (v.attribute_count, v.attributes) table.2 in
-    bind_again _ front.1 (bind_again _ table.1 (bind_again _ attributes (guard_again (class_errors.Trailing (length body)) refl)))
+    bind_again _ prefix.1 (bind_again _ table.1 (bind_again _ attributes (guard_again (class_errors.Trailing (length body)) refl)))
 
 -- a body is one Code attribute's at most
 pub one_code : (body : List ℕ) (c d : CodeInfo) → IsCode body c → IsCode body d → c ≡ d
@@ -222,22 +222,22 @@ one_code body c d p q =
 -- the whole body, from where the reader stands
 abbrev body_at : Cursor → Result CodeInfo ClassError
 body_at c = do
-  front ← code_front_at c
-  table ← table_at class_errors.Cut row_at front.1
+  prefix ← code_prefix_at c
+  table ← table_at class_errors.Cut row_at prefix.1
   attributes ← table_at class_errors.Cut code_attribute_at table.1
-  if at_end attributes.1 then Ok (whole_of front.0 table.0 attributes.0) else Err (class_errors.Trailing attributes.1.place)
+  if at_end attributes.1 then Ok (whole_of prefix.0 table.0 attributes.0) else Err (class_errors.Trailing attributes.1.place)
 
 body_refuses : Refuses body_at BodyFault
 body_refuses =
-    front_refuses_then _ (λ front _.
+    prefix_refuses_then _ (λ prefix _.
     refuses_then _ (table_reads class_errors.Cut row_reads) (table_refuses class_errors.Cut row_reads row_refuses) (λ table _.
     refuses_then _ (table_reads class_errors.Cut code_attribute_reads) (table_refuses class_errors.Cut code_attribute_reads code_attribute_refuses) (λ attributes _.
-    end_refuses class_errors.Trailing (whole_of front table attributes))))
+    end_refuses class_errors.Trailing (whole_of prefix table attributes))))
 
 -- the first fault is what the reader meets
-fault_told : (body : List ℕ) (e : ClassError) → IsBytes body → code_read body ≡ Err e → IsCodeFault body e
+fault_reported : (body : List ℕ) (e : ClassError) → IsBytes body → code_read body ≡ Err e → IsCodeFault body e
 unfolding code_read
-fault_told body e fits h = body_refuses.tells (start_of body) e fits h
+fault_reported body e fits h = body_refuses.says (start_of body) e fits h
 
 fault_again : (body : List ℕ) (e : ClassError) → IsCodeFault body e → code_read body ≡ Err e
 unfolding code_read
@@ -258,20 +258,20 @@ faulty_is_no_code body e fault c is =
 
 decided : (body : List ℕ) (r : Result CodeInfo ClassError) → IsBytes body → code_read body ≡ r → CodeOrFault body
 decided body (Ok c) fits h = IsOneCode c (code_takes body c fits h)
-decided body (Err e) fits h = IsFaultyCode e (fault_told body e fits h)
+decided body (Err e) fits h = IsFaultyCode e (fault_reported body e fits h)
 
 pub code_or_fault : (body : List ℕ) → IsBytes body → CodeOrFault body
 code_or_fault body fits = decided body (code_read body) fits refl
 
 pub reads_code : (body : List ℕ) (r : Result CodeView ClassError) → IsBytes body → Gives code_is_memory code_of r (code_read body) → ReadsCode body r
 reads_code body (Ok view) fits given = code_takes body (code_of view) fits given
-reads_code body (Err (class_errors.Pool pool_errors.Memory)) fits given = fault_told body _ fits given
-reads_code body (Err (class_errors.Pool (pool_errors.Cut p))) fits given = fault_told body _ fits given
-reads_code body (Err (class_errors.Pool (pool_errors.Tag p))) fits given = fault_told body _ fits given
-reads_code body (Err (class_errors.Pool (pool_errors.Link p))) fits given = fault_told body _ fits given
-reads_code body (Err (class_errors.Pool (pool_errors.Text p))) fits given = fault_told body _ fits given
+reads_code body (Err (class_errors.Pool pool_errors.Memory)) fits given = fault_reported body _ fits given
+reads_code body (Err (class_errors.Pool (pool_errors.Cut p))) fits given = fault_reported body _ fits given
+reads_code body (Err (class_errors.Pool (pool_errors.Tag p))) fits given = fault_reported body _ fits given
+reads_code body (Err (class_errors.Pool (pool_errors.Link p))) fits given = fault_reported body _ fits given
+reads_code body (Err (class_errors.Pool (pool_errors.Text p))) fits given = fault_reported body _ fits given
 reads_code body (Err class_errors.Memory) fits given = tt
-reads_code body (Err class_errors.Magic) fits given = fault_told body _ fits given
-reads_code body (Err (class_errors.Cut p)) fits given = fault_told body _ fits given
-reads_code body (Err (class_errors.Index p)) fits given = fault_told body _ fits given
-reads_code body (Err (class_errors.Trailing p)) fits given = fault_told body _ fits given
+reads_code body (Err class_errors.Magic) fits given = fault_reported body _ fits given
+reads_code body (Err (class_errors.Cut p)) fits given = fault_reported body _ fits given
+reads_code body (Err (class_errors.Index p)) fits given = fault_reported body _ fits given
+reads_code body (Err (class_errors.Trailing p)) fits given = fault_reported body _ fits given

@@ -19,7 +19,7 @@ use Rattle.dj_class.specs.Faults.{IsFault}
 use Rattle.dj_class.specs.CodeFaults.{IsCodeLength, IsCodeFault}
 use Rattle.dj_class.specs.Access.{access_table}
 use Rattle.dj_class.specs.Reading.{index_at, attribute_at, member_at, magic_at, header_at, heading_at, class_file_of}
-use Rattle.dj_class.specs.CodeReading.{code_length_at, code_front_at, row_at, code_read}
+use Rattle.dj_class.specs.CodeReading.{code_length_at, code_prefix_at, row_at, code_read}
 use Rattle.dj_class.proofs.ClassLaws.{fault_again}
 
 -- ---- a class file of one method
@@ -118,16 +118,16 @@ class_a-faultless : (e : ClassError) → IsFault bytes_a e → ⊥
 unfolding class_a bytes_a utf8_at number4_at number8_at named_at paired_at handle_at untagged_at constant_at_cursor slot_at slots_at first_unlinked linked_slots_at pool_at unit_read long_read two_read three_read units_read modified_utf8_test unqualified_name_test method_name_test class_name_test field_descriptor_test method_descriptor_test array_descriptor_test reads_class_name dims_read name_read class_read of_read type_read params_read field_read return_read method_read many_at table_at index_at attribute_at member_at magic_at header_at heading_at class_file_of
 class_a-faultless e fault =
     let read : class_file_of bytes_a ≡ Ok class_a = refl in
-    let told = fault_again tests_decide bytes_a e fault in
+    let reported = fault_again tests_decide bytes_a e fault in
     absurd cc
 
 -- a fault has one place
 array_file-fault : (e : ClassError) → IsFault array_file e → e ≡ errors.Index 20
-array_file-fault e fault = let told = fault_again tests_decide array_file e fault in let read = array_file-read in cc
+array_file-fault e fault = let reported = fault_again tests_decide array_file e fault in let read = array_file-read in cc
 
 -- four bytes that are not CA FE BA BE
 zeros-fault : IsFault (0 ∷ 0 ∷ 0 ∷ 0 ∷ []) errors.Magic
-zeros-fault = inl (inr (record { value = 0; rest = []; parts = refl; item = omega arith; wrong = λ h. absurd (omega (arith, h)); told = refl }))
+zeros-fault = inl (inr (record { value = 0; rest = []; parts = refl; item = omega arith; wrong = λ h. absurd (omega (arith, h)); reported = refl }))
 
 -- only two names of methods have < and >; those of fields may
 init-names : map method_name_test (codes "<init>" ∷ (codes "<clinit>" ∷ (codes "<x>" ∷ (codes "x" ∷ [])))) ≡ true ∷ (true ∷ (false ∷ (true ∷ [])))
@@ -247,7 +247,7 @@ no-code_not body c len is = omega (arith, len, is.valid.some_code)
 
 -- the length 65,535 is asked for its bytes, and 65,536 refused where it stands
 lengths-read : map code_read ((0 ∷ 1 ∷ 0 ∷ 1 ∷ 0 ∷ 0 ∷ 255 ∷ 255 ∷ 177 ∷ []) ∷ ((0 ∷ 1 ∷ 0 ∷ 1 ∷ 0 ∷ 1 ∷ 0 ∷ 0 ∷ 177 ∷ []) ∷ ((0 ∷ 1 ∷ 0 ∷ 1 ∷ 0 ∷ 0 ∷ 0 ∷ 0 ∷ []) ∷ []))) ≡ Err (errors.Cut 8) ∷ (Err (errors.Index 4) ∷ (Err (errors.Index 4) ∷ []))
-unfolding code_read code_front_at code_length_at
+unfolding code_read code_prefix_at code_length_at
 lengths-read = refl
 
 length-fault : IsCodeFault (0 ∷ 1 ∷ 0 ∷ 1 ∷ 0 ∷ 1 ∷ 0 ∷ 0 ∷ []) (errors.Index 4)
@@ -263,7 +263,7 @@ length-fault = inr (record {
         parts = refl;
         good = omega arith;
         fault =
-            inl (inr (record { value = 65536; rest = []; parts = refl; item = omega arith; wrong = longest_not; told = refl }));
+            inl (inr (record { value = 65536; rest = []; parts = refl; item = omega arith; wrong = longest_not; reported = refl }));
       });
 })
 

@@ -11,8 +11,8 @@ use Rattle.dj_class.specs.Faults.{IsFault}
 use Rattle.dj_class.specs.CodeFaults.{IsCodeFault}
 use Rattle.dj_class.specs.Laws.{AreBytes, OneClassFile, OneFault, FaultyIsMalformed, ClassOrFault, IsOne, IsFaulty, EachClassOrFault, OneCode, OneCodeFault, FaultyIsNoCode, CodeOrFault, IsOneCode, IsFaultyCode, EachCodeOrFault, HasText, ClassHasTexts}
 use Rattle.dj_class.proofs.Facts.{class_a, bytes_a, array_file, class_b}
-use Rattle.dj_class.proofs.AnswerFacts.{class_a-is, denied-told}
-use Rattle.dj_class.proofs.CodeFacts.{body, bytes, body-is, trailing-told}
+use Rattle.dj_class.proofs.AnswerFacts.{class_a-is, denied-reported}
+use Rattle.dj_class.proofs.CodeFacts.{body, bytes, body-is, trailing-reported}
 
 -- ---- one answer
 
@@ -20,10 +20,10 @@ one_file-says : OneClassFile → (c : ClassFile) → IsClassFile bytes_a c → c
 one_file-says law c h = law bytes_a c class_a h class_a-is
 
 one_fault-says : OneFault → (e : ClassError) → IsFault array_file e → e ≡ errors.Index 20
-one_fault-says law e h = law array_file e (errors.Index 20) h denied-told
+one_fault-says law e h = law array_file e (errors.Index 20) h denied-reported
 
 malformed-says : FaultyIsMalformed → (c : ClassFile) → IsClassFile array_file c → ⊥
-malformed-says law = law array_file (errors.Index 20) denied-told
+malformed-says law = law array_file (errors.Index 20) denied-reported
 
 not_malformed : IsMalformed bytes_a → ⊥
 not_malformed h = h class_a class_a-is
@@ -32,10 +32,10 @@ one_code-says : OneCode → (c : CodeInfo) → IsCode bytes c → c ≡ body
 one_code-says law c h = law bytes c body h body-is
 
 one_code_fault-says : OneCodeFault → (e : ClassError) → IsCodeFault (bytes ++ 0 ∷ []) e → e ≡ errors.Trailing 45
-one_code_fault-says law e h = law (bytes ++ 0 ∷ []) e (errors.Trailing 45) h trailing-told
+one_code_fault-says law e h = law (bytes ++ 0 ∷ []) e (errors.Trailing 45) h trailing-reported
 
 no_code-says : FaultyIsNoCode → (c : CodeInfo) → IsCode (bytes ++ 0 ∷ []) c → ⊥
-no_code-says law = law (bytes ++ 0 ∷ []) (errors.Trailing 45) trailing-told
+no_code-says law = law (bytes ++ 0 ∷ []) (errors.Trailing 45) trailing-reported
 
 -- ---- one of two
 
@@ -49,7 +49,7 @@ unfolding bytes_a
 each_file-says law each = file-or-fault law (each bytes_a (are_bytes bytes_a refl))
 
 fault-or-file : FaultyIsMalformed → ClassOrFault array_file → (e : ClassError) × IsFault array_file e
-fault-or-file law (IsOne c is) = absurd (law array_file (errors.Index 20) denied-told c is)
+fault-or-file law (IsOne c is) = absurd (law array_file (errors.Index 20) denied-reported c is)
 fault-or-file law (IsFaulty e fault) = (e, fault)
 
 body-or-fault : FaultyIsNoCode → CodeOrFault bytes → (c : CodeInfo) × IsCode bytes c

@@ -15,8 +15,8 @@ code_length_at c = do
   if nat_lt 0 len.0 && nat_lt len.0 65536 then Ok len else Err (class_errors.Index c.place)
 
 -- what comes before the exception table: max_stack, max_locals and the code
-unfoldable pub code_front_at : Cursor → Result ((ℕ × ℕ × List ℕ) × Cursor) ClassError
-code_front_at c = do
+unfoldable pub code_prefix_at : Cursor → Result ((ℕ × ℕ × List ℕ) × Cursor) ClassError
+code_prefix_at c = do
   max_stack ← u2_at class_errors.Cut c
   max_locals ← u2_at class_errors.Cut max_stack.1
   len ← code_length_at max_locals.1
@@ -41,13 +41,13 @@ code_attribute_at c = do
 -- all of the bytes
 unfoldable pub code_read : List ℕ → Result CodeInfo ClassError
 code_read bytes = do
-  front ← code_front_at (start_of bytes)
-  table ← table_at class_errors.Cut row_at front.1
+  prefix ← code_prefix_at (start_of bytes)
+  table ← table_at class_errors.Cut row_at prefix.1
   attributes ← table_at class_errors.Cut code_attribute_at table.1
   if at_end attributes.1 then Ok (record {
-    max_stack = front.0.0;
-    max_locals = front.0.1;
-    code = front.0.2;
+    max_stack = prefix.0.0;
+    max_locals = prefix.0.1;
+    code = prefix.0.2;
     table = table.0;
     attributes = attributes.0;
   }) else Err (class_errors.Trailing attributes.1.place)

@@ -3,7 +3,7 @@ ghost use Rattle.dj_bytes.specs.Steps.{Gives};
 ghost use Rattle.dj_bytes.specs.Reading.{many_at, table_at};
 ghost use Rattle.dj_bytes.specs.Views.{cursor_of};
 ghost use Rattle.dj_class.specs.Parts.{attribute_of};
-ghost use Rattle.dj_class.specs.CodeReading.{code_length_at, code_front_at, row_at, code_attribute_at, code_read};
+ghost use Rattle.dj_class.specs.CodeReading.{code_length_at, code_prefix_at, row_at, code_attribute_at, code_read};
 ghost use Rattle.dj_class.specs.CodeViews.{code_of, ReadsCode};
 ghost use Rattle.dj_class.specs.Memory.{code_is_memory};
 ghost use Rattle.dj_class.specs.declared.class.ClassError.TheVariants as class_errors;
@@ -36,10 +36,12 @@ fn read_code_length<'a>(cursor: Cursor<'a>) -> Result<(u32, Cursor<'a>), ClassEr
     }
 }
 
-#[tactic(auto, unfolding(crate::specs::CodeReading::code_front_at))]
-fn read_code_front<'a>(cursor: Cursor<'a>) -> Result<((u16, u16, &'a [u8]), Cursor<'a>), ClassError>
+#[tactic(auto, unfolding(crate::specs::CodeReading::code_prefix_at))]
+fn read_code_prefix<'a>(
+    cursor: Cursor<'a>,
+) -> Result<((u16, u16, &'a [u8]), Cursor<'a>), ClassError>
     ensures { Gives code_is_memory (λ x. ((x.0.0, x.0.1, x.0.2.now), cursor_of x.1)) result
-        (code_front_at (cursor_of cursor.entry)) }
+        (code_prefix_at (cursor_of cursor.entry)) }
 {
     let (max_stack, after) = cursor.u16_at()?;
     let (max_locals, after) = after.u16_at()?;
@@ -143,7 +145,7 @@ fn read_whole_code<'a>(alloc: Global, body: &'a [u8]) -> Result<CodeView<'a>, Cl
     ensures { Gives code_is_memory code_of result (code_read body.now) }
 {
     let start = Cursor::start(body);
-    let ((max_stack, max_locals, code), after) = read_code_front(start)?;
+    let ((max_stack, max_locals, code), after) = read_code_prefix(start)?;
     let (table, after) = read_rows(alloc, after)?;
     let (attributes, after) = read_code_attributes(alloc, after)?;
     if !after.is_at_end() {

@@ -1,3 +1,8 @@
+use crate::parts::Part::*;
+use crate::parts::{
+    ABSTRACT, ALOAD_0, ARETURN, FINAL, LLOAD_0, POP2, PUBLIC, Part, RETURN, STATIC, SUPER,
+    bytes_of, changed,
+};
 use dj_class::{
     Attribute, Attributes, ClassError, ClassView, MemberView, Members, NoMemory, read_class,
 };
@@ -5,12 +10,74 @@ use dj_pool::PoolError;
 use std::alloc::Global;
 
 // The class A, with one method.
-const A: &[u8] =
-    b"\xca\xfe\xba\xbe\0\0\04\0\x08\x01\0\x01A\x07\0\x01\x01\0\x10java/lang/Object\x07\0\x03\x01\0\x06verify\x01\0\x06([B)[B\x01\0\x04Code\0!\0\x02\0\x04\0\0\0\0\0\x01\0\x09\0\x05\0\x06\0\x01\0\x07\0\0\0\x0e\0\x01\0\x01\0\0\0\x02*\xb0\0\0\0\0\0\0";
+#[rattlefmt::skip]
+pub const A: &[Part] = &[
+    Magic(0xcafe_babe), Version(0, 52),
+    Count(8),
+    Utf8(b"A"), Class(1), Utf8(b"java/lang/Object"), Class(3),
+    Utf8(b"verify"), Utf8(b"([B)[B"), Utf8(b"Code"),
+    Heading(PUBLIC | SUPER, 2, 4), Interfaces(0), Fields(0),
+    Methods(1),
+    Member(PUBLIC | STATIC, 5, 6), Attributes(1),
+    Attribute(7, 14), Limits(1, 1), Length(2), Bytes(&[ALOAD_0, ARETURN]), Rows(0), Attributes(0),
+    Attributes(0),
+];
+
+// The places of parts of A.
+const AT_MAGIC: usize = 0;
+
+const AT_VERSION: usize = 1;
+
+const AT_COUNT: usize = 2;
+
+const AT_HEADING: usize = 10;
+
+const AT_INTERFACES: usize = 11;
+
+const AT_FIELDS: usize = 12;
+
+const AT_METHODS: usize = 13;
+
+const AT_MEMBER: usize = 14;
+
+const AT_ATTRIBUTES_OF_METHOD: usize = 15;
+
+const AT_ATTRIBUTE: usize = 16;
+
+const AT_ATTRIBUTES_OF_CLASS: usize = 22;
+
+const AT_END: usize = 23;
 
 // A class with fields, methods and attributes of each.
-const RICH: &[u8] =
-    b"\xca\xfe\xba\xbe\0\x03\03\0\x1c\x01\0\x04Rich\x07\0\x01\x05\0\0\x01\0\0\0\0\0\x06\0\0\0\0\0\0\0\x05\x01\0\x01I\x07\0\x07\x01\0\x0dConstantValue\x01\0\x0aDeprecated\x01\0\x01f\x01\0\x01J\x01\0\x01g\x01\0\x05[[La;\x01\0\x0aExceptions\x01\0\x0fLineNumberTable\x01\0\x0dStackMapTable\x01\0\x04Code\x01\0\x09Signature\x01\0\x01m\x01\0\x04(J)V\x01\0\x08<clinit>\x01\0\x03()V\x01\0\x0aSourceFile\x01\0\0\x01\0\x10java/lang/Object\x07\0\x1a\x04!\0\x02\0\x1b\0\x02\0\x08\0\x08\0\x02\0\x19\0\x0b\0\x0c\0\x02\0\x09\0\0\0\x02\0\x03\0\x0a\0\0\0\0\0\0\0\x0d\0\x0e\0\0\0\x02\0\x09\0\x14\0\x15\0\x03\0\x0f\0\0\0\x04\0\x01\0\x08\0\x12\0\0\0'\0\x02\0\x02\0\0\0\x03\x1eX\xb1\0\x01\0\0\0\x01\0\x02\0\0\0\x02\0\x10\0\0\0\x02\0\0\0\x11\0\0\0\x02\0\0\0\x13\0\0\0\x02\0\x01\x04\x01\0\x16\0\x17\0\0\0\x03\0\x18\0\0\0\x02\0\x01\0\x19\0\0\0\x03xyz\0\x18\0\0\0\0";
+#[rattlefmt::skip]
+const RICH: &[Part] = &[
+    Magic(0xcafe_babe), Version(3, 51),
+    Count(28),
+    Utf8(b"Rich"), Class(1), Long(0x0100_0000_0000), Double(5), Utf8(b"I"), Class(7),
+    Utf8(b"ConstantValue"), Utf8(b"Deprecated"), Utf8(b"f"), Utf8(b"J"), Utf8(b"g"), Utf8(b"[[La;"),
+    Utf8(b"Exceptions"), Utf8(b"LineNumberTable"), Utf8(b"StackMapTable"), Utf8(b"Code"),
+    Utf8(b"Signature"), Utf8(b"m"), Utf8(b"(J)V"), Utf8(b"<clinit>"), Utf8(b"()V"),
+    Utf8(b"SourceFile"), Utf8(b""), Utf8(b"java/lang/Object"), Class(26),
+    Heading(PUBLIC | SUPER | ABSTRACT, 2, 27), Interfaces(2), Index(8), Index(8),
+    Fields(2),
+    Member(PUBLIC | STATIC | FINAL, 11, 12), Attributes(2),
+    Attribute(9, 2), Bytes(&[0, 3]),
+    Attribute(10, 0),
+    Member(0, 13, 14), Attributes(0),
+    Methods(2),
+    Member(PUBLIC | STATIC, 20, 21), Attributes(3),
+    Attribute(15, 4), Bytes(&[0, 1, 0, 8]),
+    Attribute(18, 39), Limits(2, 2), Length(3), Bytes(&[LLOAD_0, POP2, RETURN]),
+    Rows(1), Row(0, 1, 2, 0), Attributes(2),
+    Attribute(16, 2), Bytes(&[0, 0]),
+    Attribute(17, 2), Bytes(&[0, 0]),
+    Attribute(19, 2), Bytes(&[0, 1]),
+    Member(PUBLIC | ABSTRACT, 22, 23), Attributes(0),
+    Attributes(3),
+    Attribute(24, 2), Bytes(&[0, 1]),
+    Attribute(25, 3), Bytes(b"xyz"),
+    Attribute(24, 0),
+];
 
 // Its first bytes, from this many to fewer than this many, and what is refused then.
 const CUTS_OF_A: [(usize, usize, ClassError); 37] = [
@@ -103,330 +170,358 @@ const CUTS_OF_RICH: [(usize, usize, ClassError); 47] = [
     (372, 376, ClassError::Cut(372)),
 ];
 
-const REFUSED_1: [(&[u8], ClassError); 40] = [
+// A place in A, another part there, and what is refused then.
+#[rattlefmt::skip]
+const REFUSED_CHANGES: [(usize, Part, ClassError); 38] = [
+    (AT_END, Bytes(&[0]), ClassError::Trailing(106)),
+    (AT_END, Bytes(&[202, 254]), ClassError::Trailing(106)),
+    (AT_MAGIC, Magic(0xcaff_babe), ClassError::Magic),
+    (AT_MAGIC, Magic(0xcafe_babf), ClassError::Magic),
+    (AT_COUNT, Count(0), ClassError::Pool(PoolError::Tag(8))),
+    (AT_COUNT, Count(1), ClassError::Index(12)),
+    (AT_COUNT, Count(7), ClassError::Index(59)),
+    (AT_COUNT, Count(9), ClassError::Pool(PoolError::Tag(64))),
+    (AT_HEADING, Heading(PUBLIC | SUPER, 0, 4), ClassError::Index(66)),
+    (AT_HEADING, Heading(PUBLIC | SUPER, 1, 4), ClassError::Index(66)),
+    (AT_HEADING, Heading(PUBLIC | SUPER, 3, 4), ClassError::Index(66)),
+    (AT_HEADING, Heading(PUBLIC | SUPER, 8, 4), ClassError::Index(66)),
+    (AT_HEADING, Heading(PUBLIC | SUPER, 2, 5), ClassError::Index(68)),
+    (AT_HEADING, Heading(PUBLIC | SUPER, 2, 9), ClassError::Index(68)),
+    (AT_INTERFACES, Interfaces(1), ClassError::Index(72)),
+    (AT_FIELDS, Fields(1), ClassError::Index(76)),
+    (AT_METHODS, Methods(2), ClassError::Cut(106)),
+    (AT_MEMBER, Member(PUBLIC | STATIC, 0, 6), ClassError::Index(78)),
+    (AT_MEMBER, Member(PUBLIC | STATIC, 2, 6), ClassError::Index(78)),
+    (AT_MEMBER, Member(PUBLIC | STATIC, 3, 6), ClassError::Index(78)),
+    (AT_MEMBER, Member(PUBLIC | STATIC, 6, 6), ClassError::Index(78)),
+    (AT_MEMBER, Member(PUBLIC | STATIC, 8, 6), ClassError::Index(78)),
+    (AT_MEMBER, Member(PUBLIC | STATIC, 5, 5), ClassError::Index(80)),
+    (AT_MEMBER, Member(PUBLIC | STATIC, 5, 0), ClassError::Index(80)),
+    (AT_MEMBER, Member(PUBLIC | STATIC, 5, 7), ClassError::Index(80)),
+    (AT_ATTRIBUTES_OF_METHOD, Attributes(0), ClassError::Index(86)),
+    (AT_ATTRIBUTES_OF_METHOD, Attributes(2), ClassError::Index(104)),
+    (AT_ATTRIBUTE, Attribute(0, 14), ClassError::Index(84)),
+    (AT_ATTRIBUTE, Attribute(2, 14), ClassError::Index(84)),
+    (AT_ATTRIBUTE, Attribute(4, 14), ClassError::Index(84)),
+    (AT_ATTRIBUTE, Attribute(65_535, 14), ClassError::Index(84)),
+    (AT_ATTRIBUTE, Attribute(7, 0x8000_000e), ClassError::Cut(90)),
+    (AT_ATTRIBUTE, Attribute(7, 0xffff_000e), ClassError::Cut(90)),
+    (AT_ATTRIBUTE, Attribute(7, 13), ClassError::Trailing(105)),
+    (AT_ATTRIBUTE, Attribute(7, 15), ClassError::Cut(105)),
+    (AT_ATTRIBUTE, Attribute(7, 16), ClassError::Cut(106)),
+    (AT_ATTRIBUTES_OF_CLASS, Attributes(1), ClassError::Cut(106)),
+    (AT_ATTRIBUTES_OF_CLASS, Attributes(256), ClassError::Cut(106)),
+];
+
+#[rattlefmt::skip]
+const REFUSED: [(&[Part], ClassError); 25] = [
     (
-        b"\xca\xfe\xba\xbe\0\0\04\0\x08\x01\0\x01A\x07\0\x01\x01\0\x10java/lang/Object\x07\0\x03\x01\0\x06verify\x01\0\x06([B)[B\x01\0\x04Code\0!\0\x02\0\x04\0\0\0\0\0\x01\0\x09\0\x05\0\x06\0\x01\0\x07\0\0\0\x0e\0\x01\0\x01\0\0\0\x02*\xb0\0\0\0\0\0\0\0",
-        ClassError::Trailing(106),
-    ),
-    (
-        b"\xca\xfe\xba\xbe\0\0\04\0\x08\x01\0\x01A\x07\0\x01\x01\0\x10java/lang/Object\x07\0\x03\x01\0\x06verify\x01\0\x06([B)[B\x01\0\x04Code\0!\0\x02\0\x04\0\0\0\0\0\x01\0\x09\0\x05\0\x06\0\x01\0\x07\0\0\0\x0e\0\x01\0\x01\0\0\0\x02*\xb0\0\0\0\0\0\0\xca\xfe",
-        ClassError::Trailing(106),
-    ),
-    (
-        b"\xca\xff\xba\xbe\0\0\04\0\x08\x01\0\x01A\x07\0\x01\x01\0\x10java/lang/Object\x07\0\x03\x01\0\x06verify\x01\0\x06([B)[B\x01\0\x04Code\0!\0\x02\0\x04\0\0\0\0\0\x01\0\x09\0\x05\0\x06\0\x01\0\x07\0\0\0\x0e\0\x01\0\x01\0\0\0\x02*\xb0\0\0\0\0\0\0",
-        ClassError::Magic,
-    ),
-    (
-        b"\xca\xfe\xba\xbf\0\0\04\0\x08\x01\0\x01A\x07\0\x01\x01\0\x10java/lang/Object\x07\0\x03\x01\0\x06verify\x01\0\x06([B)[B\x01\0\x04Code\0!\0\x02\0\x04\0\0\0\0\0\x01\0\x09\0\x05\0\x06\0\x01\0\x07\0\0\0\x0e\0\x01\0\x01\0\0\0\x02*\xb0\0\0\0\0\0\0",
-        ClassError::Magic,
-    ),
-    (
-        b"\xca\xfe\xba\xbe\0\0\04\0\0\x01\0\x01A\x07\0\x01\x01\0\x10java/lang/Object\x07\0\x03\x01\0\x06verify\x01\0\x06([B)[B\x01\0\x04Code\0!\0\x02\0\x04\0\0\0\0\0\x01\0\x09\0\x05\0\x06\0\x01\0\x07\0\0\0\x0e\0\x01\0\x01\0\0\0\x02*\xb0\0\0\0\0\0\0",
-        ClassError::Pool(PoolError::Tag(8)),
-    ),
-    (
-        b"\xca\xfe\xba\xbe\0\0\04\0\x01\x01\0\x01A\x07\0\x01\x01\0\x10java/lang/Object\x07\0\x03\x01\0\x06verify\x01\0\x06([B)[B\x01\0\x04Code\0!\0\x02\0\x04\0\0\0\0\0\x01\0\x09\0\x05\0\x06\0\x01\0\x07\0\0\0\x0e\0\x01\0\x01\0\0\0\x02*\xb0\0\0\0\0\0\0",
-        ClassError::Index(12),
-    ),
-    (
-        b"\xca\xfe\xba\xbe\0\0\04\0\x07\x01\0\x01A\x07\0\x01\x01\0\x10java/lang/Object\x07\0\x03\x01\0\x06verify\x01\0\x06([B)[B\x01\0\x04Code\0!\0\x02\0\x04\0\0\0\0\0\x01\0\x09\0\x05\0\x06\0\x01\0\x07\0\0\0\x0e\0\x01\0\x01\0\0\0\x02*\xb0\0\0\0\0\0\0",
-        ClassError::Index(59),
-    ),
-    (
-        b"\xca\xfe\xba\xbe\0\0\04\0\x09\x01\0\x01A\x07\0\x01\x01\0\x10java/lang/Object\x07\0\x03\x01\0\x06verify\x01\0\x06([B)[B\x01\0\x04Code\0!\0\x02\0\x04\0\0\0\0\0\x01\0\x09\0\x05\0\x06\0\x01\0\x07\0\0\0\x0e\0\x01\0\x01\0\0\0\x02*\xb0\0\0\0\0\0\0",
-        ClassError::Pool(PoolError::Tag(64)),
-    ),
-    (
-        b"\xca\xfe\xba\xbe\0\0\04\0\x08\x01\0\x01A\x07\0\x01\x01\0\x10java/lang/Object\x07\0\x03\x01\0\x06verify\x01\0\x06([B)[B\x01\0\x04Code\0!\0\0\0\x04\0\0\0\0\0\x01\0\x09\0\x05\0\x06\0\x01\0\x07\0\0\0\x0e\0\x01\0\x01\0\0\0\x02*\xb0\0\0\0\0\0\0",
-        ClassError::Index(66),
-    ),
-    (
-        b"\xca\xfe\xba\xbe\0\0\04\0\x08\x01\0\x01A\x07\0\x01\x01\0\x10java/lang/Object\x07\0\x03\x01\0\x06verify\x01\0\x06([B)[B\x01\0\x04Code\0!\0\x01\0\x04\0\0\0\0\0\x01\0\x09\0\x05\0\x06\0\x01\0\x07\0\0\0\x0e\0\x01\0\x01\0\0\0\x02*\xb0\0\0\0\0\0\0",
-        ClassError::Index(66),
-    ),
-    (
-        b"\xca\xfe\xba\xbe\0\0\04\0\x08\x01\0\x01A\x07\0\x01\x01\0\x10java/lang/Object\x07\0\x03\x01\0\x06verify\x01\0\x06([B)[B\x01\0\x04Code\0!\0\x03\0\x04\0\0\0\0\0\x01\0\x09\0\x05\0\x06\0\x01\0\x07\0\0\0\x0e\0\x01\0\x01\0\0\0\x02*\xb0\0\0\0\0\0\0",
-        ClassError::Index(66),
-    ),
-    (
-        b"\xca\xfe\xba\xbe\0\0\04\0\x08\x01\0\x01A\x07\0\x01\x01\0\x10java/lang/Object\x07\0\x03\x01\0\x06verify\x01\0\x06([B)[B\x01\0\x04Code\0!\0\x08\0\x04\0\0\0\0\0\x01\0\x09\0\x05\0\x06\0\x01\0\x07\0\0\0\x0e\0\x01\0\x01\0\0\0\x02*\xb0\0\0\0\0\0\0",
-        ClassError::Index(66),
-    ),
-    (
-        b"\xca\xfe\xba\xbe\0\0\04\0\x08\x01\0\x01A\x07\0\x01\x01\0\x10java/lang/Object\x07\0\x03\x01\0\x06verify\x01\0\x06([B)[B\x01\0\x04Code\0!\0\x02\0\x05\0\0\0\0\0\x01\0\x09\0\x05\0\x06\0\x01\0\x07\0\0\0\x0e\0\x01\0\x01\0\0\0\x02*\xb0\0\0\0\0\0\0",
-        ClassError::Index(68),
-    ),
-    (
-        b"\xca\xfe\xba\xbe\0\0\04\0\x08\x01\0\x01A\x07\0\x01\x01\0\x10java/lang/Object\x07\0\x03\x01\0\x06verify\x01\0\x06([B)[B\x01\0\x04Code\0!\0\x02\0\x09\0\0\0\0\0\x01\0\x09\0\x05\0\x06\0\x01\0\x07\0\0\0\x0e\0\x01\0\x01\0\0\0\x02*\xb0\0\0\0\0\0\0",
-        ClassError::Index(68),
-    ),
-    (
-        b"\xca\xfe\xba\xbe\0\0\04\0\x08\x01\0\x01A\x07\0\x01\x01\0\x10java/lang/Object\x07\0\x03\x01\0\x06verify\x01\0\x06([B)[B\x01\0\x04Code\0!\0\x02\0\x04\0\x01\0\0\0\x01\0\x09\0\x05\0\x06\0\x01\0\x07\0\0\0\x0e\0\x01\0\x01\0\0\0\x02*\xb0\0\0\0\0\0\0",
-        ClassError::Index(72),
-    ),
-    (
-        b"\xca\xfe\xba\xbe\0\0\04\0\x08\x01\0\x01A\x07\0\x01\x01\0\x10java/lang/Object\x07\0\x03\x01\0\x06verify\x01\0\x06([B)[B\x01\0\x04Code\0!\0\x02\0\x04\0\0\0\x01\0\x01\0\x09\0\x05\0\x06\0\x01\0\x07\0\0\0\x0e\0\x01\0\x01\0\0\0\x02*\xb0\0\0\0\0\0\0",
-        ClassError::Index(76),
-    ),
-    (
-        b"\xca\xfe\xba\xbe\0\0\04\0\x08\x01\0\x01A\x07\0\x01\x01\0\x10java/lang/Object\x07\0\x03\x01\0\x06verify\x01\0\x06([B)[B\x01\0\x04Code\0!\0\x02\0\x04\0\0\0\0\0\x02\0\x09\0\x05\0\x06\0\x01\0\x07\0\0\0\x0e\0\x01\0\x01\0\0\0\x02*\xb0\0\0\0\0\0\0",
-        ClassError::Cut(106),
-    ),
-    (
-        b"\xca\xfe\xba\xbe\0\0\04\0\x08\x01\0\x01A\x07\0\x01\x01\0\x10java/lang/Object\x07\0\x03\x01\0\x06verify\x01\0\x06([B)[B\x01\0\x04Code\0!\0\x02\0\x04\0\0\0\0\0\x01\0\x09\0\0\0\x06\0\x01\0\x07\0\0\0\x0e\0\x01\0\x01\0\0\0\x02*\xb0\0\0\0\0\0\0",
-        ClassError::Index(78),
-    ),
-    (
-        b"\xca\xfe\xba\xbe\0\0\04\0\x08\x01\0\x01A\x07\0\x01\x01\0\x10java/lang/Object\x07\0\x03\x01\0\x06verify\x01\0\x06([B)[B\x01\0\x04Code\0!\0\x02\0\x04\0\0\0\0\0\x01\0\x09\0\x02\0\x06\0\x01\0\x07\0\0\0\x0e\0\x01\0\x01\0\0\0\x02*\xb0\0\0\0\0\0\0",
-        ClassError::Index(78),
-    ),
-    (
-        b"\xca\xfe\xba\xbe\0\0\04\0\x08\x01\0\x01A\x07\0\x01\x01\0\x10java/lang/Object\x07\0\x03\x01\0\x06verify\x01\0\x06([B)[B\x01\0\x04Code\0!\0\x02\0\x04\0\0\0\0\0\x01\0\x09\0\x03\0\x06\0\x01\0\x07\0\0\0\x0e\0\x01\0\x01\0\0\0\x02*\xb0\0\0\0\0\0\0",
-        ClassError::Index(78),
-    ),
-    (
-        b"\xca\xfe\xba\xbe\0\0\04\0\x08\x01\0\x01A\x07\0\x01\x01\0\x10java/lang/Object\x07\0\x03\x01\0\x06verify\x01\0\x06([B)[B\x01\0\x04Code\0!\0\x02\0\x04\0\0\0\0\0\x01\0\x09\0\x06\0\x06\0\x01\0\x07\0\0\0\x0e\0\x01\0\x01\0\0\0\x02*\xb0\0\0\0\0\0\0",
-        ClassError::Index(78),
-    ),
-    (
-        b"\xca\xfe\xba\xbe\0\0\04\0\x08\x01\0\x01A\x07\0\x01\x01\0\x10java/lang/Object\x07\0\x03\x01\0\x06verify\x01\0\x06([B)[B\x01\0\x04Code\0!\0\x02\0\x04\0\0\0\0\0\x01\0\x09\0\x08\0\x06\0\x01\0\x07\0\0\0\x0e\0\x01\0\x01\0\0\0\x02*\xb0\0\0\0\0\0\0",
-        ClassError::Index(78),
-    ),
-    (
-        b"\xca\xfe\xba\xbe\0\0\04\0\x08\x01\0\x01A\x07\0\x01\x01\0\x10java/lang/Object\x07\0\x03\x01\0\x06verify\x01\0\x06([B)[B\x01\0\x04Code\0!\0\x02\0\x04\0\0\0\0\0\x01\0\x09\0\x05\0\x05\0\x01\0\x07\0\0\0\x0e\0\x01\0\x01\0\0\0\x02*\xb0\0\0\0\0\0\0",
-        ClassError::Index(80),
-    ),
-    (
-        b"\xca\xfe\xba\xbe\0\0\04\0\x08\x01\0\x01A\x07\0\x01\x01\0\x10java/lang/Object\x07\0\x03\x01\0\x06verify\x01\0\x06([B)[B\x01\0\x04Code\0!\0\x02\0\x04\0\0\0\0\0\x01\0\x09\0\x05\0\0\0\x01\0\x07\0\0\0\x0e\0\x01\0\x01\0\0\0\x02*\xb0\0\0\0\0\0\0",
-        ClassError::Index(80),
-    ),
-    (
-        b"\xca\xfe\xba\xbe\0\0\04\0\x08\x01\0\x01A\x07\0\x01\x01\0\x10java/lang/Object\x07\0\x03\x01\0\x06verify\x01\0\x06([B)[B\x01\0\x04Code\0!\0\x02\0\x04\0\0\0\0\0\x01\0\x09\0\x05\0\x07\0\x01\0\x07\0\0\0\x0e\0\x01\0\x01\0\0\0\x02*\xb0\0\0\0\0\0\0",
-        ClassError::Index(80),
-    ),
-    (
-        b"\xca\xfe\xba\xbe\0\0\04\0\x08\x01\0\x01A\x07\0\x01\x01\0\x10java/lang/Object\x07\0\x03\x01\0\x06verify\x01\0\x06([B)[B\x01\0\x04Code\0!\0\x02\0\x04\0\0\0\0\0\x01\0\x09\0\x05\0\x06\0\0\0\x07\0\0\0\x0e\0\x01\0\x01\0\0\0\x02*\xb0\0\0\0\0\0\0",
-        ClassError::Index(86),
-    ),
-    (
-        b"\xca\xfe\xba\xbe\0\0\04\0\x08\x01\0\x01A\x07\0\x01\x01\0\x10java/lang/Object\x07\0\x03\x01\0\x06verify\x01\0\x06([B)[B\x01\0\x04Code\0!\0\x02\0\x04\0\0\0\0\0\x01\0\x09\0\x05\0\x06\0\x02\0\x07\0\0\0\x0e\0\x01\0\x01\0\0\0\x02*\xb0\0\0\0\0\0\0",
-        ClassError::Index(104),
-    ),
-    (
-        b"\xca\xfe\xba\xbe\0\0\04\0\x08\x01\0\x01A\x07\0\x01\x01\0\x10java/lang/Object\x07\0\x03\x01\0\x06verify\x01\0\x06([B)[B\x01\0\x04Code\0!\0\x02\0\x04\0\0\0\0\0\x01\0\x09\0\x05\0\x06\0\x01\0\0\0\0\0\x0e\0\x01\0\x01\0\0\0\x02*\xb0\0\0\0\0\0\0",
-        ClassError::Index(84),
-    ),
-    (
-        b"\xca\xfe\xba\xbe\0\0\04\0\x08\x01\0\x01A\x07\0\x01\x01\0\x10java/lang/Object\x07\0\x03\x01\0\x06verify\x01\0\x06([B)[B\x01\0\x04Code\0!\0\x02\0\x04\0\0\0\0\0\x01\0\x09\0\x05\0\x06\0\x01\0\x02\0\0\0\x0e\0\x01\0\x01\0\0\0\x02*\xb0\0\0\0\0\0\0",
-        ClassError::Index(84),
-    ),
-    (
-        b"\xca\xfe\xba\xbe\0\0\04\0\x08\x01\0\x01A\x07\0\x01\x01\0\x10java/lang/Object\x07\0\x03\x01\0\x06verify\x01\0\x06([B)[B\x01\0\x04Code\0!\0\x02\0\x04\0\0\0\0\0\x01\0\x09\0\x05\0\x06\0\x01\0\x04\0\0\0\x0e\0\x01\0\x01\0\0\0\x02*\xb0\0\0\0\0\0\0",
-        ClassError::Index(84),
-    ),
-    (
-        b"\xca\xfe\xba\xbe\0\0\04\0\x08\x01\0\x01A\x07\0\x01\x01\0\x10java/lang/Object\x07\0\x03\x01\0\x06verify\x01\0\x06([B)[B\x01\0\x04Code\0!\0\x02\0\x04\0\0\0\0\0\x01\0\x09\0\x05\0\x06\0\x01\xff\xff\0\0\0\x0e\0\x01\0\x01\0\0\0\x02*\xb0\0\0\0\0\0\0",
-        ClassError::Index(84),
-    ),
-    (
-        b"\xca\xfe\xba\xbe\0\0\04\0\x08\x01\0\x01A\x07\0\x01\x01\0\x10java/lang/Object\x07\0\x03\x01\0\x06verify\x01\0\x06([B)[B\x01\0\x04Code\0!\0\x02\0\x04\0\0\0\0\0\x01\0\x09\0\x05\0\x06\0\x01\0\x07\x80\0\0\x0e\0\x01\0\x01\0\0\0\x02*\xb0\0\0\0\0\0\0",
-        ClassError::Cut(90),
-    ),
-    (
-        b"\xca\xfe\xba\xbe\0\0\04\0\x08\x01\0\x01A\x07\0\x01\x01\0\x10java/lang/Object\x07\0\x03\x01\0\x06verify\x01\0\x06([B)[B\x01\0\x04Code\0!\0\x02\0\x04\0\0\0\0\0\x01\0\x09\0\x05\0\x06\0\x01\0\x07\xff\xff\0\x0e\0\x01\0\x01\0\0\0\x02*\xb0\0\0\0\0\0\0",
-        ClassError::Cut(90),
-    ),
-    (
-        b"\xca\xfe\xba\xbe\0\0\04\0\x08\x01\0\x01A\x07\0\x01\x01\0\x10java/lang/Object\x07\0\x03\x01\0\x06verify\x01\0\x06([B)[B\x01\0\x04Code\0!\0\x02\0\x04\0\0\0\0\0\x01\0\x09\0\x05\0\x06\0\x01\0\x07\0\0\0\x0d\0\x01\0\x01\0\0\0\x02*\xb0\0\0\0\0\0\0",
-        ClassError::Trailing(105),
-    ),
-    (
-        b"\xca\xfe\xba\xbe\0\0\04\0\x08\x01\0\x01A\x07\0\x01\x01\0\x10java/lang/Object\x07\0\x03\x01\0\x06verify\x01\0\x06([B)[B\x01\0\x04Code\0!\0\x02\0\x04\0\0\0\0\0\x01\0\x09\0\x05\0\x06\0\x01\0\x07\0\0\0\x0f\0\x01\0\x01\0\0\0\x02*\xb0\0\0\0\0\0\0",
-        ClassError::Cut(105),
-    ),
-    (
-        b"\xca\xfe\xba\xbe\0\0\04\0\x08\x01\0\x01A\x07\0\x01\x01\0\x10java/lang/Object\x07\0\x03\x01\0\x06verify\x01\0\x06([B)[B\x01\0\x04Code\0!\0\x02\0\x04\0\0\0\0\0\x01\0\x09\0\x05\0\x06\0\x01\0\x07\0\0\0\x10\0\x01\0\x01\0\0\0\x02*\xb0\0\0\0\0\0\0",
-        ClassError::Cut(106),
-    ),
-    (
-        b"\xca\xfe\xba\xbe\0\0\04\0\x08\x01\0\x01A\x07\0\x01\x01\0\x10java/lang/Object\x07\0\x03\x01\0\x06verify\x01\0\x06([B)[B\x01\0\x04Code\0!\0\x02\0\x04\0\0\0\0\0\x01\0\x09\0\x05\0\x06\0\x01\0\x07\0\0\0\x0e\0\x01\0\x01\0\0\0\x02*\xb0\0\0\0\0\0\x01",
-        ClassError::Cut(106),
-    ),
-    (
-        b"\xca\xfe\xba\xbe\0\0\04\0\x08\x01\0\x01A\x07\0\x01\x01\0\x10java/lang/Object\x07\0\x03\x01\0\x06verify\x01\0\x06([B)[B\x01\0\x04Code\0!\0\x02\0\x04\0\0\0\0\0\x01\0\x09\0\x05\0\x06\0\x01\0\x07\0\0\0\x0e\0\x01\0\x01\0\0\0\x02*\xb0\0\0\0\0\x01\0",
-        ClassError::Cut(106),
-    ),
-    (
-        b"\xca\xfe\xba\xbe\0\0\04\0\x05\x01\0\x02[I\x07\0\x01\x01\0\x10java/lang/Object\x07\0\x03\0!\0\x02\0\x04\0\0\0\0\0\0\0\0",
+        &[
+            Magic(0xcafe_babe), Version(0, 52), Count(5),
+            Utf8(b"[I"), Class(1), Utf8(b"java/lang/Object"), Class(3),
+            Heading(PUBLIC | SUPER, 2, 4), Interfaces(0), Fields(0), Methods(0), Attributes(0),
+        ],
         ClassError::Index(42),
     ),
     (
-        b"\xca\xfe\xba\xbe\0\0\04\0\x05\x01\0\x04[LA;\x07\0\x01\x01\0\x01A\x07\0\x03\0!\0\x04\0\x02\0\0\0\0\0\0\0\0",
+        &[
+            Magic(0xcafe_babe), Version(0, 52), Count(5),
+            Utf8(b"[LA;"), Class(1), Utf8(b"A"), Class(3),
+            Heading(PUBLIC | SUPER, 4, 2), Interfaces(0), Fields(0), Methods(0), Attributes(0),
+        ],
         ClassError::Index(31),
     ),
-];
-
-const REFUSED_2: [(&[u8], ClassError); 23] = [
     (
-        b"\xca\xfe\xba\xbe\0\0\04\0\x07\x01\0\x03[[I\x07\0\x01\x01\0\x01A\x07\0\x03\x01\0\x10java/lang/Object\x07\0\x05\0!\0\x04\0\x06\0\x01\0\x02\0\0\0\0\0\0",
+        &[
+            Magic(0xcafe_babe), Version(0, 52), Count(7),
+            Utf8(b"[[I"), Class(1), Utf8(b"A"), Class(3), Utf8(b"java/lang/Object"), Class(5),
+            Heading(PUBLIC | SUPER, 4, 6), Interfaces(1), Index(2), Fields(0), Methods(0),
+            Attributes(0),
+        ],
         ClassError::Index(56),
     ),
     (
-        b"\xca\xfe\xba\xbe\0\0\04\0\x07\x01\0\x01A\x07\0\x01\x01\0\x10java/lang/Object\x07\0\x03\x01\0\x01B\x07\0\x05\0!\0\x02\0\x04\0\x02\0\x06\0\0\0\0\0\0\0\0",
+        &[
+            Magic(0xcafe_babe), Version(0, 52), Count(7),
+            Utf8(b"A"), Class(1), Utf8(b"java/lang/Object"), Class(3), Utf8(b"B"), Class(5),
+            Heading(PUBLIC | SUPER, 2, 4), Interfaces(2), Index(6), Index(0), Fields(0), Methods(0),
+            Attributes(0),
+        ],
         ClassError::Index(56),
     ),
     (
-        b"\xca\xfe\xba\xbe\0\0\04\0\x07\x01\0\x01B\x01\0\x01A\x07\0\x02\x01\0\x10java/lang/Object\x07\0\x04\x07\0\x01\0!\0\x03\0\x05\0\x02\0\x06\0\x01\0\0\0\0\0\0",
+        &[
+            Magic(0xcafe_babe), Version(0, 52), Count(7),
+            Utf8(b"B"), Utf8(b"A"), Class(2), Utf8(b"java/lang/Object"), Class(4), Class(1),
+            Heading(PUBLIC | SUPER, 3, 5), Interfaces(2), Index(6), Index(1), Fields(0), Methods(0),
+            Attributes(0),
+        ],
         ClassError::Index(56),
     ),
     (
-        b"\xca\xfe\xba\xbe\0\0\04\0\x07\x01\0\x01x\x01\0\x03()V\x01\0\x01A\x07\0\x03\x01\0\x10java/lang/Object\x07\0\x05\0!\0\x04\0\x06\0\0\0\x01\0\x01\0\x01\0\x02\0\0\0\0\0\0",
+        &[
+            Magic(0xcafe_babe), Version(0, 52), Count(7),
+            Utf8(b"x"), Utf8(b"()V"), Utf8(b"A"), Class(3), Utf8(b"java/lang/Object"), Class(5),
+            Heading(PUBLIC | SUPER, 4, 6), Interfaces(0),
+            Fields(1), Member(PUBLIC, 1, 2), Attributes(0), Methods(0), Attributes(0),
+        ],
         ClassError::Index(63),
     ),
     (
-        b"\xca\xfe\xba\xbe\0\0\04\0\x07\x01\0\0\x01\0\x01I\x01\0\x01A\x07\0\x03\x01\0\x10java/lang/Object\x07\0\x05\0!\0\x04\0\x06\0\0\0\x01\0\x01\0\x01\0\x02\0\0\0\0\0\0",
+        &[
+            Magic(0xcafe_babe), Version(0, 52), Count(7),
+            Utf8(b""), Utf8(b"I"), Utf8(b"A"), Class(3), Utf8(b"java/lang/Object"), Class(5),
+            Heading(PUBLIC | SUPER, 4, 6), Interfaces(0),
+            Fields(1), Member(PUBLIC, 1, 2), Attributes(0), Methods(0), Attributes(0),
+        ],
         ClassError::Index(58),
     ),
     (
-        b"\xca\xfe\xba\xbe\0\0\04\0\x07\x01\0\x03a.b\x01\0\x01I\x01\0\x01A\x07\0\x03\x01\0\x10java/lang/Object\x07\0\x05\0!\0\x04\0\x06\0\0\0\x01\0\x01\0\x01\0\x02\0\0\0\0\0\0",
+        &[
+            Magic(0xcafe_babe), Version(0, 52), Count(7),
+            Utf8(b"a.b"), Utf8(b"I"), Utf8(b"A"), Class(3), Utf8(b"java/lang/Object"), Class(5),
+            Heading(PUBLIC | SUPER, 4, 6), Interfaces(0),
+            Fields(1), Member(PUBLIC, 1, 2), Attributes(0), Methods(0), Attributes(0),
+        ],
         ClassError::Index(61),
     ),
     (
-        b"\xca\xfe\xba\xbe\0\0\04\0\x07\x01\0\x01x\x01\0\x01V\x01\0\x01A\x07\0\x03\x01\0\x10java/lang/Object\x07\0\x05\0!\0\x04\0\x06\0\0\0\x01\0\x01\0\x01\0\x02\0\0\0\0\0\0",
+        &[
+            Magic(0xcafe_babe), Version(0, 52), Count(7),
+            Utf8(b"x"), Utf8(b"V"), Utf8(b"A"), Class(3), Utf8(b"java/lang/Object"), Class(5),
+            Heading(PUBLIC | SUPER, 4, 6), Interfaces(0),
+            Fields(1), Member(PUBLIC, 1, 2), Attributes(0), Methods(0), Attributes(0),
+        ],
         ClassError::Index(61),
     ),
     (
-        b"\xca\xfe\xba\xbe\0\0\04\0\x07\x01\0\x03<x>\x01\0\x03()V\x01\0\x01A\x07\0\x03\x01\0\x10java/lang/Object\x07\0\x05\0!\0\x04\0\x06\0\0\0\0\0\x01\0\x01\0\x01\0\x02\0\0\0\0",
+        &[
+            Magic(0xcafe_babe), Version(0, 52), Count(7),
+            Utf8(b"<x>"), Utf8(b"()V"), Utf8(b"A"), Class(3), Utf8(b"java/lang/Object"), Class(5),
+            Heading(PUBLIC | SUPER, 4, 6), Interfaces(0), Fields(0),
+            Methods(1), Member(PUBLIC, 1, 2), Attributes(0), Attributes(0),
+        ],
         ClassError::Index(65),
     ),
     (
-        b"\xca\xfe\xba\xbe\0\0\04\0\x07\x01\0\x02a<\x01\0\x03()V\x01\0\x01A\x07\0\x03\x01\0\x10java/lang/Object\x07\0\x05\0!\0\x04\0\x06\0\0\0\0\0\x01\0\x01\0\x01\0\x02\0\0\0\0",
+        &[
+            Magic(0xcafe_babe), Version(0, 52), Count(7),
+            Utf8(b"a<"), Utf8(b"()V"), Utf8(b"A"), Class(3), Utf8(b"java/lang/Object"), Class(5),
+            Heading(PUBLIC | SUPER, 4, 6), Interfaces(0), Fields(0),
+            Methods(1), Member(PUBLIC, 1, 2), Attributes(0), Attributes(0),
+        ],
         ClassError::Index(64),
     ),
     (
-        b"\xca\xfe\xba\xbe\0\0\04\0\x07\x01\0\x01x\x01\0\x01I\x01\0\x01A\x07\0\x03\x01\0\x10java/lang/Object\x07\0\x05\0!\0\x04\0\x06\0\0\0\0\0\x01\0\x01\0\x01\0\x02\0\0\0\0",
+        &[
+            Magic(0xcafe_babe), Version(0, 52), Count(7),
+            Utf8(b"x"), Utf8(b"I"), Utf8(b"A"), Class(3), Utf8(b"java/lang/Object"), Class(5),
+            Heading(PUBLIC | SUPER, 4, 6), Interfaces(0), Fields(0),
+            Methods(1), Member(PUBLIC, 1, 2), Attributes(0), Attributes(0),
+        ],
         ClassError::Index(63),
     ),
     (
-        b"\xca\xfe\xba\xbe\0\0\04\0\x07\x01\0\x01[\x01\0\x03()V\x01\0\x01A\x07\0\x03\x01\0\x10java/lang/Object\x07\0\x05\0!\0\x04\0\x06\0\0\0\0\0\x01\0\x01\0\x01\0\x02\0\0\0\0",
+        &[
+            Magic(0xcafe_babe), Version(0, 52), Count(7),
+            Utf8(b"["), Utf8(b"()V"), Utf8(b"A"), Class(3), Utf8(b"java/lang/Object"), Class(5),
+            Heading(PUBLIC | SUPER, 4, 6), Interfaces(0), Fields(0),
+            Methods(1), Member(PUBLIC, 1, 2), Attributes(0), Attributes(0),
+        ],
         ClassError::Index(63),
     ),
     (
-        b"\xca\xfe\xba\xbe\0\0\04\0\x07\x01\0\x01Q\x07\0\x01\x01\0\x01A\x07\0\x03\x01\0\x10java/lang/Object\x07\0\x05\0!\0\x04\0\x06\0\0\0\0\0\0\0\x01\0\x02\0\0\0\0",
+        &[
+            Magic(0xcafe_babe), Version(0, 52), Count(7),
+            Utf8(b"Q"), Class(1), Utf8(b"A"), Class(3), Utf8(b"java/lang/Object"), Class(5),
+            Heading(PUBLIC | SUPER, 4, 6), Interfaces(0), Fields(0), Methods(0),
+            Attributes(1), Attribute(2, 0),
+        ],
         ClassError::Index(60),
     ),
     (
-        b"\xca\xfe\xba\xbe\0\0\04\0\x05\x01\0\x01A\x07\0\x01\x01\0\x10java/lang/Object\x07\0\x03\0!\0\x02\0\x04\0\0\0\0\0\0\0\x01\0\0\0\0\0\0",
+        &[
+            Magic(0xcafe_babe), Version(0, 52), Count(5),
+            Utf8(b"A"), Class(1), Utf8(b"java/lang/Object"), Class(3),
+            Heading(PUBLIC | SUPER, 2, 4), Interfaces(0), Fields(0), Methods(0),
+            Attributes(1), Attribute(0, 0),
+        ],
         ClassError::Index(53),
     ),
     (
-        b"\xca\xfe\xba\xbe\0\0\04\0\x08\x01\0\x01X\x01\0\x01m\x01\0\x01I\x01\0\x01A\x07\0\x04\x01\0\x10java/lang/Object\x07\0\x06\0!\0\x05\0\x07\0\0\0\x01\0\x09\0\x02\0\x03\0\x01\0\x01\xff\xff\xff\xff\0\0\0\0",
+        &[
+            Magic(0xcafe_babe), Version(0, 52), Count(8),
+            Utf8(b"X"), Utf8(b"m"), Utf8(b"I"), Utf8(b"A"), Class(4), Utf8(b"java/lang/Object"),
+            Class(6),
+            Heading(PUBLIC | SUPER, 5, 7), Interfaces(0),
+            Fields(1), Member(PUBLIC | STATIC, 2, 3), Attributes(1), Attribute(1, 0xffff_ffff),
+            Bytes(&[0, 0, 0, 0]),
+        ],
         ClassError::Cut(75),
     ),
     (
-        b"\xca\xfe\xba\xbe\0\0\04\0\x06\x01\0\x01X\x01\0\x01A\x07\0\x02\x01\0\x10java/lang/Object\x07\0\x04\0!\0\x03\0\x05\0\0\0\0\0\0\0\x01\0\x01\0\0\0\x04abc",
+        &[
+            Magic(0xcafe_babe), Version(0, 52), Count(6),
+            Utf8(b"X"), Utf8(b"A"), Class(2), Utf8(b"java/lang/Object"), Class(4),
+            Heading(PUBLIC | SUPER, 3, 5), Interfaces(0), Fields(0), Methods(0),
+            Attributes(1), Attribute(1, 4), Bytes(b"abc"),
+        ],
         ClassError::Cut(63),
     ),
     (
-        b"\xca\xfe\xba\xbe\0\0\04\0\x06\x01\0\x01X\x01\0\x01A\x07\0\x02\x01\0\x10java/lang/Object\x07\0\x04\0!\0\x03\0\x05\0\0\0\0\0\0\0\x01\0\x01\0\0\0\x02abc",
+        &[
+            Magic(0xcafe_babe), Version(0, 52), Count(6),
+            Utf8(b"X"), Utf8(b"A"), Class(2), Utf8(b"java/lang/Object"), Class(4),
+            Heading(PUBLIC | SUPER, 3, 5), Interfaces(0), Fields(0), Methods(0),
+            Attributes(1), Attribute(1, 2), Bytes(b"ab"), Bytes(b"c"),
+        ],
         ClassError::Trailing(65),
     ),
-    (b"\xca\xfe\xba\xbf", ClassError::Magic),
-    (b"\0\0\0\0", ClassError::Magic),
-    (
-        b"\xca\xfe\xba\xbe\0\0\04\0\0",
-        ClassError::Pool(PoolError::Tag(8)),
-    ),
-    (b"\xca\xfe\xba\xbe\0\0\04\0\x01", ClassError::Cut(10)),
-    (b"\xca\xfe\xba\xbe\0\0\04\0\x01\0\0", ClassError::Cut(12)),
-    (
-        b"\xca\xfe\xba\xbe\0\0\04\0\x01\0\0\0\0",
-        ClassError::Index(12),
-    ),
-    (b"\xbe\xba\xfe\xca\0\0\04", ClassError::Magic),
+    (&[Magic(0xcafe_babf)], ClassError::Magic),
+    (&[Magic(0x0000_0000)], ClassError::Magic),
+    (&[Magic(0xcafe_babe), Version(0, 52), Count(0)], ClassError::Pool(PoolError::Tag(8))),
+    (&[Magic(0xcafe_babe), Version(0, 52), Count(1)], ClassError::Cut(10)),
+    (&[Magic(0xcafe_babe), Version(0, 52), Count(1), Bytes(&[0, 0])], ClassError::Cut(12)),
+    (&[Magic(0xcafe_babe), Version(0, 52), Count(1), Bytes(&[0, 0, 0, 0])], ClassError::Index(12)),
+    (&[Magic(0xbeba_feca), Version(0, 52)], ClassError::Magic),
 ];
 
 // A file, the versions, the length of the pool, the flags, the class and its superclass, and then the lists.
-pub(crate) const READ_1: [(&[u8], &str, &str); 16] = [
+#[rattlefmt::skip]
+pub const READ_FILES: [(&[Part], &str, &str); 10] = [
     (
-        b"\xca\xfe\xba\xbe\0\0\04\0\x08\x01\0\x01A\x07\0\x01\x01\0\x10java/lang/Object\x07\0\x03\x01\0\x06verify\x01\0\x06([B)[B\x01\0\x04Code\0!\0\x02\0\x04\0\0\0\0\0\x01\0\x09\0\x05\0\x06\0\x01\0\x07\0\0\0\x0e\0\x01\0\x01\0\0\0\x02*\xb0\0\0\0\0\0\0",
+        A,
         "0 52 7 33 2 4",
         "[] [] [MemberView { flags: 9, name: 5, desc: 6, attributes: Attributes { items: [Attribute { name: 7, body: [0, 1, 0, 1, 0, 0, 0, 2, 42, 176, 0, 0, 0, 0] }] } }] []",
     ),
     (
-        b"\xca\xfe\xba\xbe\xff\xff\04\0\x08\x01\0\x01A\x07\0\x01\x01\0\x10java/lang/Object\x07\0\x03\x01\0\x06verify\x01\0\x06([B)[B\x01\0\x04Code\0!\0\x02\0\x04\0\0\0\0\0\x01\0\x09\0\x05\0\x06\0\x01\0\x07\0\0\0\x0e\0\x01\0\x01\0\0\0\x02*\xb0\0\0\0\0\0\0",
-        "65535 52 7 33 2 4",
-        "[] [] [MemberView { flags: 9, name: 5, desc: 6, attributes: Attributes { items: [Attribute { name: 7, body: [0, 1, 0, 1, 0, 0, 0, 2, 42, 176, 0, 0, 0, 0] }] } }] []",
-    ),
-    (
-        b"\xca\xfe\xba\xbe\0\0\0\0\0\x08\x01\0\x01A\x07\0\x01\x01\0\x10java/lang/Object\x07\0\x03\x01\0\x06verify\x01\0\x06([B)[B\x01\0\x04Code\0!\0\x02\0\x04\0\0\0\0\0\x01\0\x09\0\x05\0\x06\0\x01\0\x07\0\0\0\x0e\0\x01\0\x01\0\0\0\x02*\xb0\0\0\0\0\0\0",
-        "0 0 7 33 2 4",
-        "[] [] [MemberView { flags: 9, name: 5, desc: 6, attributes: Attributes { items: [Attribute { name: 7, body: [0, 1, 0, 1, 0, 0, 0, 2, 42, 176, 0, 0, 0, 0] }] } }] []",
-    ),
-    (
-        b"\xca\xfe\xba\xbe\0\0\04\0\x08\x01\0\x01A\x07\0\x01\x01\0\x10java/lang/Object\x07\0\x03\x01\0\x06verify\x01\0\x06([B)[B\x01\0\x04Code\0!\0\x02\0\0\0\0\0\0\0\x01\0\x09\0\x05\0\x06\0\x01\0\x07\0\0\0\x0e\0\x01\0\x01\0\0\0\x02*\xb0\0\0\0\0\0\0",
-        "0 52 7 33 2 0",
-        "[] [] [MemberView { flags: 9, name: 5, desc: 6, attributes: Attributes { items: [Attribute { name: 7, body: [0, 1, 0, 1, 0, 0, 0, 2, 42, 176, 0, 0, 0, 0] }] } }] []",
-    ),
-    (
-        b"\xca\xfe\xba\xbe\0\0\04\0\x08\x01\0\x01A\x07\0\x01\x01\0\x10java/lang/Object\x07\0\x03\x01\0\x06verify\x01\0\x06([B)[B\x01\0\x04Code\0!\0\x02\0\x02\0\0\0\0\0\x01\0\x09\0\x05\0\x06\0\x01\0\x07\0\0\0\x0e\0\x01\0\x01\0\0\0\x02*\xb0\0\0\0\0\0\0",
-        "0 52 7 33 2 2",
-        "[] [] [MemberView { flags: 9, name: 5, desc: 6, attributes: Attributes { items: [Attribute { name: 7, body: [0, 1, 0, 1, 0, 0, 0, 2, 42, 176, 0, 0, 0, 0] }] } }] []",
-    ),
-    (
-        b"\xca\xfe\xba\xbe\0\0\04\0\x08\x01\0\x01A\x07\0\x01\x01\0\x10java/lang/Object\x07\0\x03\x01\0\x06verify\x01\0\x06([B)[B\x01\0\x04Code\0!\0\x02\0\x04\0\0\0\0\0\x01\xff\xff\0\x05\0\x06\0\x01\0\x07\0\0\0\x0e\0\x01\0\x01\0\0\0\x02*\xb0\0\0\0\0\0\0",
-        "0 52 7 33 2 4",
-        "[] [] [MemberView { flags: 65535, name: 5, desc: 6, attributes: Attributes { items: [Attribute { name: 7, body: [0, 1, 0, 1, 0, 0, 0, 2, 42, 176, 0, 0, 0, 0] }] } }] []",
-    ),
-    (
-        b"\xca\xfe\xba\xbe\0\0\04\0\x08\x01\0\x01A\x07\0\x01\x01\0\x10java/lang/Object\x07\0\x03\x01\0\x06verify\x01\0\x06([B)[B\x01\0\x04Code\0!\0\x02\0\x04\0\0\0\0\0\x01\0\x09\0\x05\0\x06\0\x01\0\x05\0\0\0\x0e\0\x01\0\x01\0\0\0\x02*\xb0\0\0\0\0\0\0",
-        "0 52 7 33 2 4",
-        "[] [] [MemberView { flags: 9, name: 5, desc: 6, attributes: Attributes { items: [Attribute { name: 5, body: [0, 1, 0, 1, 0, 0, 0, 2, 42, 176, 0, 0, 0, 0] }] } }] []",
-    ),
-    (
-        b"\xca\xfe\xba\xbe\0\x03\03\0\x1c\x01\0\x04Rich\x07\0\x01\x05\0\0\x01\0\0\0\0\0\x06\0\0\0\0\0\0\0\x05\x01\0\x01I\x07\0\x07\x01\0\x0dConstantValue\x01\0\x0aDeprecated\x01\0\x01f\x01\0\x01J\x01\0\x01g\x01\0\x05[[La;\x01\0\x0aExceptions\x01\0\x0fLineNumberTable\x01\0\x0dStackMapTable\x01\0\x04Code\x01\0\x09Signature\x01\0\x01m\x01\0\x04(J)V\x01\0\x08<clinit>\x01\0\x03()V\x01\0\x0aSourceFile\x01\0\0\x01\0\x10java/lang/Object\x07\0\x1a\x04!\0\x02\0\x1b\0\x02\0\x08\0\x08\0\x02\0\x19\0\x0b\0\x0c\0\x02\0\x09\0\0\0\x02\0\x03\0\x0a\0\0\0\0\0\0\0\x0d\0\x0e\0\0\0\x02\0\x09\0\x14\0\x15\0\x03\0\x0f\0\0\0\x04\0\x01\0\x08\0\x12\0\0\0'\0\x02\0\x02\0\0\0\x03\x1eX\xb1\0\x01\0\0\0\x01\0\x02\0\0\0\x02\0\x10\0\0\0\x02\0\0\0\x11\0\0\0\x02\0\0\0\x13\0\0\0\x02\0\x01\x04\x01\0\x16\0\x17\0\0\0\x03\0\x18\0\0\0\x02\0\x01\0\x19\0\0\0\x03xyz\0\x18\0\0\0\0",
+        RICH,
         "3 51 27 1057 2 27",
         "[8, 8] [MemberView { flags: 25, name: 11, desc: 12, attributes: Attributes { items: [Attribute { name: 9, body: [0, 3] }, Attribute { name: 10, body: [] }] } }, MemberView { flags: 0, name: 13, desc: 14, attributes: Attributes { items: [] } }] [MemberView { flags: 9, name: 20, desc: 21, attributes: Attributes { items: [Attribute { name: 15, body: [0, 1, 0, 8] }, Attribute { name: 18, body: [0, 2, 0, 2, 0, 0, 0, 3, 30, 88, 177, 0, 1, 0, 0, 0, 1, 0, 2, 0, 0, 0, 2, 0, 16, 0, 0, 0, 2, 0, 0, 0, 17, 0, 0, 0, 2, 0, 0] }, Attribute { name: 19, body: [0, 1] }] } }, MemberView { flags: 1025, name: 22, desc: 23, attributes: Attributes { items: [] } }] [Attribute { name: 24, body: [0, 1] }, Attribute { name: 25, body: [120, 121, 122] }, Attribute { name: 24, body: [] }]",
     ),
     (
-        b"\xca\xfe\xba\xbe\0\0\04\0\x03\x01\0\x01A\x07\0\x01\0!\0\x02\0\0\0\0\0\0\0\0\0\0",
+        &[
+            Magic(0xcafe_babe), Version(0, 52), Count(3),
+            Utf8(b"A"), Class(1),
+            Heading(PUBLIC | SUPER, 2, 0), Interfaces(0), Fields(0), Methods(0), Attributes(0),
+        ],
         "0 52 2 33 2 0",
         "[] [] [] []",
     ),
     (
-        b"\xca\xfe\xba\xbe\xff\xff\xff\xff\0\x05\x01\0\x03<x>\x07\0\x01\x01\0\x01(\x07\0\x03\xff\xff\0\x02\0\x04\0\0\0\0\0\0\0\0",
+        &[
+            Magic(0xcafe_babe), Version(65_535, 65_535), Count(5),
+            Utf8(b"<x>"), Class(1), Utf8(b"("), Class(3),
+            Heading(0xffff, 2, 4), Interfaces(0), Fields(0), Methods(0), Attributes(0),
+        ],
         "65535 65535 4 65535 2 4",
         "[] [] [] []",
     ),
     (
-        b"\xca\xfe\xba\xbe\0\0\04\0\x07\x01\0\x03<x>\x01\0\x01I\x01\0\x01A\x07\0\x03\x01\0\x10java/lang/Object\x07\0\x05\0!\0\x04\0\x06\0\0\0\x01\0\x01\0\x01\0\x02\0\0\0\0\0\0",
+        &[
+            Magic(0xcafe_babe), Version(0, 52), Count(7),
+            Utf8(b"<x>"), Utf8(b"I"), Utf8(b"A"), Class(3), Utf8(b"java/lang/Object"), Class(5),
+            Heading(PUBLIC | SUPER, 4, 6), Interfaces(0),
+            Fields(1), Member(PUBLIC, 1, 2), Attributes(0), Methods(0), Attributes(0),
+        ],
         "0 52 6 33 4 6",
         "[] [MemberView { flags: 1, name: 1, desc: 2, attributes: Attributes { items: [] } }] [] []",
     ),
     (
-        b"\xca\xfe\xba\xbe\0\0\04\0\x07\x01\0\x02a>\x01\0\x01J\x01\0\x01A\x07\0\x03\x01\0\x10java/lang/Object\x07\0\x05\0!\0\x04\0\x06\0\0\0\x01\0\x01\0\x01\0\x02\0\0\0\0\0\0",
+        &[
+            Magic(0xcafe_babe), Version(0, 52), Count(7),
+            Utf8(b"a>"), Utf8(b"J"), Utf8(b"A"), Class(3), Utf8(b"java/lang/Object"), Class(5),
+            Heading(PUBLIC | SUPER, 4, 6), Interfaces(0),
+            Fields(1), Member(PUBLIC, 1, 2), Attributes(0), Methods(0), Attributes(0),
+        ],
         "0 52 6 33 4 6",
         "[] [MemberView { flags: 1, name: 1, desc: 2, attributes: Attributes { items: [] } }] [] []",
     ),
     (
-        b"\xca\xfe\xba\xbe\0\0\04\0\x07\x01\0\x06<init>\x01\0\x03()V\x01\0\x01A\x07\0\x03\x01\0\x10java/lang/Object\x07\0\x05\0!\0\x04\0\x06\0\0\0\0\0\x01\0\x01\0\x01\0\x02\0\0\0\0",
+        &[
+            Magic(0xcafe_babe), Version(0, 52), Count(7),
+            Utf8(b"<init>"), Utf8(b"()V"), Utf8(b"A"), Class(3), Utf8(b"java/lang/Object"),
+            Class(5),
+            Heading(PUBLIC | SUPER, 4, 6), Interfaces(0), Fields(0),
+            Methods(1), Member(PUBLIC, 1, 2), Attributes(0), Attributes(0),
+        ],
         "0 52 6 33 4 6",
         "[] [] [MemberView { flags: 1, name: 1, desc: 2, attributes: Attributes { items: [] } }] []",
     ),
     (
-        b"\xca\xfe\xba\xbe\0\0\04\0\x07\x01\0\x08<clinit>\x01\0\x04(I)I\x01\0\x01A\x07\0\x03\x01\0\x10java/lang/Object\x07\0\x05\0!\0\x04\0\x06\0\0\0\0\0\x01\0\x01\0\x01\0\x02\0\0\0\0",
+        &[
+            Magic(0xcafe_babe), Version(0, 52), Count(7),
+            Utf8(b"<clinit>"), Utf8(b"(I)I"), Utf8(b"A"), Class(3), Utf8(b"java/lang/Object"),
+            Class(5),
+            Heading(PUBLIC | SUPER, 4, 6), Interfaces(0), Fields(0),
+            Methods(1), Member(PUBLIC, 1, 2), Attributes(0), Attributes(0),
+        ],
         "0 52 6 33 4 6",
         "[] [] [MemberView { flags: 1, name: 1, desc: 2, attributes: Attributes { items: [] } }] []",
     ),
     (
-        b"\xca\xfe\xba\xbe\0\0\04\0\x06\x01\0\x01Z\x01\0\x01A\x07\0\x02\x01\0\x10java/lang/Object\x07\0\x04\0!\0\x03\0\x05\0\0\0\0\0\0\0\x03\0\x01\0\0\0\x011\0\x02\0\0\0\0\0\x01\0\0\0\x012",
+        &[
+            Magic(0xcafe_babe), Version(0, 52), Count(6),
+            Utf8(b"Z"), Utf8(b"A"), Class(2), Utf8(b"java/lang/Object"), Class(4),
+            Heading(PUBLIC | SUPER, 3, 5), Interfaces(0), Fields(0), Methods(0),
+            Attributes(3), Attribute(1, 1), Bytes(&[49]), Attribute(2, 0), Attribute(1, 1),
+            Bytes(&[50]),
+        ],
         "0 52 5 33 3 5",
         "[] [] [] [Attribute { name: 1, body: [49] }, Attribute { name: 2, body: [] }, Attribute { name: 1, body: [50] }]",
     ),
     (
-        b"\xca\xfe\xba\xbe\0\0\04\0\x08\x01\0\x04Code\x01\0\x01m\x01\0\x03()V\x01\0\x01A\x07\0\x04\x01\0\x10java/lang/Object\x07\0\x06\0!\0\x05\0\x07\0\0\0\0\0\x01\0\x09\0\x02\0\x03\0\x02\0\x01\0\0\0\0\0\x01\0\0\0\x01x\0\0",
+        &[
+            Magic(0xcafe_babe), Version(0, 52), Count(8),
+            Utf8(b"Code"), Utf8(b"m"), Utf8(b"()V"), Utf8(b"A"), Class(4),
+            Utf8(b"java/lang/Object"), Class(6),
+            Heading(PUBLIC | SUPER, 5, 7), Interfaces(0), Fields(0),
+            Methods(1), Member(PUBLIC | STATIC, 2, 3), Attributes(2), Attribute(1, 0),
+            Attribute(1, 1), Bytes(b"x"), Attributes(0),
+        ],
         "0 52 7 33 5 7",
         "[] [] [MemberView { flags: 9, name: 2, desc: 3, attributes: Attributes { items: [Attribute { name: 1, body: [] }, Attribute { name: 1, body: [120] }] } }] []",
+    ),
+];
+
+// A place in A, another part there, and the same.
+#[rattlefmt::skip]
+pub const READ_CHANGES: [(usize, Part, &str, &str); 6] = [
+    (
+        AT_VERSION,
+        Version(65_535, 52),
+        "65535 52 7 33 2 4",
+        "[] [] [MemberView { flags: 9, name: 5, desc: 6, attributes: Attributes { items: [Attribute { name: 7, body: [0, 1, 0, 1, 0, 0, 0, 2, 42, 176, 0, 0, 0, 0] }] } }] []",
+    ),
+    (
+        AT_VERSION,
+        Version(0, 0),
+        "0 0 7 33 2 4",
+        "[] [] [MemberView { flags: 9, name: 5, desc: 6, attributes: Attributes { items: [Attribute { name: 7, body: [0, 1, 0, 1, 0, 0, 0, 2, 42, 176, 0, 0, 0, 0] }] } }] []",
+    ),
+    (
+        AT_HEADING,
+        Heading(PUBLIC | SUPER, 2, 0),
+        "0 52 7 33 2 0",
+        "[] [] [MemberView { flags: 9, name: 5, desc: 6, attributes: Attributes { items: [Attribute { name: 7, body: [0, 1, 0, 1, 0, 0, 0, 2, 42, 176, 0, 0, 0, 0] }] } }] []",
+    ),
+    (
+        AT_HEADING,
+        Heading(PUBLIC | SUPER, 2, 2),
+        "0 52 7 33 2 2",
+        "[] [] [MemberView { flags: 9, name: 5, desc: 6, attributes: Attributes { items: [Attribute { name: 7, body: [0, 1, 0, 1, 0, 0, 0, 2, 42, 176, 0, 0, 0, 0] }] } }] []",
+    ),
+    (
+        AT_MEMBER,
+        Member(0xffff, 5, 6),
+        "0 52 7 33 2 4",
+        "[] [] [MemberView { flags: 65535, name: 5, desc: 6, attributes: Attributes { items: [Attribute { name: 7, body: [0, 1, 0, 1, 0, 0, 0, 2, 42, 176, 0, 0, 0, 0] }] } }] []",
+    ),
+    (
+        AT_ATTRIBUTE,
+        Attribute(5, 14),
+        "0 52 7 33 2 4",
+        "[] [] [MemberView { flags: 9, name: 5, desc: 6, attributes: Attributes { items: [Attribute { name: 5, body: [0, 1, 0, 1, 0, 0, 0, 2, 42, 176, 0, 0, 0, 0] }] } }] []",
     ),
 ];
 
@@ -437,14 +532,14 @@ fn refusal(alloc: Global, file: &[u8]) -> Option<ClassError> {
     read_class(alloc, file).err()
 }
 
-fn is_front_refused(alloc: Global, file: &[u8], len: usize, wanted: ClassError) -> bool {
+fn is_prefix_refused(alloc: Global, file: &[u8], len: usize, wanted: ClassError) -> bool {
     match file.get(..len) {
-        Some(front) => refusal(alloc, front) == Some(wanted),
+        Some(prefix) => refusal(alloc, prefix) == Some(wanted),
         None => false,
     }
 }
 
-fn are_fronts_refused(
+fn are_prefixes_refused(
     alloc: Global,
     file: &[u8],
     from: usize,
@@ -452,7 +547,7 @@ fn are_fronts_refused(
     wanted: ClassError,
 ) -> bool {
     for len in from..to {
-        if !is_front_refused(alloc, file, len, wanted) {
+        if !is_prefix_refused(alloc, file, len, wanted) {
             return false;
         }
     }
@@ -500,36 +595,45 @@ fn is_read(alloc: Global, file: &[u8], numbers: &str, lists: &str) -> bool {
 
 #[test]
 fn cuts_of_a(rt: HostRuntime) {
+    let file = bytes_of(rt.alloc(), A);
     for (from, to, wanted) in &CUTS_OF_A {
-        assert!(rt; are_fronts_refused(rt.alloc(), A, *from, *to, *wanted));
+        assert!(rt;
+            matches!(&file, Ok(file) if are_prefixes_refused(rt.alloc(), file, *from, *to, *wanted))
+        );
     }
 }
 
 #[test]
 fn cuts_of_rich(rt: HostRuntime) {
+    let file = bytes_of(rt.alloc(), RICH);
     for (from, to, wanted) in &CUTS_OF_RICH {
-        assert!(rt; are_fronts_refused(rt.alloc(), RICH, *from, *to, *wanted));
+        assert!(rt;
+            matches!(&file, Ok(file) if are_prefixes_refused(rt.alloc(), file, *from, *to, *wanted))
+        );
     }
 }
 
 #[test]
-fn refused_1(rt: HostRuntime) {
-    for (file, wanted) in &REFUSED_1 {
-        assert!(rt; refusal(rt.alloc(), file) == Some(*wanted));
+fn refused(rt: HostRuntime) {
+    for (parts, wanted) in &REFUSED {
+        let file = bytes_of(rt.alloc(), parts);
+        assert!(rt; matches!(&file, Ok(file) if refusal(rt.alloc(), file) == Some(*wanted)));
+    }
+    for (place, part, wanted) in &REFUSED_CHANGES {
+        let file = changed(rt.alloc(), A, *place, part);
+        assert!(rt; matches!(&file, Ok(file) if refusal(rt.alloc(), file) == Some(*wanted)));
     }
 }
 
 #[test]
-fn refused_2(rt: HostRuntime) {
-    for (file, wanted) in &REFUSED_2 {
-        assert!(rt; refusal(rt.alloc(), file) == Some(*wanted));
+fn read(rt: HostRuntime) {
+    for (parts, numbers, lists) in &READ_FILES {
+        let file = bytes_of(rt.alloc(), parts);
+        assert!(rt; matches!(&file, Ok(file) if is_read(rt.alloc(), file, numbers, lists)));
     }
-}
-
-#[test]
-fn read_1(rt: HostRuntime) {
-    for (file, numbers, lists) in &READ_1 {
-        assert!(rt; is_read(rt.alloc(), file, numbers, lists));
+    for (place, part, numbers, lists) in &READ_CHANGES {
+        let file = changed(rt.alloc(), A, *place, part);
+        assert!(rt; matches!(&file, Ok(file) if is_read(rt.alloc(), file, numbers, lists)));
     }
 }
 

@@ -1,9 +1,17 @@
+use crate::parts::Part::*;
+use crate::parts::{ALOAD_0, ARETURN, NOP, Part, RETURN, bytes_of};
 use dj_class::{ClassError, CodeView, read_code};
 use std::alloc::Global;
 
 // A body with two rows and two attributes.
-const WHOLE: &[u8] =
-    b"\0\x02\0\x03\0\0\0\x02*\xb0\0\x02\0\0\0\x01\0\x01\0\0\0\0\0\x02\0\0\0\x07\0\x02\0\x09\0\0\0\x02ab\0\0\0\0\0\0";
+#[rattlefmt::skip]
+const WHOLE: &[Part] = &[
+    Limits(2, 3), Length(2), Bytes(&[ALOAD_0, ARETURN]),
+    Rows(2), Row(0, 1, 1, 0), Row(0, 2, 0, 7),
+    Attributes(2),
+    Attribute(9, 2), Bytes(b"ab"),
+    Attribute(0, 0),
+];
 
 // Its first bytes, from this many to fewer than this many, and what is refused then.
 const CUTS: [(usize, usize, ClassError); 19] = [
@@ -28,58 +36,80 @@ const CUTS: [(usize, usize, ClassError); 19] = [
     (40, 44, ClassError::Cut(40)),
 ];
 
-const REFUSED: [(&[u8], ClassError); 11] = [
+#[rattlefmt::skip]
+const REFUSED: [(&[Part], ClassError); 11] = [
     (
-        b"\0\x02\0\x03\0\0\0\x02*\xb0\0\x02\0\0\0\x01\0\x01\0\0\0\0\0\x02\0\0\0\x07\0\x02\0\x09\0\0\0\x02ab\0\0\0\0\0\0\0",
+        &[
+            Limits(2, 3), Length(2), Bytes(&[ALOAD_0, ARETURN]), Rows(2), Row(0, 1, 1, 0),
+            Row(0, 2, 0, 7), Attributes(2), Attribute(9, 2), Bytes(b"ab"), Attribute(0, 0),
+            Bytes(&[0]),
+        ],
         ClassError::Trailing(44),
     ),
     (
-        b"\0\x02\0\x03\0\0\0\x02*\xb0\0\x02\0\0\0\x01\0\x01\0\0\0\0\0\x02\0\0\0\x07\0\x02\0\x09\0\0\0\x02ab\0\0\0\0\0\0abc",
+        &[
+            Limits(2, 3), Length(2), Bytes(&[ALOAD_0, ARETURN]), Rows(2), Row(0, 1, 1, 0),
+            Row(0, 2, 0, 7), Attributes(2), Attribute(9, 2), Bytes(b"ab"), Attribute(0, 0),
+            Bytes(b"abc"),
+        ],
         ClassError::Trailing(44),
     ),
-    (b"\0\x01\0\x01\0\0\0\0\0\0\0\0", ClassError::Index(4)),
-    (b"\0\x01\0\x01\0\0\0\x02\xb1\0\0\0\0", ClassError::Cut(12)),
-    (b"\0\x01\0\x01\0\x01\0\0\xb1\0\0\0\0", ClassError::Index(4)),
+    (&[Limits(1, 1), Length(0), Rows(0), Attributes(0)], ClassError::Index(4)),
+    (&[Limits(1, 1), Length(2), Bytes(&[RETURN]), Rows(0), Attributes(0)], ClassError::Cut(12)),
     (
-        b"\0\x01\0\x01\x80\0\0\x01\xb1\0\0\0\0",
+        &[Limits(1, 1), Length(0x0001_0000), Bytes(&[RETURN]), Rows(0), Attributes(0)],
         ClassError::Index(4),
     ),
     (
-        b"\0\x01\0\x01\xff\xff\xff\xff\xb1\0\0\0\0",
+        &[Limits(1, 1), Length(0x8000_0001), Bytes(&[RETURN]), Rows(0), Attributes(0)],
         ClassError::Index(4),
     ),
-    (b"\0\0\0\0\0\0\xff\xff", ClassError::Cut(8)),
     (
-        b"\0\x01\0\x01\0\0\0\x01\0\0\x02\0\0\0\0\0\0\0\0\0\0\0\0\0\0\0",
+        &[Limits(1, 1), Length(0xffff_ffff), Bytes(&[RETURN]), Rows(0), Attributes(0)],
+        ClassError::Index(4),
+    ),
+    (&[Limits(0, 0), Length(65_535)], ClassError::Cut(8)),
+    (
+        &[
+            Limits(1, 1), Length(1), Bytes(&[NOP]), Rows(2), Row(0, 0, 0, 0),
+            Bytes(&[0, 0, 0, 0, 0, 0, 0]),
+        ],
         ClassError::Cut(25),
     ),
     (
-        b"\0\x01\0\x01\0\0\0\x01\0\0\0\0\x01\0\x01\xff\xff\xff\xff",
+        &[
+            Limits(1, 1), Length(1), Bytes(&[NOP]), Rows(0), Attributes(1),
+            Attribute(1, 0xffff_ffff),
+        ],
         ClassError::Cut(19),
     ),
     (
-        b"\0\x01\0\x01\0\0\0\x01\0\0\0\0\x02\0\x01\0\0\0\0",
+        &[Limits(1, 1), Length(1), Bytes(&[NOP]), Rows(0), Attributes(2), Attribute(1, 0)],
         ClassError::Cut(19),
     ),
 ];
 
 // A body, and the stack, the locals, the code, the rows and the attributes.
-pub(crate) const READ: [(&[u8], &str); 5] = [
+#[rattlefmt::skip]
+pub const READ: [(&[Part], &str); 5] = [
     (
-        b"\0\x02\0\x03\0\0\0\x02*\xb0\0\x02\0\0\0\x01\0\x01\0\0\0\0\0\x02\0\0\0\x07\0\x02\0\x09\0\0\0\x02ab\0\0\0\0\0\0",
+        WHOLE,
         "2 3 [42, 176] [CatchRow { start: 0, end: 1, handler: 1, catch_type: 0 }, CatchRow { start: 0, end: 2, handler: 0, catch_type: 7 }] [Attribute { name: 9, body: [97, 98] }, Attribute { name: 0, body: [] }]",
     ),
-    (b"\0\x01\0\x01\0\0\0\x01\xb1\0\0\0\0", "1 1 [177] [] []"),
+    (&[Limits(1, 1), Length(1), Bytes(&[RETURN]), Rows(0), Attributes(0)], "1 1 [177] [] []"),
     (
-        b"\0\x01\0\x01\0\0\0\x03\xb1\xb1\xb1\0\0\0\0",
+        &[Limits(1, 1), Length(3), Bytes(&[RETURN, RETURN, RETURN]), Rows(0), Attributes(0)],
         "1 1 [177, 177, 177] [] []",
     ),
     (
-        b"\xff\xff\xff\xff\0\0\0\x01\0\0\x01\xff\xff\xff\xff\xff\xff\xff\xff\0\0",
+        &[
+            Limits(65_535, 65_535), Length(1), Bytes(&[NOP]), Rows(1),
+            Row(65_535, 65_535, 65_535, 65_535), Attributes(0),
+        ],
         "65535 65535 [0] [CatchRow { start: 65535, end: 65535, handler: 65535, catch_type: 65535 }] []",
     ),
     (
-        b"\0\x01\0\x01\0\0\0\x02*\xb0\0\0\0\0",
+        &[Limits(1, 1), Length(2), Bytes(&[ALOAD_0, ARETURN]), Rows(0), Attributes(0)],
         "1 1 [42, 176] [] []",
     ),
 ];
@@ -91,14 +121,14 @@ fn refusal(alloc: Global, body: &[u8]) -> Option<ClassError> {
     read_code(alloc, body).err()
 }
 
-fn is_front_refused(alloc: Global, body: &[u8], len: usize, wanted: ClassError) -> bool {
+fn is_prefix_refused(alloc: Global, body: &[u8], len: usize, wanted: ClassError) -> bool {
     match body.get(..len) {
-        Some(front) => refusal(alloc, front) == Some(wanted),
+        Some(prefix) => refusal(alloc, prefix) == Some(wanted),
         None => false,
     }
 }
 
-fn are_fronts_refused(
+fn are_prefixes_refused(
     alloc: Global,
     body: &[u8],
     from: usize,
@@ -106,7 +136,7 @@ fn are_fronts_refused(
     wanted: ClassError,
 ) -> bool {
     for len in from..to {
-        if !is_front_refused(alloc, body, len, wanted) {
+        if !is_prefix_refused(alloc, body, len, wanted) {
             return false;
         }
     }
@@ -139,21 +169,26 @@ fn is_read(alloc: Global, body: &[u8], wanted: &str) -> bool {
 
 #[test]
 fn cuts(rt: HostRuntime) {
+    let body = bytes_of(rt.alloc(), WHOLE);
     for (from, to, wanted) in &CUTS {
-        assert!(rt; are_fronts_refused(rt.alloc(), WHOLE, *from, *to, *wanted));
+        assert!(rt;
+            matches!(&body, Ok(body) if are_prefixes_refused(rt.alloc(), body, *from, *to, *wanted))
+        );
     }
 }
 
 #[test]
 fn refused(rt: HostRuntime) {
-    for (body, wanted) in &REFUSED {
-        assert!(rt; refusal(rt.alloc(), body) == Some(*wanted));
+    for (parts, wanted) in &REFUSED {
+        let body = bytes_of(rt.alloc(), parts);
+        assert!(rt; matches!(&body, Ok(body) if refusal(rt.alloc(), body) == Some(*wanted)));
     }
 }
 
 #[test]
 fn read(rt: HostRuntime) {
-    for (body, wanted) in &READ {
-        assert!(rt; is_read(rt.alloc(), body, wanted));
+    for (parts, wanted) in &READ {
+        let body = bytes_of(rt.alloc(), parts);
+        assert!(rt; matches!(&body, Ok(body) if is_read(rt.alloc(), body, wanted)));
     }
 }

@@ -12,6 +12,8 @@ mod lists;
 #[cfg(test)]
 mod look_ups;
 #[cfg(test)]
+mod parts;
+#[cfg(test)]
 mod pool;
 #[cfg(test)]
 mod pool_ops;

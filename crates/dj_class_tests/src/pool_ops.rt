@@ -5,6 +5,8 @@ ghost use Rattle.dj_pool.specs.trusted.Pool.{IsClassText, NamesText, NamesAnyCla
 ghost use Rattle.dj_pool.specs.Views.{constant_of};
 ghost use Rattle.dj_pool.specs.Answers.{MayHaveText};
 
+use crate::parts::Part::*;
+use crate::parts::{Part, bytes_of};
 use dj_names::{
     is_array_descriptor, is_class_name, is_field_descriptor, is_method_descriptor, is_method_name,
     is_modified_utf8, is_unqualified_name,
@@ -14,7 +16,7 @@ use dj_write::write_pool;
 use std::alloc::{AllocError, Global};
 
 // Of which pool a row asks: the first, or the copy that was made last.
-pub enum Of {
+pub enum AskedPool {
     Pool,
     Copy,
 }
@@ -30,21 +32,32 @@ pub enum Op {
     NameAndType(u16),
     Member(u16),
     Len,
-    // The bytes of the pool in a class file.
-    Write,
+    // Whether these are the pool in a class file.
+    Write(&'static [Part]),
 }
 
-pub const SMALL: &[u8; 56] =
-    b"\0\x08\x01\0\x01A\x07\0\x01\x01\0\x10java/lang/Object\x07\0\x03\x01\0\x06verify\x01\0\x06([B)[B\x01\0\x04Code";
+/// The constants of the class A.
+#[rattlefmt::skip]
+pub const SMALL: &[Part] = &[
+    Count(8), Utf8(b"A"), Class(1), Utf8(b"java/lang/Object"), Class(3), Utf8(b"verify"),
+    Utf8(b"([B)[B"), Utf8(b"Code"),
+];
 
-pub const MIXED: &[u8; 145] =
-    b"\0\x20\x01\0\x03a/B\x07\0\x01\x01\0\x01x\x01\0\x02[I\x0c\0\x03\0\x04\x09\0\x02\0\x05\x01\0\x02[J\x07\0\x07\x01\0\x01m\x01\0\x05(II)V\x0c\0\x09\0\x0a\x0a\0\x08\0\x0b\x01\0\x01I\x07\0\x0d\x01\0\x01n\x01\0\x03()I\x0c\0\x0f\0\x10\x0b\0\x0e\0\x11\x05\0\0\0\0\0\0\0\x09\x06\0\0\0\0\0\0\0\0\x0f\x06\0\x06\x01\0\x01q\x08\0\x18\x01\0\x03()V\x10\0\x1a\x01\0\x01d\x01\0\x03()J\x0c\0\x1c\0\x1d\x12\0\x03\0\x1e";
+/// Constants of each kind but two.
+#[rattlefmt::skip]
+pub const MIXED: &[Part] = &[
+    Count(32), Utf8(b"a/B"), Class(1), Utf8(b"x"), Utf8(b"[I"), NameAndType(3, 4), Field(2, 5),
+    Utf8(b"[J"), Class(7), Utf8(b"m"), Utf8(b"(II)V"), NameAndType(9, 10), Method(8, 11),
+    Utf8(b"I"), Class(13), Utf8(b"n"), Utf8(b"()I"), NameAndType(15, 16), InterfaceMethod(14, 17),
+    Long(9), Double(0), Handle(6, 6), Utf8(b"q"), Text(24), Utf8(b"()V"), MethodType(26),
+    Utf8(b"d"), Utf8(b"()J"), NameAndType(28, 29), Dynamic(3, 30),
+];
 
-// No pool: the row begins with a new one.
-pub const NEW: &[u8; 0] = b"";
+/// No pool: the row begins with a new one.
+pub const NEW: &[Part] = &[];
 
-// The bytes of a pool, what is asked of it, and the answers.
-pub type Row = (&'static [u8], &'static [(Of, Op)], &'static str);
+// The parts of a pool, what is asked of it, and the answers.
+pub type Row = (&'static [Part], &'static [(AskedPool, Op)], &'static str);
 
 fn names_class_text(pool: &Pool<'_>, index: u16) -> bool
     ensures { IsTrue result → NamesText IsClassText pool.now index }
@@ -185,10 +198,10 @@ fn may_have_text(pool: &Pool<'_>, index: u16, text: u16) -> bool
     }
 }
 
-fn appended(
+fn appended<'a>(
     alloc: Global,
-    pool: &mut Pool<'static>,
-    entry: Entry<'static>,
+    pool: &mut Pool<'a>,
+    entry: Entry<'a>,
 ) -> Result<String, AllocError> {
     if is_whole(entry) && is_linked(pool, entry) {
         let answer = pool.append(entry);
@@ -200,7 +213,7 @@ fn appended(
 
 fn redirected(
     alloc: Global,
-    pool: &mut Pool<'static>,
+    pool: &mut Pool<'_>,
     index: u16,
     text: u16,
 ) -> Result<String, AllocError> {
@@ -212,7 +225,7 @@ fn redirected(
     }
 }
 
-fn filled(alloc: Global, pool: &mut Pool<'static>, count: u16) -> Result<String, AllocError> {
+fn filled(alloc: Global, pool: &mut Pool<'_>, count: u16) -> Result<String, AllocError> {
     let mut last = 0;
     for _ in 0..count {
         match pool.append(Entry::Integer(0)) {
@@ -223,14 +236,15 @@ fn filled(alloc: Global, pool: &mut Pool<'static>, count: u16) -> Result<String,
     format!(in alloc; "{last}; ")
 }
 
-fn written(alloc: Global, pool: &Pool<'static>) -> Result<String, AllocError> {
+fn written(alloc: Global, pool: &Pool<'_>, wanted: &[Part]) -> Result<String, AllocError> {
+    let wanted = bytes_of(alloc, wanted)?;
     match write_pool(alloc, pool) {
-        Ok(bytes) => format!(in alloc; "{:?}; ", bytes.as_slice()),
+        Ok(bytes) => format!(in alloc; "{}; ", bytes.as_slice() == wanted.as_slice()),
         Err(error) => format!(in alloc; "{error:?}; "),
     }
 }
 
-fn answer(alloc: Global, pool: &mut Pool<'static>, op: &Op) -> Result<String, AllocError> {
+fn answer(alloc: Global, pool: &mut Pool<'_>, op: &Op) -> Result<String, AllocError> {
     match op {
         Op::Append(entry) => appended(alloc, pool, *entry),
         Op::Fill(count) => filled(alloc, pool, *count),
@@ -241,11 +255,11 @@ fn answer(alloc: Global, pool: &mut Pool<'static>, op: &Op) -> Result<String, Al
         Op::NameAndType(index) => format!(in alloc; "{:?}; ", pool.name_and_type(*index)),
         Op::Member(index) => format!(in alloc; "{:?}; ", pool.member(*index)),
         Op::Len => format!(in alloc; "{}; ", pool.as_slice().len()),
-        Op::Write => written(alloc, pool),
+        Op::Write(wanted) => written(alloc, pool, wanted),
     }
 }
 
-fn begin(alloc: Global, bytes: &'static [u8]) -> Option<Pool<'static>> {
+fn begin(alloc: Global, bytes: &[u8]) -> Option<Pool<'_>> {
     if bytes.is_empty() {
         return Some(Pool::new(alloc));
     }
@@ -259,8 +273,9 @@ fn begin(alloc: Global, bytes: &'static [u8]) -> Option<Pool<'static>> {
 }
 
 // The answers to all that is asked.
-fn answers(alloc: Global, bytes: &'static [u8], ops: &[(Of, Op)]) -> Option<String> {
-    let mut pool = begin(alloc, bytes)?;
+fn answers(alloc: Global, parts: &[Part], ops: &[(AskedPool, Op)]) -> Option<String> {
+    let bytes = bytes_of(alloc, parts).ok()?;
+    let mut pool = begin(alloc, &bytes)?;
     let mut copied = Pool::new(alloc);
     let mut all = String::new(alloc);
     for (of, op) in ops {
@@ -268,8 +283,8 @@ fn answers(alloc: Global, bytes: &'static [u8], ops: &[(Of, Op)]) -> Option<Stri
             copied = pool.copy(alloc).ok()?;
         }
         let one = match of {
-            Of::Pool => answer(alloc, &mut pool, op),
-            Of::Copy => answer(alloc, &mut copied, op),
+            AskedPool::Pool => answer(alloc, &mut pool, op),
+            AskedPool::Copy => answer(alloc, &mut copied, op),
         };
         all.push_str(one.ok()?.as_str()).ok()?;
     }

@@ -1,15 +1,11 @@
-use crate::class::READ_1;
+use crate::class::{A, READ_CHANGES, READ_FILES};
 use crate::code::READ;
+use crate::parts::{Part, bytes_of, changed};
+use crate::pool_ops::{MIXED, SMALL};
 use dj_class::{read_class, read_code};
 use dj_pool::{Pool, read_pool};
 use dj_write::{write_class, write_code, write_pool};
 use std::alloc::Global;
-
-// Pools from their count on.
-const POOLS: [&[u8]; 2] = [
-    b"\0\x08\x01\0\x01A\x07\0\x01\x01\0\x10java/lang/Object\x07\0\x03\x01\0\x06verify\x01\0\x06([B)[B\x01\0\x04Code",
-    b"\0 \x01\0\x03a/B\x07\0\x01\x01\0\x01x\x01\0\x02[I\x0c\0\x03\0\x04\x09\0\x02\0\x05\x01\0\x02[J\x07\0\x07\x01\0\x01m\x01\0\x05(II)V\x0c\0\x09\0\x0a\x0a\0\x08\0\x0b\x01\0\x01I\x07\0\x0d\x01\0\x01n\x01\0\x03()I\x0c\0\x0f\0\x10\x0b\0\x0e\0\x11\x05\0\0\0\0\0\0\0\x09\x06\0\0\0\0\0\0\0\0\x0f\x06\0\x06\x01\0\x01q\x08\0\x18\x01\0\x03()V\x10\0\x1a\x01\0\x01d\x01\0\x03()J\x0c\0\x1c\0\x1d\x12\0\x03\0\x1e",
-];
 
 // Whether the file is read, and written as it was.
 fn is_written_back(alloc: Global, file: &[u8]) -> bool {
@@ -58,27 +54,37 @@ fn is_written_so(alloc: Global, pool: &Pool<'_>, wanted: &[u8]) -> bool {
 }
 
 #[test]
-fn written_back_1(rt: HostRuntime) {
-    for (file, _, _) in &READ_1 {
-        assert!(rt; is_written_back(rt.alloc(), file));
+fn written_back(rt: HostRuntime) {
+    for (parts, _, _) in &READ_FILES {
+        let file = bytes_of(rt.alloc(), parts);
+        assert!(rt; matches!(&file, Ok(file) if is_written_back(rt.alloc(), file)));
+    }
+    for (place, part, _, _) in &READ_CHANGES {
+        let file = changed(rt.alloc(), A, *place, part);
+        assert!(rt; matches!(&file, Ok(file) if is_written_back(rt.alloc(), file)));
     }
 }
 
 #[test]
 fn pools_written_back(rt: HostRuntime) {
-    for bytes in &POOLS {
-        assert!(rt; is_pool_written_back(rt.alloc(), bytes));
+    for parts in &[SMALL, MIXED] {
+        let bytes = bytes_of(rt.alloc(), parts);
+        assert!(rt; matches!(&bytes, Ok(bytes) if is_pool_written_back(rt.alloc(), bytes)));
     }
 }
 
 #[test]
 fn codes_written_back(rt: HostRuntime) {
-    for (body, _) in &READ {
-        assert!(rt; is_code_written_back(rt.alloc(), body));
+    for (parts, _) in &READ {
+        let body = bytes_of(rt.alloc(), parts);
+        assert!(rt; matches!(&body, Ok(body) if is_code_written_back(rt.alloc(), body)));
     }
 }
 
 #[test]
 fn no_constants(rt: HostRuntime) {
-    assert!(rt; is_written_so(rt.alloc(), &Pool::new(rt.alloc()), b"\0\x01"));
+    let wanted = bytes_of(rt.alloc(), &[Part::Count(1)]);
+    assert!(rt;
+        matches!(&wanted, Ok(wanted) if is_written_so(rt.alloc(), &Pool::new(rt.alloc()), wanted))
+    );
 }

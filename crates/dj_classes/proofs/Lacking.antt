@@ -34,8 +34,8 @@ no_super program (Some name) = by (class_number program name) where
   by None = refl
   by (Some k) = refl
 
-pub lacks_told : (program : Program) (c : Class) → ((is_none (super_in program c) && is_some c.superclass) || nat_lt (length (interfaces_in program c)) (length c.interfaces)) ≡ lacks_above program c
-lacks_told program c =
+pub lacks_reported : (program : Program) (c : Class) → ((is_none (super_in program c) && is_some c.superclass) || nat_lt (length (interfaces_in program c)) (length c.interfaces)) ≡ lacks_above program c
+lacks_reported program c =
     (λ i. no_super program c.superclass i || fewer program c.interfaces i)
     ∙ sym (list_any-append (is_lacking program) (option_list c.superclass) c.interfaces)
 
@@ -44,8 +44,8 @@ mapped f [] k c d e = absurd cc
 mapped f (x ∷ rows) zero c d e = ap f (same_Some x c e)
 mapped f (x ∷ rows) (suc k) c d e = mapped f rows k c d e
 
-pub both_told : (a b : Bool) → a ≡ false → (a || b) ≡ b
-both_told a b e = ap (λ (x : Bool). x || b) e
+pub both_reported : (a b : Bool) → a ≡ false → (a || b) ≡ b
+both_reported a b e = ap (λ (x : Bool). x || b) e
 
 -- by what is kept of the class at a place
 pub lacks_there : (rows : Program) (supers : List (Option ℕ)) (interfaces : List (List ℕ)) → IsTable rows supers interfaces → (k : ℕ) → k < length rows
@@ -57,5 +57,5 @@ lacks_there rows supers interfaces table k lt c super above at_c at_super at_abo
     at_super ∙ ap (λ (xs : List (Option ℕ)). get_or xs k super) table.supers_are ∙ mapped (super_in rows) rows k c super here in
     let above_is : above ≡ interfaces_in rows c =
     at_above ∙ ap (λ (xs : List (List ℕ)). get_or xs k above) table.interfaces_are ∙ mapped (interfaces_in rows) rows k c above here in
-    ap Some ((λ i. (is_none (super_is i) && is_some c.superclass) || nat_lt (length (above_is i)) (length c.interfaces)) ∙ lacks_told rows c)
+    ap Some ((λ i. (is_none (super_is i) && is_some c.superclass) || nat_lt (length (above_is i)) (length c.interfaces)) ∙ lacks_reported rows c)
     ∙ ap (option_map (lacks_above rows)) (sym here)

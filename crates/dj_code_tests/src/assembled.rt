@@ -1,4 +1,5 @@
-use crate::told::{Told, told};
+use crate::opcodes::*;
+use crate::reported::{Reported, reported};
 use dj_asm::assemble;
 use dj_class::{ClassView, read_class, read_code};
 use dj_ops::read_instr;
@@ -27,43 +28,43 @@ wide iload 300\nwide iinc 300 -400\n.end\n";
 
 // The first and the last opcode of some with the same operands, the family's letter, and two numbers.
 const FAMILIES: [(u8, u8, u8, i64, i64); 31] = [
-    (0, 15, b's', 0, 0),
-    (16, 16, b'p', 5, 0),
-    (17, 17, b'p', 300, 0),
-    (18, 19, b'c', 8, 0),
-    (20, 20, b'c', 9, 0),
-    (21, 25, b'l', 6, 0),
-    (26, 53, b's', 0, 0),
-    (54, 58, b'l', 6, 0),
-    (59, 131, b's', 0, 0),
-    (132, 132, b'i', 6, -1),
-    (133, 152, b's', 0, 0),
-    (153, 168, b'b', 0, 0),
-    (169, 169, b'l', 6, 0),
-    (170, 170, b't', 0, 4),
-    (171, 171, b'u', 0, 0),
-    (172, 177, b's', 0, 0),
-    (178, 181, b'm', 14, 0),
-    (182, 184, b'm', 16, 0),
-    (185, 185, b'f', 17, 1),
-    (186, 186, b'd', 18, 0),
-    (187, 187, b'k', 2, 0),
-    (188, 188, b'a', 8, 0),
-    (189, 189, b'k', 2, 0),
-    (190, 191, b's', 0, 0),
-    (192, 193, b'k', 2, 0),
-    (194, 195, b's', 0, 0),
-    (197, 197, b'n', 20, 2),
-    (198, 201, b'b', 0, 0),
-    (202, 202, b's', 0, 0),
-    (21, 21, b'l', 300, 1),
-    (132, 132, b'I', 300, -400),
+    (NOP, DCONST_1, b's', 0, 0),
+    (BIPUSH, BIPUSH, b'p', 5, 0),
+    (SIPUSH, SIPUSH, b'p', 300, 0),
+    (LDC, LDC_W, b'c', 8, 0),
+    (LDC2_W, LDC2_W, b'c', 9, 0),
+    (ILOAD, ALOAD, b'l', 6, 0),
+    (ILOAD_0, SALOAD, b's', 0, 0),
+    (ISTORE, ASTORE, b'l', 6, 0),
+    (ISTORE_0, LXOR, b's', 0, 0),
+    (IINC, IINC, b'i', 6, -1),
+    (I2L, DCMPG, b's', 0, 0),
+    (IFEQ, JSR, b'b', 0, 0),
+    (RET, RET, b'l', 6, 0),
+    (TABLESWITCH, TABLESWITCH, b't', 0, 4),
+    (LOOKUPSWITCH, LOOKUPSWITCH, b'u', 0, 0),
+    (IRETURN, RETURN, b's', 0, 0),
+    (GETSTATIC, PUTFIELD, b'm', 14, 0),
+    (INVOKEVIRTUAL, INVOKESTATIC, b'm', 16, 0),
+    (INVOKEINTERFACE, INVOKEINTERFACE, b'f', 17, 1),
+    (INVOKEDYNAMIC, INVOKEDYNAMIC, b'd', 18, 0),
+    (NEW, NEW, b'k', 2, 0),
+    (NEWARRAY, NEWARRAY, b'a', 8, 0),
+    (ANEWARRAY, ANEWARRAY, b'k', 2, 0),
+    (ARRAYLENGTH, ATHROW, b's', 0, 0),
+    (CHECKCAST, INSTANCEOF, b'k', 2, 0),
+    (MONITORENTER, MONITOREXIT, b's', 0, 0),
+    (MULTIANEWARRAY, MULTIANEWARRAY, b'n', 20, 2),
+    (IFNULL, JSR_W, b'b', 0, 0),
+    (BREAKPOINT, BREAKPOINT, b's', 0, 0),
+    (ILOAD, ILOAD, b'l', 300, 1),
+    (IINC, IINC, b'I', 300, -400),
 ];
 
-fn is_next(alloc: Global, code: &[u8], at: u32, wanted: Told) -> Option<u32> {
+fn is_next(alloc: Global, code: &[u8], at: u32, wanted: Reported) -> Option<u32> {
     if (at as usize) < code.len() && code.len() < 65_536 {
         match read_instr(alloc, code, at) {
-            Ok((instr, next)) if told(&instr) == wanted => Some(next),
+            Ok((instr, next)) if reported(&instr) == wanted => Some(next),
             _ => None,
         }
     } else {

@@ -1,16 +1,16 @@
-use crate::frames_told::{APPEND, CHOP, FULL, SAME, STACK1, Told, are, frames_of, list};
+use crate::frames_reported::{APPEND, CHOP, FULL, Reported, SAME, STACK1, are, frames_of, list};
 use dj_frames::FrameError;
 use std::alloc::Global;
 
-fn is_read(alloc: Global, starts: &[u32], body: &[u8], told: Told<'_>) -> bool {
+fn is_read(alloc: Global, starts: &[u32], body: &[u8], reported: Reported<'_>) -> bool {
     match frames_of(alloc, starts, body) {
-        Ok(frames) => are(alloc, &frames, told),
+        Ok(frames) => are(alloc, &frames, reported),
         Err(_) => false,
     }
 }
 
 // Addresses of instructions, a body, and its frames.
-const READ: [(usize, &[u8], Told<'static>); 40] = [
+const READ: [(usize, &[u8], Reported<'static>); 40] = [
     (0, b"\0\0", &[]),
     (0, b"\0\x01\0", &[(0, SAME), (0, 0)]),
     (0, b"\0\x01\x03", &[(1, SAME), (0, 0)]),
@@ -126,9 +126,9 @@ const READ: [(usize, &[u8], Told<'static>); 40] = [
     ),
 ];
 
-fn all_read(alloc: Global, table: &[(usize, &[u8], Told<'_>)]) -> bool {
-    for (starts, body, told) in table {
-        if !is_read(alloc, list(*starts), body, told) {
+fn all_read(alloc: Global, table: &[(usize, &[u8], Reported<'_>)]) -> bool {
+    for (starts, body, reported) in table {
+        if !is_read(alloc, list(*starts), body, reported) {
             return false;
         }
     }

@@ -1,4 +1,4 @@
-use crate::frames_told::{APPEND, CHOP, FULL, SAME, STACK1, Told, are, frames_of, list};
+use crate::frames_reported::{APPEND, CHOP, FULL, Reported, SAME, STACK1, are, frames_of, list};
 use dj_frames::{are_well_formed, write_frames};
 use dj_ops::{Form, Frame, Frames, NoMemory, VType, VTypes};
 use std::alloc::{AllocError, Global};
@@ -13,15 +13,15 @@ fn writes(alloc: Global, frames: &Frames, starts: &[u32], body: &[u8]) -> bool {
     }
 }
 
-fn is_written(alloc: Global, starts: &[u32], told: Told<'_>, body: &[u8]) -> bool {
+fn is_written(alloc: Global, starts: &[u32], reported: Reported<'_>, body: &[u8]) -> bool {
     match frames_of(alloc, starts, body) {
-        Ok(frames) => are(alloc, &frames, told) && writes(alloc, &frames, starts, body),
+        Ok(frames) => are(alloc, &frames, reported) && writes(alloc, &frames, starts, body),
         Err(_) => false,
     }
 }
 
 // Addresses of instructions, frames, and the body that is written for them.
-const WRITTEN: [(usize, Told<'static>, &[u8]); 41] = [
+const WRITTEN: [(usize, Reported<'static>, &[u8]); 41] = [
     (8, &[], b"\0\0"),
     (8, &[(0, SAME), (0, 0)], b"\0\x01\0"),
     (
@@ -173,9 +173,9 @@ const WRITTEN: [(usize, Told<'static>, &[u8]); 41] = [
     (8, &[(7, SAME), (0, 0)], b"\0\x01\xfb\xff\xff"),
 ];
 
-fn all_written(alloc: Global, table: &[(usize, Told<'_>, &[u8])]) -> bool {
-    for (starts, told, body) in table {
-        if !is_written(alloc, list(*starts), told, body) {
+fn all_written(alloc: Global, table: &[(usize, Reported<'_>, &[u8])]) -> bool {
+    for (starts, reported, body) in table {
+        if !is_written(alloc, list(*starts), reported, body) {
             return false;
         }
     }

@@ -1,6 +1,6 @@
 use crate::opcodes::*;
+use crate::reported::{Reported, reported};
 use crate::rows::{Row, labels_of};
-use crate::told::{Told, told};
 use dj_labels::{CodeError, Protected};
 use dj_ops::Instr;
 use std::alloc::Global;
@@ -8,12 +8,12 @@ use std::alloc::Global;
 // A range: its start, its end, its handler, and the class that is caught.
 type Range = (u32, u32, u32, u16);
 
-fn has_instrs(instrs: &[Instr], wanted: &[Told]) -> bool {
+fn has_instrs(instrs: &[Instr], wanted: &[Reported]) -> bool {
     if instrs.len() != wanted.len() {
         return false;
     }
     for i in 0..instrs.len() {
-        if told(&instrs[i]) != wanted[i] {
+        if reported(&instrs[i]) != wanted[i] {
             return false;
         }
     }
@@ -37,7 +37,7 @@ fn is_labelled(
     alloc: Global,
     code: &[u8],
     rows: &[Row],
-    instrs: &[Told],
+    instrs: &[Reported],
     ranges: &[Range],
 ) -> bool {
     match labels_of(alloc, code, rows) {
@@ -58,7 +58,7 @@ fn is_refused(alloc: Global, code: &[u8], rows: &[Row], wanted: CodeError) -> bo
 
 // Code, and its instructions.
 #[rattlefmt::skip]
-const LABELLED: [(&[u8], &[Told]); 19] = [
+const LABELLED: [(&[u8], &[Reported]); 19] = [
     (
         &[ALOAD_0, ARETURN],
         &[(b's', ALOAD_0, 0, 0), (b's', ARETURN, 0, 0)],
@@ -201,7 +201,7 @@ const LABELLED: [(&[u8], &[Told]); 19] = [
     ),
 ];
 
-fn all_labelled(alloc: Global, table: &[(&[u8], &[Told])]) -> bool {
+fn all_labelled(alloc: Global, table: &[(&[u8], &[Reported])]) -> bool {
     for (code, instrs) in table {
         if !is_labelled(alloc, code, &[], instrs, &[]) {
             return false;
@@ -218,7 +218,7 @@ fn labelled(rt: HostRuntime) {
 // Code whose instructions start at 0, 2, 3 and 4, and the instructions.
 const PUSH_POP: &[u8] = &[BIPUSH, 7, POP, NOP, RETURN];
 
-const PUSH_POP_TOLD: &[Told] = &[
+const PUSH_POP_Reported: &[Reported] = &[
     (b'p', BIPUSH, 7, 0),
     (b's', POP, 0, 0),
     (b's', NOP, 0, 0),
@@ -226,27 +226,47 @@ const PUSH_POP_TOLD: &[Told] = &[
 ];
 
 // Code and rows, and the instructions and ranges.
-const RANGES: [(&[u8], &[Row], &[Told], &[Range]); 8] = [
-    (PUSH_POP, &[(0, 5, 0, 0)], PUSH_POP_TOLD, &[(0, 4, 0, 0)]),
-    (PUSH_POP, &[(0, 2, 2, 0)], PUSH_POP_TOLD, &[(0, 1, 1, 0)]),
-    (PUSH_POP, &[(2, 5, 4, 7)], PUSH_POP_TOLD, &[(1, 4, 3, 7)]),
+const RANGES: [(&[u8], &[Row], &[Reported], &[Range]); 8] = [
+    (
+        PUSH_POP,
+        &[(0, 5, 0, 0)],
+        PUSH_POP_Reported,
+        &[(0, 4, 0, 0)],
+    ),
+    (
+        PUSH_POP,
+        &[(0, 2, 2, 0)],
+        PUSH_POP_Reported,
+        &[(0, 1, 1, 0)],
+    ),
+    (
+        PUSH_POP,
+        &[(2, 5, 4, 7)],
+        PUSH_POP_Reported,
+        &[(1, 4, 3, 7)],
+    ),
     (
         PUSH_POP,
         &[(0, 4, 3, 65535)],
-        PUSH_POP_TOLD,
+        PUSH_POP_Reported,
         &[(0, 3, 2, 65535)],
     ),
-    (PUSH_POP, &[(4, 5, 0, 0)], PUSH_POP_TOLD, &[(3, 4, 0, 0)]),
+    (
+        PUSH_POP,
+        &[(4, 5, 0, 0)],
+        PUSH_POP_Reported,
+        &[(3, 4, 0, 0)],
+    ),
     (
         PUSH_POP,
         &[(0, 3, 2, 1), (2, 4, 3, 2)],
-        PUSH_POP_TOLD,
+        PUSH_POP_Reported,
         &[(0, 2, 1, 1), (1, 3, 2, 2)],
     ),
     (
         PUSH_POP,
         &[(0, 5, 0, 0), (0, 5, 0, 0)],
-        PUSH_POP_TOLD,
+        PUSH_POP_Reported,
         &[(0, 4, 0, 0), (0, 4, 0, 0)],
     ),
     (
@@ -257,7 +277,7 @@ const RANGES: [(&[u8], &[Row], &[Told], &[Range]); 8] = [
     ),
 ];
 
-fn all_with_ranges(alloc: Global, table: &[(&[u8], &[Row], &[Told], &[Range])]) -> bool {
+fn all_with_ranges(alloc: Global, table: &[(&[u8], &[Row], &[Reported], &[Range])]) -> bool {
     for (code, rows, instrs, ranges) in table {
         if !is_labelled(alloc, code, rows, instrs, ranges) {
             return false;

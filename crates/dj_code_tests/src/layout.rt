@@ -283,8 +283,8 @@ fn longest_code(rt: HostRuntime) {
     assert!(rt; matches!(longest(rt.alloc()), Ok(true)));
 }
 
-fn instr_of(alloc: Global, told: (u8, u8, i64, i64)) -> Result<Instr, NoMemory> {
-    let (letter, op, a, b) = told;
+fn instr_of(alloc: Global, reported: (u8, u8, i64, i64)) -> Result<Instr, NoMemory> {
+    let (letter, op, a, b) = reported;
     match letter {
         b'b' => Ok(Instr::Branch { op, target: a }),
         b'p' => Ok(Instr::Push { op, value: 5 }),
@@ -303,9 +303,9 @@ fn instr_of(alloc: Global, told: (u8, u8, i64, i64)) -> Result<Instr, NoMemory> 
 
 fn instrs_of(alloc: Global, parts: &[Repeated]) -> Result<Instrs, NoMemory> {
     let mut instrs = Instrs::new(alloc);
-    for &(count, told) in parts {
+    for &(count, reported) in parts {
         for _ in 0..count {
-            instrs.push(instr_of(alloc, told)?)?;
+            instrs.push(instr_of(alloc, reported)?)?;
         }
     }
     Ok(instrs)

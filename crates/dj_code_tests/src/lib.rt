@@ -8,7 +8,7 @@ mod frames_move;
 #[cfg(test)]
 mod frames_read;
 #[cfg(test)]
-mod frames_told;
+mod frames_reported;
 #[cfg(test)]
 mod frames_write;
 #[cfg(test)]
@@ -26,6 +26,6 @@ mod ops_read;
 #[cfg(test)]
 mod ops_write;
 #[cfg(test)]
-mod rows;
+mod reported;
 #[cfg(test)]
-mod told;
+mod rows;

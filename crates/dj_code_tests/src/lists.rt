@@ -38,7 +38,7 @@ fn instructions_grow(alloc: Global) -> Result<bool, NoMemory> {
     Ok(instrs.as_slice().len() == 1)
 }
 
-fn ranges_grow(alloc: Global) -> Result<bool, dj_labels::NoMemory> {
+fn ranges_grow(alloc: Global) -> Result<bool, NoMemory> {
     let range = Protected {
         start: 0,
         end: 4,

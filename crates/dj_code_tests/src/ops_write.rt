@@ -1,5 +1,5 @@
 use crate::opcodes::*;
-use crate::told::{Told, has_pairs, has_targets, told};
+use crate::reported::{Reported, has_pairs, has_targets, reported};
 use dj_ops::{Instr, OpError, length, next_address, read_instr, write_instr};
 use std::alloc::Global;
 
@@ -19,15 +19,15 @@ fn written_at(alloc: Global, at: u32, bytes: &[u8]) -> Result<Option<(Instr, Vec
     Ok(None)
 }
 
-fn is_written(alloc: Global, at: u32, bytes: &[u8], wanted: Told) -> bool {
+fn is_written(alloc: Global, at: u32, bytes: &[u8], wanted: Reported) -> bool {
     match written_at(alloc, at, bytes) {
-        Ok(Some((instr, out))) => told(&instr) == wanted && out.as_slice() == bytes,
+        Ok(Some((instr, out))) => reported(&instr) == wanted && out.as_slice() == bytes,
         _ => false,
     }
 }
 
 // An address, the bytes that are written there, and the instruction.
-const WRITTEN: [(u32, &[u8], Told); 37] = [
+const WRITTEN: [(u32, &[u8], Reported); 37] = [
     (0, &[NOP], (b's', NOP, 0, 0)),
     (0, &[ACONST_NULL], (b's', ACONST_NULL, 0, 0)),
     (0, &[DCONST_1], (b's', DCONST_1, 0, 0)),
@@ -75,7 +75,7 @@ const WRITTEN: [(u32, &[u8], Told); 37] = [
     (0, &[WIDE, IINC, 0, 1, 0xff, 0xff], (b'I', IINC, 1, -1)),
 ];
 
-const WRITTEN_MORE: [(u32, &[u8], Told); 37] = [
+const WRITTEN_MORE: [(u32, &[u8], Reported); 37] = [
     (0, &[IFEQ, 0, 0], (b'b', IFEQ, 0, 0)),
     (10, &[IFNE, 0xff, 0xf9], (b'b', IFNE, 3, 0)),
     (0, &[GOTO, 0x7f, 0xff], (b'b', GOTO, 32767, 0)),
@@ -139,7 +139,7 @@ const WRITTEN_MORE: [(u32, &[u8], Told); 37] = [
     ),
 ];
 
-fn all_written(alloc: Global, table: &[(u32, &[u8], Told)]) -> bool {
+fn all_written(alloc: Global, table: &[(u32, &[u8], Reported)]) -> bool {
     for (at, bytes, wanted) in table {
         if !is_written(alloc, *at, bytes, *wanted) {
             return false;
@@ -154,9 +154,15 @@ fn written_instructions(rt: HostRuntime) {
     assert!(rt; all_written(rt.alloc(), &WRITTEN_MORE));
 }
 
-fn is_written_table(alloc: Global, at: u32, bytes: &[u8], wanted: Told, targets: &[i64]) -> bool {
+fn is_written_table(
+    alloc: Global,
+    at: u32,
+    bytes: &[u8],
+    wanted: Reported,
+    targets: &[i64],
+) -> bool {
     match written_at(alloc, at, bytes) {
-        Ok(Some((instr, out))) => told(&instr) == wanted
+        Ok(Some((instr, out))) => reported(&instr) == wanted
             && has_targets(&instr, targets)
             && out.as_slice() == bytes,
         _ => false,
@@ -165,7 +171,7 @@ fn is_written_table(alloc: Global, at: u32, bytes: &[u8], wanted: Told, targets:
 
 // An address, the bytes that are written there, the table, and its targets.
 #[rattlefmt::skip]
-const WRITTEN_TABLES: [(u32, &[u8], Told, &[i64]); 30] = [
+const WRITTEN_TABLES: [(u32, &[u8], Reported, &[i64]); 30] = [
     (
         0,
         &[
@@ -468,7 +474,7 @@ const WRITTEN_TABLES: [(u32, &[u8], Told, &[i64]); 30] = [
     ),
 ];
 
-fn all_written_tables(alloc: Global, table: &[(u32, &[u8], Told, &[i64])]) -> bool {
+fn all_written_tables(alloc: Global, table: &[(u32, &[u8], Reported, &[i64])]) -> bool {
     for (at, bytes, wanted, targets) in table {
         if !is_written_table(alloc, *at, bytes, *wanted, targets) {
             return false;
@@ -486,11 +492,11 @@ fn is_written_lookup(
     alloc: Global,
     at: u32,
     bytes: &[u8],
-    wanted: Told,
+    wanted: Reported,
     pairs: &[(i32, i64)],
 ) -> bool {
     match written_at(alloc, at, bytes) {
-        Ok(Some((instr, out))) => told(&instr) == wanted
+        Ok(Some((instr, out))) => reported(&instr) == wanted
             && has_pairs(&instr, pairs)
             && out.as_slice() == bytes,
         _ => false,
@@ -499,7 +505,7 @@ fn is_written_lookup(
 
 // An address, the bytes that are written there, the lookup, and its pairs.
 #[rattlefmt::skip]
-const WRITTEN_LOOKUPS: [(u32, &[u8], Told, &[(i32, i64)]); 18] = [
+const WRITTEN_LOOKUPS: [(u32, &[u8], Reported, &[(i32, i64)]); 18] = [
     (
         0,
         &[LOOKUPSWITCH, 0, 0, 0, 0, 0, 0, 5, 0, 0, 0, 0],
@@ -670,7 +676,7 @@ const WRITTEN_LOOKUPS: [(u32, &[u8], Told, &[(i32, i64)]); 18] = [
     ),
 ];
 
-fn all_written_lookups(alloc: Global, table: &[(u32, &[u8], Told, &[(i32, i64)])]) -> bool {
+fn all_written_lookups(alloc: Global, table: &[(u32, &[u8], Reported, &[(i32, i64)])]) -> bool {
     for (at, bytes, wanted, pairs) in table {
         if !is_written_lookup(alloc, *at, bytes, *wanted, pairs) {
             return false;

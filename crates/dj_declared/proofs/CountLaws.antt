@@ -102,8 +102,8 @@ sound_at numbers rows place row sound at = by rows place (recursion_from_All (Is
   by (r ∷ rows) (suc place) all at = by rows place all.1 at
 
 -- what is read of the row is read of what it stands for
-pub told_at : {A B : Type 0} (f : MemberRow → A) (g : A → B) (rows : List MemberRow) (place : ℕ) (row : MemberRow) (x : B) → Some row ≡ slice_get rows place → x ≡ g (f row) → Some x ≡ option_map g (slice_get (map f rows) place)
-told_at {A} f g rows place row x at is =
+pub reported_at : {A B : Type 0} (f : MemberRow → A) (g : A → B) (rows : List MemberRow) (place : ℕ) (row : MemberRow) (x : B) → Some row ≡ slice_get rows place → x ≡ g (f row) → Some x ≡ option_map g (slice_get (map f rows) place)
+reported_at {A} f g rows place row x at is =
     ap Some is ∙ ap (λ (o : Option MemberRow). option_map g (option_map f o)) at ∙ ap (option_map g) (sym (slice_get-map f rows place))
 
 pub holds_at : {A : Type 0} (f : MemberRow → A) (P : A → Type 0) (rows : List MemberRow) (place : ℕ) (row : MemberRow) → Some row ≡ slice_get rows place → P (f row) → IfSome (slice_get (map f rows) place) P

@@ -42,24 +42,24 @@ within_pool pool (suc index) text at = elim (cases_lt index (length pool)) [
   | inr past ↦ absurd (past_text (slice_get pool index) text (slice_get_past pool index past) at)
 ]
 
-told_number : (number told : ℕ) → Some number ≡ Some told → number ≡ told
-told_number number told e = cc
+reported_number : (number reported : ℕ) → Some number ≡ Some reported → number ≡ reported
+reported_number number reported e = cc
 
-told_text : (found : Option Name) (text told : Name) → found ≡ Some text → found ≡ Some told → text ≡ told
-told_text found text told e f = same_Some text told (sym e ∙ f)
+reported_text : (found : Option Name) (text reported : Name) → found ≡ Some text → found ≡ Some reported → text ≡ reported
+reported_text found text reported e f = same_Some text reported (sym e ∙ f)
 
 -- one number more
 pub numbered_more : (pool : List Constant) (places : List (Option ℕ)) (index number : ℕ) (text : Name) (old new : Numbers) → AreNumbered pool places old → Keep old new → text_at pool index ≡ Some text → number_in new text ≡ Some number
     → AreNumbered pool (set places index (Some number)) new
 numbered_more pool places index number text old new before keeps at is = record {
   rooms = length-set places index (Some number) ∙ before.rooms;
-  told = λ other told found e there. elim (cases_eq other index) [
+  reported = λ other reported found e there. elim (cases_eq other index) [
     | inl same ↦
         let within : index < length places = omega (arith, within_pool pool index text at, before.rooms) in
-        let here : number ≡ told = told_number number told (sym (ap (λ (k : ℕ). get_or (set places index (Some number)) k None) same ∙ get_or-set_same places index (Some number) None within) ∙ e) in
-        let text_is : text ≡ found = told_text (text_at pool index) text found at (ap (text_at pool) (sym same) ∙ there) in
+        let here : number ≡ reported = reported_number number reported (sym (ap (λ (k : ℕ). get_or (set places index (Some number)) k None) same ∙ get_or-set_same places index (Some number) None within) ∙ e) in
+        let text_is : text ≡ found = reported_text (text_at pool index) text found at (ap (text_at pool) (sym same) ∙ there) in
         ap (number_in new) (sym text_is) ∙ is ∙ ap Some here
-    | inr apart ↦ keeps found told (before.told other told found (sym (get_or-set_other places index other (Some number) None apart) ∙ e) there)
+    | inr apart ↦ keeps found reported (before.reported other reported found (sym (get_or-set_other places index other (Some number) None apart) ∙ e) there)
   ];
 }
 
@@ -68,9 +68,9 @@ numbered_more pool places index number text old new before keeps at is = record 
 low_bit : (n : ℕ) → bit_and n 1 ≡ n % 2
 low_bit n = and_mask n 1
 
-pub flag_told : (b : Bool) (flags bit : ℕ) → (IsTrue b ↔ IsBitSet flags bit) → b ≡ has_flag bit flags
-flag_told true flags bit told = sym (eq-eqb (bit_at flags bit) 1 (sym (low_bit (flags / 2 ^ bit)) ∙ (bit_set_by_shift flags bit).1 (told.0 refl)))
-flag_told false flags bit told = sym (ne_eqb (bit_at flags bit) 1 (λ one. (let bad : false ≡ true = told.1 ((bit_set_by_shift flags bit).0 (low_bit (flags / 2 ^ bit) ∙ one)) in absurd cc)))
+pub flag_reported : (b : Bool) (flags bit : ℕ) → (IsTrue b ↔ IsBitSet flags bit) → b ≡ has_flag bit flags
+flag_reported true flags bit reported = sym (eq-eqb (bit_at flags bit) 1 (sym (low_bit (flags / 2 ^ bit)) ∙ (bit_set_by_shift flags bit).1 (reported.0 refl)))
+flag_reported false flags bit reported = sym (ne_eqb (bit_at flags bit) 1 (λ one. (let bad : false ≡ true = reported.1 ((bit_set_by_shift flags bit).0 (low_bit (flags / 2 ^ bit) ∙ one)) in absurd cc)))
 
 pub kept_by : (native bodiless : Bool) (flags : ℕ) → native ≡ has_flag 8 flags → bodiless ≡ has_flag 10 flags → cond (native || bodiless) bodies.Empty bodies.Code ≡ kept_body flags
 kept_by native bodiless flags is_native is_bodiless =
@@ -79,8 +79,8 @@ kept_by native bodiless flags is_native is_bodiless =
 -- ---- a member
 
 found : {A : Type 0} (P : A → Type 0) (o : Option A) → IsSomeAnd o P → (x : A) × (o ≡ Some x) × P x
-found P (Some x) told = (x, refl, told)
-found P None told = absurd told
+found P (Some x) reported = (x, refl, reported)
+found P None reported = absurd reported
 
 body_is : (b : Bool) → body_of (cond b bodies.Empty bodies.Code) ≡ cond b Abstract (Runs no_code)
 body_is true = refl
@@ -94,7 +94,7 @@ module _ (pool : List Constant) (places : List (Option ℕ)) (numbers : Numbers)
   number_is index text at there = by (get_or places index None) refl there where
     by : (found : Option ℕ) → get_or places index None ≡ found → is_some found ≡ true → number_in numbers text ≡ Some (unwrap_or found 0)
     by None e there = absurd cc
-    by (Some number) e there = numbered.told index number text e at
+    by (Some number) e there = numbered.reported index number text e at
 
   text_is : (index : ℕ) (text : Name) → text_at pool index ≡ Some text → Marked index → text_in numbers (number_at places index) ≡ text
   text_is index text at mark = leads_back numbers text (number_at places index) (number_is index text at mark)

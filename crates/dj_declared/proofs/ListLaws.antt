@@ -110,15 +110,15 @@ pub copies_more : (pool : List Constant) (old new : List Name) (places : List (O
     → AreCopies pool new (set places index (Some place))
 copies_more pool old new places index place text before keep within at named = record {
   rooms = length-set places index (Some place) ∙ before.rooms;
-  told = λ other told e. elim (cases_eq other index) [
+  reported = λ other reported e. elim (cases_eq other index) [
     | inl same ↦
-        let is : told ≡ place = told_is told place (sym (ap (λ (k : ℕ). get_or (set places index (Some place)) k None) same ∙ get_or-set_same places index (Some place) None within) ∙ e) in
+        let is : reported ≡ place = reported_is reported place (sym (ap (λ (k : ℕ). get_or (set places index (Some place)) k None) same ∙ get_or-set_same places index (Some place) None within) ∙ e) in
         ap (λ (k : ℕ). option_map Some (text_at pool k)) same ∙ ap (option_map Some) at ∙ ap Some (sym named) ∙ ap (λ (k : ℕ). Some (slice_get new k)) (sym is)
-    | inr apart ↦ held old new keep (text_at pool other) told (before.told other told (sym (get_or-set_other places index other (Some place) None apart) ∙ e))
+    | inr apart ↦ held old new keep (text_at pool other) reported (before.reported other reported (sym (get_or-set_other places index other (Some place) None apart) ∙ e))
   ];
 } where
-  told_is : (told place : ℕ) → Some place ≡ Some told → told ≡ place
-  told_is told place e = cc
+  reported_is : (reported place : ℕ) → Some place ≡ Some reported → reported ≡ place
+  reported_is reported place e = cc
 
 -- a copy of the names so far and one more
 pub copied_more : (names : List Name) (i : ℕ) (name : Name) (old new : List Name) (places : List ℕ) (place : ℕ) → i < length names → name ≡ get_or names i [] → AreListed old places (take i names) → new ≡ old ++ name ∷ [] → place ≡ length old

@@ -129,13 +129,13 @@ module _ (rows : List MemberRow) (order : List ℕ) (ordered : AreOrdered rows o
 pub answer_is : (rows : List MemberRow) (order : List ℕ) (name desc i place : ℕ) (result : Option ℕ) → AreOrdered rows order
     → IsPartitionPoint (λ k. ltb (key_at rows k) (pair_of name desc * 65536) ≡ true) (λ k. ltb (key_at rows k) (pair_of name desc * 65536) ≡ false) order i
     → i < length order → place ≡ get_or order i place → IsAnswer rows place name desc result → result ≡ first_row name desc rows
-answer_is rows order name desc i place result ordered point within at_place told =
+answer_is rows order name desc i place result ordered point within at_place reported =
     let inside_rows : place < length rows = subst (λ (k : ℕ). k < length rows) (sym at_place) (ordered.within i place within) in
     let at_row = there_is rows place inside_rows in
-    by result at_row.0 at_row.1 told where
+    by result at_row.0 at_row.1 reported where
       by : (found : Option ℕ) (row : MemberRow) → slice_get rows place ≡ Some row → IsAnswer rows place name desc found → found ≡ first_row name desc rows
-      by None row at_row told = found_none rows order ordered name desc i place row point within at_place at_row (told row at_row)
-      by (Some found) row at_row told = ap Some told.0 ∙ found_first rows order ordered name desc i place row point within at_place at_row (told.1 row at_row)
+      by None row at_row reported = found_none rows order ordered name desc i place row point within at_place at_row (reported row at_row)
+      by (Some found) row at_row reported = ap Some reported.0 ∙ found_first rows order ordered name desc i place row point within at_place at_row (reported.1 row at_row)
 
 pub none_past : (rows : List MemberRow) (order : List ℕ) (name desc i : ℕ) → AreOrdered rows order
     → IsPartitionPoint (λ k. ltb (key_at rows k) (pair_of name desc * 65536) ≡ true) (λ k. ltb (key_at rows k) (pair_of name desc * 65536) ≡ false) order i

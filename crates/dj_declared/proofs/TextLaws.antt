@@ -335,8 +335,8 @@ module _ (ends bytes new_ends new_bytes : List ℕ) (text : Name) (number : ℕ)
   pub keep_more : Keep (texts_from 0 ends bytes) (texts_from 0 new_ends new_bytes)
   keep_more = kept_by_added (texts_from 0 ends bytes) (texts_from 0 new_ends new_bytes) text one_text
 
-  pub told_more : number ≡ length ends → number_in (texts_from 0 new_ends new_bytes) text ≡ Some number
-  told_more is = number_more (texts_from 0 ends bytes) (texts_from 0 new_ends new_bytes) text number before one_text (is ∙ sym (texts_long 0 ends bytes))
+  pub reported_more : number ≡ length ends → number_in (texts_from 0 new_ends new_bytes) text ≡ Some number
+  reported_more is = number_more (texts_from 0 ends bytes) (texts_from 0 new_ends new_bytes) text number before one_text (is ∙ sym (texts_long 0 ends bytes))
 
 pub on_both : {T E : Type 0} (r : Result T E) (P Q S U R : Type 0) → OnOk r P × OnOk r Q → OnErr r S × OnErr r U → (P → Q → R) → (S → U → R) → R
 on_both (Ok x) P Q S U R ok err f g = f ok.0 ok.1

@@ -19,4 +19,4 @@ Keep old new = (place : ℕ) (name : Name) → slice_get old place ≡ Some name
 -- each index of the pool has a room, and the text at an index is at the place that is kept for it
 pub record AreCopies (pool : List Constant) (names : List Name) (places : List (Option ℕ)) : Type 0 where
   pub rooms : length places ≡ length pool + 1
-  pub told : (index place : ℕ) → get_or places index None ≡ Some place → option_map Some (text_at pool index) ≡ Some (slice_get names place)
+  pub reported : (index place : ℕ) → get_or places index None ≡ Some place → option_map Some (text_at pool index) ≡ Some (slice_get names place)

@@ -121,7 +121,7 @@ number_at places index = unwrap_or (get_or places index None) 0
 -- there is a room for each index of the pool, and where a number stands it is that of the index's text
 pub record AreNumbered (pool : List Constant) (places : List (Option ℕ)) (numbers : Numbers) : Type 0 where
   pub rooms : length places ≡ length pool + 1
-  pub told : (index number : ℕ) (text : List ℕ) → get_or places index None ≡ Some number → text_at pool index ≡ Some text → number_in numbers text ≡ Some number
+  pub reported : (index number : ℕ) (text : List ℕ) → get_or places index None ≡ Some number → text_at pool index ≡ Some text → number_in numbers text ≡ Some number
 
 -- numbers are at the indexes of the member's name and descriptor
 pub record IsNamed (places : List (Option ℕ)) (m : MemberInfo) : Type 0 where

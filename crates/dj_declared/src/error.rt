@@ -40,13 +40,3 @@ impl From<dj_names::NoMemory> for DeclareError {
         DeclareError::Memory
     }
 }
-
-impl From<dj_natives::NoMemory> for DeclareError {
-    ghost use Rattle.dj_declared.specs.declared.error.DeclareError.TheVariants.{Memory};
-
-    ghost from_gives = { λ _ e. e ≡ Memory };
-
-    fn from(_error: dj_natives::NoMemory) -> DeclareError {
-        DeclareError::Memory
-    }
-}

@@ -90,7 +90,7 @@ fn last_place(bytes: &[u8], ends: &[u32], text: &[u8]) -> Result<Option<u16>, De
     requires few { length ends.now ≤ 2 ^ 16 }
     requires ended { AreEnds ends.now (length bytes.now) }
     requires ascend { AreAscending (texts_from 0 ends.now bytes.now) }
-    ensures told { IfOk result (λ found. IfSome found (λ number. number_in (texts_from 0 ends.now bytes.now) text.now ≡ Some number)) }
+    ensures reported { IfOk result (λ found. IfSome found (λ number. number_in (texts_from 0 ends.now bytes.now) text.now ≡ Some number)) }
     ensures after { IfOk result (λ found. IfNone found (AreBefore (texts_from 0 ends.now bytes.now) text.now)) }
 {
     if ends.is_empty() {
@@ -189,7 +189,7 @@ impl TextTable {
 
     // The number of the last text, if it is this one; none where this one comes after it.
     fn last_number(&self, text: &[u8]) -> Result<Option<u16>, DeclareError>
-        ensures told { IfOk result (λ found. IfSome found (λ number. number_in self.now text.now ≡ Some number)) }
+        ensures reported { IfOk result (λ found. IfSome found (λ number. number_in self.now text.now ≡ Some number)) }
         ensures after { IfOk result (λ found. IfNone found (AreBefore self.now text.now)) }
     {
         last_place(&self.bytes, &self.ends, text)
@@ -198,7 +198,7 @@ impl TextTable {
     // Gives a text that is after all others the next number.
     fn append(&mut self, text: &[u8]) -> Result<u16, DeclareError>
         requires { AreBefore self.old text.now }
-        ensures told { IfOk result (λ number. number_in self.new text.now ≡ Some number) }
+        ensures reported { IfOk result (λ number. number_in self.new text.now ≡ Some number) }
         ensures keeps { OnOk result (Keep self.old self.new) }
     {
         let Ok(number) = u16::try_from(self.ends.len()) else {
@@ -210,7 +210,7 @@ impl TextTable {
 
     /// The number of a text, none of which comes before the last one that was added. It gets the next number where it isn't that one.
     pub(crate) fn add(&mut self, text: &[u8]) -> Result<u16, DeclareError>
-        ensures told { IfOk result (λ number. number_in self.new text.now ≡ Some number) }
+        ensures reported { IfOk result (λ number. number_in self.new text.now ≡ Some number) }
         ensures keeps { OnOk result (Keep self.old self.new) }
     {
         match self.last_number(text)? {

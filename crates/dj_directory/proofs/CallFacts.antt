@@ -68,8 +68,8 @@ second_of_b is = let e : 1 ≡ 2 = same_Some 1 2 is.first in absurd (omega (arit
 none_of_c : (place : ℕ) → IsFirst 2 place → ⊥
 none_of_c place is =
     let at : 0 ≡ place = same_Some 0 place is.first in
-    let told : passes is_plain (slice_get (methods_at program 2) 0) ≡ true = subst (λ (p : ℕ). passes is_plain (slice_get (methods_at program 2) p) ≡ true) (sym at) is.passed in
-    false≢true told
+    let reported : passes is_plain (slice_get (methods_at program 2) 0) ≡ true = subst (λ (p : ℕ). passes is_plain (slice_get (methods_at program 2) p) ≡ true) (sym at) is.passed in
+    false≢true reported
 
 private_of_b : IsFirstOf program is_not_static (codes "n") no_parameters 1 0
 private_of_b = record { first = refl; passed = refl }

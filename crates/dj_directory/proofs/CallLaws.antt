@@ -17,12 +17,12 @@ use Rattle.dj_declared.specs.Members.{method_flags, method_place}
 use Rattle.dj_declared.proofs.DescTests.{desc_in_is, is_descriptor}
 use Rattle.dj_classes.specs.Tables.{methods_at}
 use Rattle.dj_directory.specs.declared.rows.MemberRow.{MemberRow}
-use Rattle.dj_directory.specs.DirectoryRows.{Named, method_named, methods_named, pair_of, row_at, number_in, key_of, Fits, AreInOrder, IsSuch, IsLeast, IsThere, IsTold, IsRow, AreRowsWith}
+use Rattle.dj_directory.specs.DirectoryRows.{Named, method_named, methods_named, pair_of, row_at, number_in, key_of, Fits, AreInOrder, IsSuch, IsLeast, IsThere, IsReported, IsRow, AreRowsWith}
 use Rattle.dj_directory.specs.Calls.{takes, tests, passes, IsWhether, IsFirstOf, DeclareFirst, DeclareLike, DeclaresLike, AreMethods, IsTakable, AreTakable, AreMarked, IsFirstLike, IsNearestFirst, IsNearestLike, IsPlaced, ArePlaces, AreFirsts, place_key, IsRowAt, IsCallTable}
 use Rattle.dj_directory.specs.declared.calls.Marked.{Marked}
 use Rattle.dj_directory.specs.Spans.{AreMarks, AreNear, AreNearest, AreSpans, IsNearestIn, IsWithin, StartsFrom, class_in, end_in, mark_of, start_in}
 use Rattle.dj_directory.specs.declared.spans.Spans.{Spans}
-use Rattle.dj_directory.specs.declared.marks.Marks.{Marks}
+use Rattle.dj_directory.specs.declared.marks.SpanMarks.{SpanMarks}
 use Rattle.dj_directory.specs.declared.calls.CallTable.{CallTable}
 use Rattle.dj_directory.proofs.NumberLaws.{number_is}
 use Rattle.dj_directory.proofs.RowLaws.{firsts, fit_all, seconds}
@@ -70,8 +70,8 @@ takes_is true m = refl
 takes_is false m = refl
 
 pub passes_is : (private_too : Bool) (o : Option Method) (flags : ℕ) → Some flags ≡ option_map method_flags o → passes (tests private_too) o ≡ takes private_too flags
-passes_is private_too None flags told = absurd (none-some flags (sym told))
-passes_is private_too (Some m) flags told = sym (takes_is private_too m) ∙ ap (takes private_too) (sym (same_Some flags m.flags told))
+passes_is private_too None flags reported = absurd (none-some flags (sym reported))
+passes_is private_too (Some m) flags reported = sym (takes_is private_too m) ∙ ap (takes private_too) (sym (same_Some flags m.flags reported))
 
 -- ---- the first row of its numbers
 
@@ -79,20 +79,20 @@ pub least_as : (rows : List MemberRow) (name name2 desc desc2 class class2 place
 least_as rows name name2 desc desc2 class class2 place named described same least =
     subst (λ (k : ℕ). IsLeast rows name2 desc2 k place) same (subst (λ (d : ℕ). IsLeast rows name2 d class place) described (subst (λ (n : ℕ). IsLeast rows n desc class place) named least))
 
-pub not_first : (rows : List MemberRow) (row : MemberRow) → IsTold rows row.name row.desc row.class None → IsLeast rows row.name row.desc row.class row.place → ⊥
+pub not_first : (rows : List MemberRow) (row : MemberRow) → IsReported rows row.name row.desc row.class None → IsLeast rows row.name row.desc row.class row.place → ⊥
 not_first rows row none least = none least.row least.within least.such
 
-pub no_row : (rows : List MemberRow) (row : MemberRow) → IsTold rows row.name row.desc row.class None → Contains rows row → ⊥
+pub no_row : (rows : List MemberRow) (row : MemberRow) → IsReported rows row.name row.desc row.class None → Contains rows row → ⊥
 no_row rows row none there = none row there (record { name_is = refl; desc_is = refl; class_is = refl })
 
-pub first_or_not : (rows : List MemberRow) (row : MemberRow) (first : ℕ) → IsTold rows row.name row.desc row.class (Some first) → IsWhether (IsLeast rows row.name row.desc row.class row.place) (nat_eq first row.place)
-first_or_not rows row first told = go (nat_eq first row.place) refl where
+pub first_or_not : (rows : List MemberRow) (row : MemberRow) (first : ℕ) → IsReported rows row.name row.desc row.class (Some first) → IsWhether (IsLeast rows row.name row.desc row.class row.place) (nat_eq first row.place)
+first_or_not rows row first reported = go (nat_eq first row.place) refl where
   go : (b : Bool) → nat_eq first row.place ≡ b → IsWhether (IsLeast rows row.name row.desc row.class row.place) b
-  go true e = subst (IsLeast rows row.name row.desc row.class) (eqb-true first row.place e) told
+  go true e = subst (IsLeast rows row.name row.desc row.class) (eqb-true first row.place e) reported
   go false e = λ least.
-      (let one = told.least least.row least.within least.such in
-      let two = least.least told.row told.within told.such in
-      let here = told.place_is in
+      (let one = reported.least least.row least.within least.such in
+      let two = least.least reported.row reported.within reported.such in
+      let here = reported.place_is in
       let there = least.place_is in
       let same : first ≡ row.place = omega (arith, one, two, here, there) in
       false≢true (sym e ∙ eq-eqb first row.place same))
@@ -246,7 +246,7 @@ module _ (program : Program) (test : Method → Bool) (rows : List MemberRow) wh
 -- ---- the nearest class
 
 starts_from : (start : ℕ → ℕ) (near : Option ℕ) (step : ℕ) → ((StartsFrom start near step → ⊥) → ⊥) → StartsFrom start near step
-starts_from start None step sure = sure (λ told. told)
+starts_from start None step sure = sure (λ reported. reported)
 starts_from start (Some class) step sure = elim (cases_lt (start class) step) [
   | inl less ↦ absurd (sure (λ le. omega (arith, le, less)))
   | inr le ↦ le
@@ -275,17 +275,17 @@ module _ (program : Program) (rows : List MemberRow) (methods : AreMethods progr
         same_Some (method_named m) (is.name, is.desc) (sym (slice_get-map method_named (methods_at program row.class) row.place ∙ ap (option_map method_named) at) ∙ is.there)
 
     -- the first method with the name and the descriptor of this one, by the numbers
-    first_told : (class : ℕ) (result : Option ℕ) → class < length program → IsTold rows row.name row.desc class result → result ≡ method_place (methods_at program class) m.name m.desc
-    first_told class result lt told =
+    first_reported : (class : ℕ) (result : Option ℕ) → class < length program → IsReported rows row.name row.desc class result → result ≡ method_place (methods_at program class) m.name m.desc
+    first_reported class result lt reported =
         let is = own_row row there in
-        first_method program methods.texts rows methods.fields methods.first_methods methods.first_fields methods.are class row.name row.desc result lt told is.name is.text (number_is methods.texts is.name ∙ is.name_is) (number_is methods.texts is.text ∙ is.desc_is)
+        first_method program methods.texts rows methods.fields methods.first_methods methods.first_fields methods.are class row.name row.desc result lt reported is.name is.text (number_is methods.texts is.name ∙ is.name_is) (number_is methods.texts is.text ∙ is.desc_is)
         (is_descriptor is.text is.desc is.spelled)
         ∙ ap (λ (n : Name). method_place (methods_at program class) n (desc_in is.text)) (sym (ap (λ (x : Named). x.0) named_so))
         ∙ ap (method_place (methods_at program class) m.name) (desc_in_is is.text is.desc is.spelled ∙ sym (ap (λ (x : Named). x.1) named_so))
 
     first_of : (test : Method → Bool) (other : MemberRow) → Contains rows other → other.name ≡ row.name → other.desc ≡ row.desc → IsTakable program test rows other → IsFirstOf program test m.name m.desc other.class other.place
     first_of test other within named described takable = record {
-      first = sym (first_told other.class (Some other.place) (in_class other within) (least_as rows other.name row.name other.desc row.desc other.class other.class other.place named described refl takable.first));
+      first = sym (first_reported other.class (Some other.place) (in_class other within) (least_as rows other.name row.name other.desc row.desc other.class other.class other.place named described refl takable.first));
       passed = takable.passed;
     }
 
@@ -304,7 +304,7 @@ module _ (program : Program) (rows : List MemberRow) (methods : AreMethods progr
               | inr over ↦ over
             ];
           } in
-          let own : place ≡ r.place = same_Some place r.place (sym is.first ∙ sym (first_told class (Some r.place) lt least)) in
+          let own : place ≡ r.place = same_Some place r.place (sym is.first ∙ sym (first_reported class (Some r.place) lt least)) in
           let it : IsTakable program test rows r = record {
             first = least_as rows row.name r.name row.desc r.desc class r.class r.place (sym such.name_is) (sym such.desc_is) (sym such.class_is) least;
             passed = ap (λ (k : ℕ). passes test (slice_get (methods_at program k) r.place)) such.class_is ∙ ap (λ (k : ℕ). passes test (slice_get (methods_at program class) k)) (sym own) ∙ is.passed;
@@ -312,7 +312,7 @@ module _ (program : Program) (rows : List MemberRow) (methods : AreMethods progr
           none r (takable.all r within it) such
 
       not_left_out : ⊥
-      not_left_out = none-some place (first_told class None lt (λ r within such. no_such (suc r.place) r (omega arith) within such) ∙ is.first)
+      not_left_out = none-some place (first_reported class None lt (λ r within such. no_such (suc r.place) r (omega arith) within such) ∙ is.first)
 
     declare_first : (test : Method → Bool) (taken found : List MemberRow) → AreTakable program test rows taken → length program < 2 ^ 31 → AreRowsWith taken row.name row.desc found → DeclareFirst program test m.name m.desc found
     declare_first test taken found takable few with_them = record {
@@ -325,7 +325,7 @@ module _ (program : Program) (rows : List MemberRow) (methods : AreMethods progr
 
     nearest_first : (test : Method → Bool) (taken marks : List MemberRow) (spans : Spans) (below : ℕ) (near : Option ℕ) → AreTakable program test rows taken → AreSpans program spans → AreMarks spans taken marks
         → IsNearestIn spans marks row.name row.desc (start_in spans below + 1) near → IsNearestFirst program test m.name m.desc below near
-    nearest_first test taken marks spans below near takable nested marks_are told = record {
+    nearest_first test taken marks spans below near takable nested marks_are reported = record {
       start = start_in spans;
       stop = end_in spans;
       some = λ k lt. (nested k lt).some;
@@ -335,7 +335,7 @@ module _ (program : Program) (rows : List MemberRow) (methods : AreMethods progr
           let start = ap (start_in spans) same in
           let stop = ap (end_in spans) same in
           subst (λ (j : ℕ). StartsFrom (start_in spans) near (start_in spans j)) same
-          (told (mark_of r (start_in spans r.class)) (marks_are.starts r within) (record { at = refl; own = subst (λ (j : ℕ). class_in spans (start_in spans j) ≡ j) (sym same) (nested k lt).own }) such.name_is such.desc_is
+          (reported (mark_of r (start_in spans r.class)) (marks_are.starts r within) (record { at = refl; own = subst (λ (j : ℕ). class_in spans (start_in spans j) ≡ j) (sym same) (nested k lt).own }) such.name_is such.desc_is
           (omega (arith, start, after)) (omega (arith, stop, before))))));
     }
 
@@ -353,11 +353,11 @@ module _ (program : Program) (rows : List MemberRow) (methods : AreMethods progr
     declare_like test taken found takable few with_them = λ m at. declare_first row is.within m (at_row m at) test taken found takable few with_them
 
     pub first_like : (first : ℕ) → IsLeast rows row.name row.desc row.class first → IsFirstLike program class member first
-    first_like first least = λ m at. subst (λ (k : ℕ). method_place (methods_at program k) m.name m.desc ≡ Some first) is.class_is (sym (first_told row is.within m (at_row m at) row.class (Some first) (in_class row is.within) least))
+    first_like first least = λ m at. subst (λ (k : ℕ). method_place (methods_at program k) m.name m.desc ≡ Some first) is.class_is (sym (first_reported row is.within m (at_row m at) row.class (Some first) (in_class row is.within) least))
 
     pub nearest_like : (test : Method → Bool) (taken marks : List MemberRow) (spans : Spans) (below : ℕ) (near : Option ℕ) → AreTakable program test rows taken → AreSpans program spans → AreMarks spans taken marks
         → IsNearestIn spans marks row.name row.desc (start_in spans below + 1) near → IsNearestLike program test class member below near
-    nearest_like test taken marks spans below near takable nested marks_are told = λ m at. nearest_first row is.within m (at_row m at) test taken marks spans below near takable nested marks_are told
+    nearest_like test taken marks spans below near takable nested marks_are reported = λ m at. nearest_first row is.within m (at_row m at) test taken marks spans below near takable nested marks_are reported
 
     pub declares_like : (test : Method → Bool) (taken : List MemberRow) (other place : ℕ) → AreTakable program test rows taken → IsLeast taken row.name row.desc other place → DeclaresLike program test class member other place
     declares_like test taken other place takable least = λ m at. declares_first row is.within m (at_row m at) test taken other place takable least
@@ -372,26 +372,26 @@ pub takable_rows : (program : Program) (calls : CallTable) (is : IsCallTable pro
 takable_rows program calls is true = is.instance
 takable_rows program calls is false = is.plain
 
-pub alike_told : (program : Program) (calls : CallTable) → IsCallTable program calls → (private_too : Bool) (class member : ℕ) (row : MemberRow) (taken found : List MemberRow) → IsRowAt calls.places.items class member row
+pub alike_reported : (program : Program) (calls : CallTable) → IsCallTable program calls → (private_too : Bool) (class member : ℕ) (row : MemberRow) (taken found : List MemberRow) → IsRowAt calls.places.items class member row
     → taken ≡ taken_rows calls private_too → length program < 2 ^ 31 → AreRowsWith taken row.name row.desc found → DeclareLike program (tests private_too) class member found
-alike_told program calls is private_too class member row taken found at taken_is few with_them =
+alike_reported program calls is private_too class member row taken found at taken_is few with_them =
     declare_like program is.rows is.methods row class member (record { within = is.places row at.within; class_is = at.class_is; place_is = at.place_is }) (tests private_too) taken found
     (subst (AreTakable program (tests private_too) is.rows) (sym taken_is) (takable_rows program calls is private_too)) few with_them
 
-pub taken_told : (program : Program) (calls : CallTable) → IsCallTable program calls → (private_too : Bool) (class member : ℕ) (row : MemberRow) (taken : List MemberRow) (other : ℕ) (place : Option ℕ) → IsRowAt calls.places.items class member row
-    → taken ≡ taken_rows calls private_too → IsTold taken row.name row.desc other place → IfSome place (λ p. DeclaresLike program (tests private_too) class member other p)
-taken_told program calls is private_too class member row taken other None at taken_is told = tt
-taken_told program calls is private_too class member row taken other (Some place) at taken_is told =
+pub taken_reported : (program : Program) (calls : CallTable) → IsCallTable program calls → (private_too : Bool) (class member : ℕ) (row : MemberRow) (taken : List MemberRow) (other : ℕ) (place : Option ℕ) → IsRowAt calls.places.items class member row
+    → taken ≡ taken_rows calls private_too → IsReported taken row.name row.desc other place → IfSome place (λ p. DeclaresLike program (tests private_too) class member other p)
+taken_reported program calls is private_too class member row taken other None at taken_is reported = tt
+taken_reported program calls is private_too class member row taken other (Some place) at taken_is reported =
     declares_like program is.rows is.methods row class member (record { within = is.places row at.within; class_is = at.class_is; place_is = at.place_is }) (tests private_too) taken other place
-    (subst (AreTakable program (tests private_too) is.rows) (sym taken_is) (takable_rows program calls is private_too)) told
+    (subst (AreTakable program (tests private_too) is.rows) (sym taken_is) (takable_rows program calls is private_too)) reported
 
-pub nearest_told : (program : Program) (calls : CallTable) → IsCallTable program calls → (private_too : Bool) (class member below start : ℕ) (row : MemberRow) (spans : Spans) (marks : Marks) (result : Option (Option ℕ)) → IsRowAt calls.places.items class member row
+pub nearest_reported : (program : Program) (calls : CallTable) → IsCallTable program calls → (private_too : Bool) (class member below start : ℕ) (row : MemberRow) (spans : Spans) (marks : SpanMarks) (result : Option (Option ℕ)) → IsRowAt calls.places.items class member row
     → AreSpans program spans → AreNear spans (taken_rows calls private_too) marks → start ≡ start_in spans below → IfSome result (IsNearestIn spans marks.rows.items row.name row.desc (start + 1))
     → IfSome result (IsNearestLike program (tests private_too) class member below)
-nearest_told program calls is private_too class member below start row spans marks None at nested are start_is told = tt
-nearest_told program calls is private_too class member below start row spans marks (Some near) at nested are start_is told =
+nearest_reported program calls is private_too class member below start row spans marks None at nested are start_is reported = tt
+nearest_reported program calls is private_too class member below start row spans marks (Some near) at nested are start_is reported =
     nearest_like program is.rows is.methods row class member (record { within = is.places row at.within; class_is = at.class_is; place_is = at.place_is }) (tests private_too) (taken_rows calls private_too) marks.rows.items spans below near
-    (takable_rows program calls is private_too) nested are.marks_are (subst (λ (n : ℕ). IsNearestIn spans marks.rows.items row.name row.desc (n + 1) near) start_is told)
+    (takable_rows program calls is private_too) nested are.marks_are (subst (λ (n : ℕ). IsNearestIn spans marks.rows.items row.name row.desc (n + 1) near) start_is reported)
 
 pub marked_is : (program : Program) (calls : CallTable) → IsCallTable program calls → (marked : Marked) → calls.marked ≡ Some marked → AreMarked program calls.plain.items calls.instance.items marked
 marked_is program calls is marked some = subst (λ (o : Option Marked). IfSome o (AreMarked program calls.plain.items calls.instance.items)) some is.marked
@@ -400,17 +400,17 @@ pub nearest_instance : (program : Program) (calls : CallTable) (is : IsCallTable
     → AreMarked program calls.plain.items calls.instance.items marked → start ≡ start_in marked.spans below
     → ((spans : Spans) → AreNearest spans marked.instance.rows.items marked.instance.nearest.items → IfSome result (IsNearestIn spans marked.instance.rows.items row.name row.desc (start + 1)))
     → IfSome result (IsNearestLike program (tests private_too) class member below)
-nearest_instance program calls is class member below start row marked result private_too e at are start_is told =
+nearest_instance program calls is class member below start row marked result private_too e at are start_is reported =
     subst (λ (b : Bool). IfSome result (IsNearestLike program (tests b) class member below)) (sym e)
-    (nearest_told program calls is true class member below start row marked.spans marked.instance result at are.spans_are are.instance_are start_is (told marked.spans are.instance_are.nearest_are))
+    (nearest_reported program calls is true class member below start row marked.spans marked.instance result at are.spans_are are.instance_are start_is (reported marked.spans are.instance_are.nearest_are))
 
 pub nearest_plain : (program : Program) (calls : CallTable) (is : IsCallTable program calls) (class member below start : ℕ) (row : MemberRow) (marked : Marked) (result : Option (Option ℕ)) (private_too : Bool) → private_too ≡ false → IsRowAt calls.places.items class member row
     → AreMarked program calls.plain.items calls.instance.items marked → start ≡ start_in marked.spans below
     → ((spans : Spans) → AreNearest spans marked.plain.rows.items marked.plain.nearest.items → IfSome result (IsNearestIn spans marked.plain.rows.items row.name row.desc (start + 1)))
     → IfSome result (IsNearestLike program (tests private_too) class member below)
-nearest_plain program calls is class member below start row marked result private_too e at are start_is told =
+nearest_plain program calls is class member below start row marked result private_too e at are start_is reported =
     subst (λ (b : Bool). IfSome result (IsNearestLike program (tests b) class member below)) (sym e)
-    (nearest_told program calls is false class member below start row marked.spans marked.plain result at are.spans_are are.plain_are start_is (told marked.spans are.plain_are.nearest_are))
+    (nearest_reported program calls is false class member below start row marked.spans marked.plain result at are.spans_are are.plain_are start_is (reported marked.spans are.plain_are.nearest_are))
 
 pub marked_items : (program : Program) (plain instance plain_items instance_items : List MemberRow) (marked : Option Marked) → plain ≡ plain_items → instance ≡ instance_items → IfSome marked (AreMarked program plain instance)
     → IfSome marked (AreMarked program plain_items instance_items)

@@ -8,7 +8,7 @@ use Rattle.std.proofs.lemmas.List.Elements.{Contains-push, Contains-push_cases, 
 use Rattle.std.proofs.lemmas.List.Quantifiers.{all_pairs_push}
 use Rattle.std.proofs.lemmas.List.Sorted.{IsNonDecreasingBy-push, IsNonDecreasingBy-short}
 use Rattle.dj_directory.specs.declared.rows.MemberRow.{MemberRow}
-use Rattle.dj_directory.specs.DirectoryRows.{key_of, Fits, AreInOrder, IsSuch, IsLeast, IsTold, row_at, AreAlike, IsRepeat, HasFirst, AreFirst, AreRowsWith}
+use Rattle.dj_directory.specs.DirectoryRows.{key_of, Fits, AreInOrder, IsSuch, IsLeast, IsReported, row_at, AreAlike, IsRepeat, HasFirst, AreFirst, AreRowsWith}
 use Rattle.dj_directory.specs.Numberings.{ClassesDiffer}
 use Rattle.dj_directory.proofs.RowLaws.{fit_all, such_between, such_key}
 use Rattle.dj_directory.proofs.SpanLaws.{ascend_at}
@@ -183,17 +183,17 @@ all_first rows order count firsts all far =
 -- ---- a look-up among the first rows
 
 module _ (rows firsts : List MemberRow) (are : AreFirst rows firsts) (name desc class : ℕ) where
-  pub told_by_first : (result : Option ℕ) → IsTold firsts name desc class result → IsTold rows name desc class result
-  told_by_first None none = λ row there such.
+  pub reported_by_first : (result : Option ℕ) → IsReported firsts name desc class result → IsReported rows name desc class result
+  reported_by_first None none = λ row there such.
       let has = are.each row there in none has.first has.within (such_first name desc class row has.first such has.alike)
-  told_by_first (Some place) told = record {
-    row = told.row;
-    within = are.within told.row told.within;
-    such = told.such;
-    place_is = told.place_is;
+  reported_by_first (Some place) reported = record {
+    row = reported.row;
+    within = are.within reported.row reported.within;
+    such = reported.such;
+    place_is = reported.place_is;
     least = λ other there such.
         (let has = are.each other there in
-        let le = told.least has.first has.within (such_first name desc class other has.first such has.alike) in
+        let le = reported.least has.first has.within (such_first name desc class other has.first such has.alike) in
         let before = has.before in
         omega (arith, le, before));
   }

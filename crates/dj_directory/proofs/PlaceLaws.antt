@@ -16,10 +16,10 @@ use Rattle.dj_declared.proofs.DescTests.{desc_in_is, is_descriptor, same_name_is
 use Rattle.dj_classes.specs.Tables.{methods_of, methods_at, fields_at}
 use Rattle.dj_directory.specs.Numberings.{DeclareFields, DeclareMethods, Numbering, number_among, number_of}
 use Rattle.dj_directory.specs.declared.rows.MemberRow.{MemberRow}
-use Rattle.dj_directory.specs.DirectoryRows.{Named, method_named, field_named, methods_named, fields_named, Members, place_of, Texts, texts_of, number_in, AreDifferent, IsSuch, IsTold, IsRow, IsThere, AreRows, AreRowsWith, IsDirectory}
+use Rattle.dj_directory.specs.DirectoryRows.{Named, method_named, field_named, methods_named, fields_named, Members, place_of, Texts, texts_of, number_in, AreDifferent, IsSuch, IsReported, IsRow, IsThere, AreRows, AreRowsWith, IsDirectory}
 use Rattle.dj_directory.proofs.GatherLaws.{kept_row}
 use Rattle.dj_directory.proofs.NumberLaws.{number_is}
-use Rattle.dj_directory.proofs.FirstLaws.{told_by_first, least_first, such_first}
+use Rattle.dj_directory.proofs.FirstLaws.{reported_by_first, least_first, such_first}
 
 abbrev later : ℕ → ℕ
 later place = place + 1
@@ -145,25 +145,25 @@ module _ (texts : Texts) (members : Members) (classes : ℕ) (rows : List Member
           ),
         )
 
-    pub place_told : (result : Option ℕ) → IsTold rows name desc class result → result ≡ place_of (members class) n (desc_in d)
-    place_told None told = sym (none_is n (desc_in d) (members class) (λ place m at. not_true (is_named n (desc_in d) m.0 m.1) (λ named.
-        let is = row_of class place m less at named in told is.row is.within (such_row place is))))
-    place_told (Some place) told =
-        let found = named_by told.row told.within told.such in
-        let at = ap (slice_get (members class)) (sym told.place_is) ∙ found.1.0 in
+    pub place_reported : (result : Option ℕ) → IsReported rows name desc class result → result ≡ place_of (members class) n (desc_in d)
+    place_reported None reported = sym (none_is n (desc_in d) (members class) (λ place m at. not_true (is_named n (desc_in d) m.0 m.1) (λ named.
+        let is = row_of class place m less at named in reported is.row is.within (such_row place is))))
+    place_reported (Some place) reported =
+        let found = named_by reported.row reported.within reported.such in
+        let at = ap (slice_get (members class)) (sym reported.place_is) ∙ found.1.0 in
         sym (first_is n (desc_in d) (members class) place found.0 at found.1.1 (λ other m before there. not_true (is_named n (desc_in d) m.0 m.1) (λ named.
         let is = row_of class other m less there named in
-        let le = told.least is.row is.within (such_row other is) in
+        let le = reported.least is.row is.within (such_row other is) in
         let own = is.place_is in
         absurd (omega (arith, le, own, before)))))
 
 -- a row's place is one of its class
-pub place_within : (texts : Texts) (members : Members) (classes : ℕ) (rows : List MemberRow) (name desc class : ℕ) (result : Option ℕ) → AreRows (number_in texts) members classes rows → IsTold rows name desc class result
+pub place_within : (texts : Texts) (members : Members) (classes : ℕ) (rows : List MemberRow) (name desc class : ℕ) (result : Option ℕ) → AreRows (number_in texts) members classes rows → IsReported rows name desc class result
     → IfSome result (λ place. place < length (members class))
-place_within texts members classes rows name desc class None are told = tt
-place_within texts members classes rows name desc class (Some place) are told =
-    let is = row_in texts members classes rows are told.row told.within in
-    inside (members class) place (is.name, is.desc) (sym (ap (λ (k : ℕ). slice_get (members k) told.row.place) told.such.class_is ∙ ap (slice_get (members class)) told.place_is) ∙ is.there)
+place_within texts members classes rows name desc class None are reported = tt
+place_within texts members classes rows name desc class (Some place) are reported =
+    let is = row_in texts members classes rows are reported.row reported.within in
+    inside (members class) place (is.name, is.desc) (sym (ap (λ (k : ℕ). slice_get (members k) reported.row.place) reported.such.class_is ∙ ap (slice_get (members class)) reported.place_is) ∙ is.there)
 
 -- ---- whether there is a member
 
@@ -185,16 +185,16 @@ abbrev IsNamedAt : Name → Desc → List Named → ℕ → Type 0
 IsNamedAt name desc members place = (m : Named) × (slice_get members place ≡ Some m) × (is_named name desc m.0 m.1 ≡ true)
 
 first_there : (name : Name) (desc : Desc) (members : List Named) (place : ℕ) → place_of members name desc ≡ Some place → IsNamedAt name desc members place
-first_there name desc [] place told = absurd (none_some place told)
-first_there name desc (x ∷ members) place told = go (is_named name desc x.0 x.1) refl (first_there name desc members) told where
+first_there name desc [] place reported = absurd (none_some place reported)
+first_there name desc (x ∷ members) place reported = go (is_named name desc x.0 x.1) refl (first_there name desc members) reported where
   later_there : (o : Option ℕ) → place_of members name desc ≡ o → ((q : ℕ) → place_of members name desc ≡ Some q → IsNamedAt name desc members q) → option_map later o ≡ Some place → IsNamedAt name desc (x ∷ members) place
-  later_there None is rest told = absurd (none_some place told)
-  later_there (Some q) is rest told = let own = rest q is in subst (IsNamedAt name desc (x ∷ members)) (sym (add-one q) ∙ one (later q) place told) (own.0, own.1, own.2)
+  later_there None is rest reported = absurd (none_some place reported)
+  later_there (Some q) is rest reported = let own = rest q is in subst (IsNamedAt name desc (x ∷ members)) (sym (add-one q) ∙ one (later q) place reported) (own.0, own.1, own.2)
 
   go : (b : Bool) → is_named name desc x.0 x.1 ≡ b → ((q : ℕ) → place_of members name desc ≡ Some q → IsNamedAt name desc members q) → cond b (Some 0) (option_map later (place_of members name desc)) ≡ Some place
       → IsNamedAt name desc (x ∷ members) place
-  go true named rest told = subst (IsNamedAt name desc (x ∷ members)) (one 0 place told) (x, refl, named)
-  go false named rest told = later_there (place_of members name desc) refl rest told
+  go true named rest reported = subst (IsNamedAt name desc (x ∷ members)) (one 0 place reported) (x, refl, named)
+  go false named rest reported = later_there (place_of members name desc) refl rest reported
 
 -- ---- what a directory answers
 
@@ -229,25 +229,25 @@ module _ (program : Program) (texts : Texts) (methods fields first_methods first
   unknown n d (inl e) = inl (sym (number_is texts n) ∙ e)
   unknown n d (inr e) = inr (sym (number_is texts d) ∙ e)
 
-  pub first_method : (class name desc : ℕ) (result : Option ℕ) → class < length program → IsTold methods name desc class result → IsFirstMethod class name desc result (numbering program texts)
-  first_method class name desc result less told n d n_is d_is valid =
-      place_told texts (methods_named program) (length program) methods is.methods_are n d valid is.different name desc class less (known n name n_is) (known d desc d_is) result told
+  pub first_method : (class name desc : ℕ) (result : Option ℕ) → class < length program → IsReported methods name desc class result → IsFirstMethod class name desc result (numbering program texts)
+  first_method class name desc result less reported n d n_is d_is valid =
+      place_reported texts (methods_named program) (length program) methods is.methods_are n d valid is.different name desc class less (known n name n_is) (known d desc d_is) result reported
       ∙ method_place_is (methods_at program class) n (desc_in d)
 
-  pub first_field : (class name desc : ℕ) (result : Option ℕ) → class < length program → IsTold fields name desc class result → IsFirstField class name desc result (numbering program texts)
-  first_field class name desc result less told n d n_is d_is valid =
-      place_told texts (fields_named program) (length program) fields is.fields_are n d valid is.different name desc class less (known n name n_is) (known d desc d_is) result told
+  pub first_field : (class name desc : ℕ) (result : Option ℕ) → class < length program → IsReported fields name desc class result → IsFirstField class name desc result (numbering program texts)
+  first_field class name desc result less reported n d n_is d_is valid =
+      place_reported texts (fields_named program) (length program) fields is.fields_are n d valid is.different name desc class less (known n name n_is) (known d desc d_is) result reported
       ∙ field_place_is (fields_at program class) n (desc_in d)
 
-  pub method_within : (class name desc : ℕ) (result : Option ℕ) → IsTold methods name desc class result → IfSome result (λ place. place < length (methods_at program class))
-  method_within class name desc result told =
+  pub method_within : (class name desc : ℕ) (result : Option ℕ) → IsReported methods name desc class result → IfSome result (λ place. place < length (methods_at program class))
+  method_within class name desc result reported =
       subst (λ (count : ℕ). IfSome result (λ place. place < count)) (length-map (methods_at program class) method_named)
-      (place_within texts (methods_named program) (length program) methods name desc class result is.methods_are told)
+      (place_within texts (methods_named program) (length program) methods name desc class result is.methods_are reported)
 
-  pub field_within : (class name desc : ℕ) (result : Option ℕ) → IsTold fields name desc class result → IfSome result (λ place. place < length (fields_at program class))
-  field_within class name desc result told =
+  pub field_within : (class name desc : ℕ) (result : Option ℕ) → IsReported fields name desc class result → IfSome result (λ place. place < length (fields_at program class))
+  field_within class name desc result reported =
       subst (λ (count : ℕ). IfSome result (λ place. place < count)) (length-map (fields_at program class) field_named)
-      (place_within texts (fields_named program) (length program) fields name desc class result is.fields_are told)
+      (place_within texts (fields_named program) (length program) fields name desc class result is.fields_are reported)
 
   pub names_methods : NamesMethods (numbering program texts)
   names_methods class n d valid none = elim (cases_lt class (length program)) [
@@ -288,28 +288,28 @@ module _ (program : Program) (texts : Texts) (methods fields first_methods first
         let m = named_by texts (methods_named program) (length program) methods is.methods_are n d valid is.different name desc row.class less (known n name n_is) (known d desc d_is) row in_rows such in
         named_there n (desc_in d) (methods_named program row.class) row.place m.0 m.1.0 m.1.1 (method_place_is (methods_at program row.class) n (desc_in d) ∙ none));
     all = λ class less none.
-        sym (first_method class name desc None less (told_by_first methods first_methods is.first_methods_are name desc class None (λ row there such.
+        sym (first_method class name desc None less (reported_by_first methods first_methods is.first_methods_are name desc class None (λ row there such.
         none row (with_them.all row there such.name_is such.desc_is (let same = such.class_is in omega (arith, same, less, few))) such.class_is)) n d n_is d_is valid);
-    first = λ class place less told.
-        (let at = first_there n (desc_in d) (methods_named program class) place (method_place_is (methods_at program class) n (desc_in d) ∙ told) in
+    first = λ class place less reported.
+        (let at = first_there n (desc_in d) (methods_named program class) place (method_place_is (methods_at program class) n (desc_in d) ∙ reported) in
         let own = row_of texts (methods_named program) (length program) methods is.methods_are n d valid class place at.0 less at.1 at.2 in
         let such = such_row texts (methods_named program) (length program) methods is.methods_are n d valid is.different name desc class less (known n name n_is) (known d desc d_is) place own in
         let has = is.first_methods_are.each own.row own.within in
         let so = such_first name desc class own.row has.first such has.alike in
         let least = least_first methods first_methods is.first_methods_are name desc class has.first has.within so in
-        let tells = first_method class name desc (Some has.first.place) less (told_by_first methods first_methods is.first_methods_are name desc class (Some has.first.place) least) n d n_is d_is valid in
+        let says = first_method class name desc (Some has.first.place) less (reported_by_first methods first_methods is.first_methods_are name desc class (Some has.first.place) least) n d n_is d_is valid in
         record {
           row = has.first;
           within = with_them.all has.first has.within so.name_is so.desc_is (let same = so.class_is in omega (arith, same, less, few));
           class_is = so.class_is;
-          place_is = one has.first.place place (tells ∙ told);
+          place_is = one has.first.place place (says ∙ reported);
         });
   }
 
   -- the first method of a name and a descriptor in a class has a row among the first ones
   pub first_method_there : (class place : ℕ) (n : Name) (d : Desc) → class < length program → method_place (methods_at program class) n d ≡ Some place → IsThere first_methods class place
-  first_method_there class place n d less told =
-      let at = first_there n d (methods_named program class) place (method_place_is (methods_at program class) n d ∙ told) in
+  first_method_there class place n d less reported =
+      let at = first_there n d (methods_named program class) place (method_place_is (methods_at program class) n d ∙ reported) in
       let own = is.methods_are.whole class place less (inside (methods_named program class) place at.0 at.1) in
       let row_is = row_in texts (methods_named program) (length program) methods is.methods_are own.row own.within in
       let same : (row_is.name, row_is.desc) ≡ at.0 =
@@ -321,14 +321,14 @@ module _ (program : Program) (texts : Texts) (methods fields first_methods first
       let has = is.first_methods_are.each own.row own.within in
       let so = such_first own.row.name own.row.desc class own.row has.first (record { name_is = refl; desc_is = refl; class_is = own.class_is }) has.alike in
       let least = least_first methods first_methods is.first_methods_are own.row.name own.row.desc class has.first has.within so in
-      let tells = first_method class own.row.name own.row.desc (Some has.first.place) less
-      (told_by_first methods first_methods is.first_methods_are own.row.name own.row.desc class (Some has.first.place) least) n row_is.text
+      let says = first_method class own.row.name own.row.desc (Some has.first.place) less
+      (reported_by_first methods first_methods is.first_methods_are own.row.name own.row.desc class (Some has.first.place) least) n row_is.text
       (number_is texts n ∙ ap (number_in texts) (sym name_same) ∙ row_is.name_is) (number_is texts row_is.text ∙ row_is.desc_is) (is_descriptor row_is.text row_is.desc row_is.spelled) in
       record {
         row = has.first;
         within = has.within;
         class_is = so.class_is;
-        place_is = one has.first.place place (tells ∙ ap (method_place (methods_at program class) n) desc_same ∙ told);
+        place_is = one has.first.place place (says ∙ ap (method_place (methods_at program class) n) desc_same ∙ reported);
       }
 
   -- and stands among those of its class
@@ -366,14 +366,14 @@ module _ (program : Program) (texts : Texts) (methods fields first_methods first
         let f = named_by texts (fields_named program) (length program) fields is.fields_are n d valid is.different name desc row.class less (known n name n_is) (known d desc d_is) row in_rows such in
         named_there n (desc_in d) (fields_named program row.class) row.place f.0 f.1.0 f.1.1 (field_place_is (fields_at program row.class) n (desc_in d) ∙ none));
     all = λ class less none.
-        sym (first_field class name desc None less (told_by_first fields first_fields is.first_fields_are name desc class None (λ row there such.
+        sym (first_field class name desc None less (reported_by_first fields first_fields is.first_fields_are name desc class None (λ row there such.
         none row (with_them.all row there such.name_is such.desc_is (let same = such.class_is in omega (arith, same, less, few))) such.class_is)) n d n_is d_is valid);
   }
 
   -- the first field of a name and a descriptor in a class has a row among the first ones
   pub first_field_there : (class place : ℕ) (n : Name) (d : Desc) → class < length program → field_place (fields_at program class) n d ≡ Some place → IsThere first_fields class place
-  first_field_there class place n d less told =
-      let at = first_there n d (fields_named program class) place (field_place_is (fields_at program class) n d ∙ told) in
+  first_field_there class place n d less reported =
+      let at = first_there n d (fields_named program class) place (field_place_is (fields_at program class) n d ∙ reported) in
       let own = is.fields_are.whole class place less (inside (fields_named program class) place at.0 at.1) in
       let row_is = row_in texts (fields_named program) (length program) fields is.fields_are own.row own.within in
       let same : (row_is.name, row_is.desc) ≡ at.0 =
@@ -385,12 +385,12 @@ module _ (program : Program) (texts : Texts) (methods fields first_methods first
       let has = is.first_fields_are.each own.row own.within in
       let so = such_first own.row.name own.row.desc class own.row has.first (record { name_is = refl; desc_is = refl; class_is = own.class_is }) has.alike in
       let least = least_first fields first_fields is.first_fields_are own.row.name own.row.desc class has.first has.within so in
-      let tells = first_field class own.row.name own.row.desc (Some has.first.place) less
-      (told_by_first fields first_fields is.first_fields_are own.row.name own.row.desc class (Some has.first.place) least) n row_is.text
+      let says = first_field class own.row.name own.row.desc (Some has.first.place) less
+      (reported_by_first fields first_fields is.first_fields_are own.row.name own.row.desc class (Some has.first.place) least) n row_is.text
       (number_is texts n ∙ ap (number_in texts) (sym name_same) ∙ row_is.name_is) (number_is texts row_is.text ∙ row_is.desc_is) (is_descriptor row_is.text row_is.desc row_is.spelled) in
       record {
         row = has.first;
         within = has.within;
         class_is = so.class_is;
-        place_is = one has.first.place place (tells ∙ ap (field_place (fields_at program class) n) desc_same ∙ told);
+        place_is = one has.first.place place (says ∙ ap (field_place (fields_at program class) n) desc_same ∙ reported);
       }

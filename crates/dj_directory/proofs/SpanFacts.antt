@@ -8,11 +8,11 @@ use Rattle.dj_model.specs.trusted.Program.{Program, Method}
 use Rattle.dj_model.specs.SmallRuns.{class_with, method_with, code}
 use Rattle.dj_directory.specs.declared.rows.MemberRow.{MemberRow}
 use Rattle.dj_directory.specs.declared.spans.Spans.{Spans}
-use Rattle.dj_directory.specs.declared.marks.Marks.{Marks}
+use Rattle.dj_directory.specs.declared.marks.SpanMarks.{SpanMarks}
 use Rattle.dj_directory.specs.declared.calls.Marked.{Marked}
 use Rattle.dj_directory.specs.Calls.{AreMarked}
 use Rattle.dj_directory.specs.DirectoryRows.{AreInOrder, Fits, key_of}
-use Rattle.dj_directory.specs.Spans.{start_in, end_in, class_in, IsWithin, IsNested, AreSpans, mark_of, AreMarks, IsStart, IsEnd, IsLast, IsTold, StartsFrom, Covers, AreNearest, IsNearestIn, AreNear}
+use Rattle.dj_directory.specs.Spans.{start_in, end_in, class_in, IsWithin, IsNested, AreSpans, mark_of, AreMarks, IsStart, IsEnd, IsLast, IsReported, StartsFrom, Covers, AreNearest, IsNearestIn, AreNear}
 
 -- ---- a program
 
@@ -64,13 +64,13 @@ not_last is = none-some 2 is.is
 none_is_last : (class : ℕ) → IsLast [] class → ⊥
 none_is_last class is = let some = is.some in absurd (omega (arith, some))
 
-told : IsTold (None ∷ Some 2 ∷ []) 1 (Some 2) × IsTold (None ∷ Some 2 ∷ []) 0 None
-told = (record { there = omega arith; is = refl }, record { there = omega arith; is = refl })
+reported : IsReported (None ∷ Some 2 ∷ []) 1 (Some 2) × IsReported (None ∷ Some 2 ∷ []) 0 None
+reported = (record { there = omega arith; is = refl }, record { there = omega arith; is = refl })
 
-not_told : IsTold (None ∷ Some 2 ∷ []) 0 (Some 2) → ⊥
-not_told is = none-some 2 (sym is.is)
+not_reported : IsReported (None ∷ Some 2 ∷ []) 0 (Some 2) → ⊥
+not_reported is = none-some 2 (sym is.is)
 
-past_marks : (near : Option ℕ) → IsTold (None ∷ Some 2 ∷ []) 2 near → ⊥
+past_marks : (near : Option ℕ) → IsReported (None ∷ Some 2 ∷ []) 2 near → ⊥
 past_marks near is = let lt = is.there in absurd (omega (arith, lt))
 
 -- ---- a class that starts from a step
@@ -261,13 +261,13 @@ module _ (spans : Spans) (entered_are : spans.starts.items ≡ entered) (left_ar
 
   -- ---- what is kept
 
-  pub are_near : (kept : Marks) → kept.rows.items ≡ marks → kept.nearest.items ≡ nearest → AreNear spans rows kept
+  pub are_near : (kept : SpanMarks) → kept.rows.items ≡ marks → kept.nearest.items ≡ nearest → AreNear spans rows kept
   are_near kept marks_is nearest_is = record {
     marks_are = subst (AreMarks spans rows) (sym marks_is) marks_are;
     nearest_are = subst (λ (ms : List MemberRow). AreNearest spans ms kept.nearest.items) (sym marks_is) (subst (AreNearest spans marks) (sym nearest_is) nearest_are);
   }
 
-  none_near : (kept : Marks) → kept.rows.items ≡ marks → kept.nearest.items ≡ None ∷ None ∷ [] → AreNear spans rows kept → ⊥
+  none_near : (kept : SpanMarks) → kept.rows.items ≡ marks → kept.nearest.items ≡ None ∷ None ∷ [] → AreNear spans rows kept → ⊥
   none_near kept marks_is nearest_is near =
       none_after_any (subst (AreNearest spans marks) nearest_is (subst (λ (ms : List MemberRow). AreNearest spans ms kept.nearest.items) marks_is near.nearest_are))
 

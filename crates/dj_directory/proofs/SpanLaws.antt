@@ -9,7 +9,7 @@ use Rattle.std.proofs.lemmas.List.Sorted.{All-permutation, Contains-permutation}
 use Rattle.dj_directory.specs.declared.rows.MemberRow.{MemberRow}
 use Rattle.dj_directory.specs.declared.spans.Spans.{Spans}
 use Rattle.dj_directory.specs.DirectoryRows.{pair_of, key_of, Fits, AreInOrder}
-use Rattle.dj_directory.specs.Spans.{AreMarks, AreNearest, Covers, IsEnd, IsLast, IsNearestIn, IsStart, IsTold, StartsFrom, class_in, end_in, mark_of, start_in}
+use Rattle.dj_directory.specs.Spans.{AreMarks, AreNearest, Covers, IsEnd, IsLast, IsNearestIn, IsStart, IsReported, StartsFrom, class_in, end_in, mark_of, start_in}
 use Rattle.dj_directory.proofs.RowLaws.{firsts, seconds, small, wides, target, fit_all, IsPointAt}
 
 -- ---- keys
@@ -108,19 +108,19 @@ module _ (marks : List MemberRow) (order : AreInOrder marks) where
           let same = names_of name desc (pair_of step 0) mark (fits_at (i - 1) mark last_within at) desc_fits (small step 0 step_fits (omega arith)) (omega (arith, low, key)) (omega (arith, high, is)) in
           differ same.0 same.1
 
-      told_before : (nearest : List (Option ℕ)) (near : Option ℕ) → mark.name ≡ name → mark.desc ≡ desc → IsTold nearest (i - 1) near → AreNearest spans marks nearest → IsNearestIn spans marks name desc step near
-      told_before nearest near named described told each other there start other_named other_described less le =
+      reported_before : (nearest : List (Option ℕ)) (near : Option ℕ) → mark.name ≡ name → mark.desc ≡ desc → IsReported nearest (i - 1) near → AreNearest spans marks nearest → IsNearestIn spans marks name desc step near
+      reported_before nearest near named described reported each other there start other_named other_described less le =
           let before = comes_before other there.0 there.1 there.2 other_named other_described less in
           let key = key_is name desc mark named described in
           let high = under_step in
           let top = target_is name desc step in
           let lower : mark.class < step = step_below mark.class mark.place step (omega (arith, high, key, top)) in
-          subst (λ (o : Option ℕ). StartsFrom (start_in spans) o other.class) (sym told.is)
-          (each (i - 1) told.there mark other there.0 last_within at (omega (arith, before)) there.2 start (other_named ∙ sym named) (other_described ∙ sym described) (omega (arith, lower, le)))
+          subst (λ (o : Option ℕ). StartsFrom (start_in spans) o other.class) (sym reported.is)
+          (each (i - 1) reported.there mark other there.0 last_within at (omega (arith, before)) there.2 start (other_named ∙ sym named) (other_described ∙ sym described) (omega (arith, lower, le)))
 
-      pub known_before : (nearest : List (Option ℕ)) (result : Option (Option ℕ)) → mark.name ≡ name → mark.desc ≡ desc → IfSome result (IsTold nearest (i - 1)) → AreNearest spans marks nearest → IfSome result (IsNearestIn spans marks name desc step)
-      known_before nearest None named described told each = tt
-      known_before nearest (Some near) named described told each = told_before nearest near named described told each
+      pub known_before : (nearest : List (Option ℕ)) (result : Option (Option ℕ)) → mark.name ≡ name → mark.desc ≡ desc → IfSome result (IsReported nearest (i - 1)) → AreNearest spans marks nearest → IfSome result (IsNearestIn spans marks name desc step)
+      known_before nearest None named described reported each = tt
+      known_before nearest (Some near) named described reported each = reported_before nearest near named described reported each
 
   -- ---- a mark more
 
@@ -135,7 +135,7 @@ module _ (marks : List MemberRow) (order : AreInOrder marks) where
         omega (arith, rise, same, starts)
 
     module _ (nearest : List (Option ℕ)) (count : at ≡ length nearest) (each : AreNearest spans marks nearest) (end : IsEnd spans mark) (last : IsLast nearest mark.place) (near : Option ℕ)
-        (told : IsNearestIn spans marks mark.name mark.desc (start_in spans mark.place) near) where
+        (reported : IsNearestIn spans marks mark.name mark.desc (start_in spans mark.place) near) where
       covers_one : (other : MemberRow) (k : ℕ) → at < length marks → k ≤ at → get_or marks k other ≡ other → IsStart spans other → other.name ≡ mark.name → other.desc ≡ mark.desc → mark.class < end_in spans other.place
           → StartsFrom (start_in spans) near other.class
       covers_one other k lt le is start named described opened = elim (cases_lt k at) [
@@ -153,7 +153,7 @@ module _ (marks : List MemberRow) (order : AreInOrder marks) where
             let last_is : get_or nearest (at - 1) None ≡ Some mark.place = ap (λ (n : ℕ). get_or nearest (n - 1) None) count ∙ last.is in
             let not_after : other.class ≤ start_in spans mark.place = subst (λ (o : Option ℕ). StartsFrom (start_in spans) o other.class) last_is bounded in
             elim (cases_lt other.class (start_in spans mark.place)) [
-              | inl less ↦ (let past = end.after in told other (k, omega (arith, before, lt), is) start named described less (omega (arith, past, opened)))
+              | inl less ↦ (let past = end.after in reported other (k, omega (arith, before, lt), is) start named described less (omega (arith, past, opened)))
               | inr over ↦
                   (let own = start.at in
                   let same : start_in spans other.place ≡ start_in spans mark.place = omega (arith, own, over, not_after) in
@@ -176,8 +176,8 @@ module _ (marks : List MemberRow) (order : AreInOrder marks) where
 
     pub ends_cover : (nearest : List (Option ℕ)) (result : Option (Option ℕ)) → at ≡ length nearest → AreNearest spans marks nearest → IsEnd spans mark → IsLast nearest mark.place
         → IfSome result (IsNearestIn spans marks mark.name mark.desc (start_in spans mark.place)) → IfSome result (Covers spans marks at)
-    ends_cover nearest None count each end last told = tt
-    ends_cover nearest (Some near) count each end last told = end_covers nearest count each end last near told
+    ends_cover nearest None count each end last reported = tt
+    ends_cover nearest (Some near) count each end last reported = end_covers nearest count each end last near reported
 
 -- ---- all marks
 

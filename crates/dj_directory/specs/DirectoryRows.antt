@@ -110,9 +110,9 @@ pub record IsLeast (rows : List MemberRow) (name desc class place : ℕ) : Type 
   pub least : (other : MemberRow) → Contains rows other → IsSuch name desc class other → place ≤ other.place
 
 -- the least place of a row of these numbers, or there is none
-abbrev pub IsTold : List MemberRow → ℕ → ℕ → ℕ → Option ℕ → Type 0
-IsTold rows name desc class None = (row : MemberRow) → Contains rows row → IsSuch name desc class row → ⊥
-IsTold rows name desc class (Some place) = IsLeast rows name desc class place
+abbrev pub IsReported : List MemberRow → ℕ → ℕ → ℕ → Option ℕ → Type 0
+IsReported rows name desc class None = (row : MemberRow) → Contains rows row → IsSuch name desc class row → ⊥
+IsReported rows name desc class (Some place) = IsLeast rows name desc class place
 
 -- ---- the rows of classes
 

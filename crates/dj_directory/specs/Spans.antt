@@ -4,7 +4,7 @@ use Rattle.dj_model.specs.trusted.Program.{Program}
 use Rattle.dj_classes.specs.Tables.{super_number}
 use Rattle.dj_directory.specs.declared.rows.MemberRow.{MemberRow}
 use Rattle.dj_directory.specs.declared.spans.Spans.{Spans}
-use Rattle.dj_directory.specs.declared.marks.Marks.{Marks}
+use Rattle.dj_directory.specs.declared.marks.SpanMarks.{SpanMarks}
 use Rattle.dj_directory.specs.DirectoryRows.{AreInOrder}
 
 abbrev pub start_in : Spans → ℕ → ℕ
@@ -56,7 +56,7 @@ pub record IsLast (nearest : List (Option ℕ)) (class : ℕ) : Type 0 where
   pub is : get_or nearest (length nearest - 1) None ≡ Some class
 
 -- the mark at the place names the class, or says that there is none
-pub record IsTold (nearest : List (Option ℕ)) (at : ℕ) (near : Option ℕ) : Type 0 where
+pub record IsReported (nearest : List (Option ℕ)) (at : ℕ) (near : Option ℕ) : Type 0 where
   pub there : at < length nearest
   pub is : near ≡ get_or nearest at None
 
@@ -79,6 +79,6 @@ abbrev pub IsNearestIn : Spans → List MemberRow → ℕ → ℕ → ℕ → Op
 IsNearestIn spans marks name desc step near = (mark : MemberRow) → Contains marks mark → IsStart spans mark → mark.name ≡ name → mark.desc ≡ desc → mark.class < step → step ≤ end_in spans mark.place
     → StartsFrom (start_in spans) near mark.class
 
-pub record AreNear (spans : Spans) (rows : List MemberRow) (marks : Marks) : Type 0 where
+pub record AreNear (spans : Spans) (rows : List MemberRow) (marks : SpanMarks) : Type 0 where
   pub marks_are : AreMarks spans rows marks.rows.items
   pub nearest_are : AreNearest spans marks.rows.items marks.nearest.items

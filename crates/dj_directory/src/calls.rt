@@ -6,7 +6,7 @@ ghost use Rattle.dj_directory.specs.Calls.{AreFirsts, AreMarked, AreMethods, Are
 ghost use Rattle.dj_directory.specs.DirectoryRows.{AreInOrder, IsLeast};
 
 use crate::directory::Directory;
-use crate::marks::Marks;
+use crate::marks::SpanMarks;
 use crate::rows::{MemberRow, pair_of, place_in, put_in_order, rows_with};
 use crate::spans::Spans;
 use dj_classes::ClassTable;
@@ -25,9 +25,9 @@ pub struct Marked {
     /// Where the classes stand in the tree of superclasses.
     pub spans: Spans,
     /// The marks of methods that are neither private nor static.
-    pub plain: Marks,
+    pub plain: SpanMarks,
     /// The marks of methods that aren't static.
-    pub instance: Marks,
+    pub instance: SpanMarks,
 }
 
 /// The methods of the classes of a table, for calls.
@@ -114,10 +114,10 @@ fn mark_classes(
     let Some(spans) = Spans::of(alloc, table)? else {
         return Ok(None);
     };
-    let Some(plain) = Marks::of(alloc, &spans, plain)? else {
+    let Some(plain) = SpanMarks::of(alloc, &spans, plain)? else {
         return Ok(None);
     };
-    let Some(instance) = Marks::of(alloc, &spans, instance)? else {
+    let Some(instance) = SpanMarks::of(alloc, &spans, instance)? else {
         return Ok(None);
     };
     Ok(Some(Marked {

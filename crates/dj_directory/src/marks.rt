@@ -2,7 +2,7 @@
 //! For an end it is looked up: it is what was nearest before the start. Ends are checked on the way, so the spans need not be known to be nested.
 ghost use Rattle.std.specs.Prelude.{◌≡◌, ℕ, ◌+◌, ◌<◌, true, length, get_or, IfOk, IfSome};
 ghost use Rattle.dj_directory.specs.DirectoryRows.{AreInOrder, Fits};
-ghost use Rattle.dj_directory.specs.Spans.{AreMarks, AreNear, AreNearest, Covers, IsEnd, IsLast, IsNearestIn, IsTold, mark_of};
+ghost use Rattle.dj_directory.specs.Spans.{AreMarks, AreNear, AreNearest, Covers, IsEnd, IsLast, IsNearestIn, IsReported, mark_of};
 
 use crate::rows::{MemberRow, first_not_below, key_of, put_in_order};
 use crate::spans::Spans;
@@ -11,7 +11,7 @@ use std::alloc::Global;
 
 /// Where the spans of the classes of rows start and end.
 #[derive(Drop)]
-pub struct Marks {
+pub struct SpanMarks {
     /// In place of the class the step, and in place of the member the class: so marks stand in the order of the numbers of texts, then of the steps.
     pub rows: Vec<MemberRow>,
     /// By the places of marks, the nearest class for what follows.
@@ -75,8 +75,8 @@ fn is_last_end(spans: &Spans, nearest: &[Option<u32>], mark: MemberRow) -> bool
 }
 
 // What a mark says, where it is known.
-fn told_at(nearest: &[Option<u32>], at: usize) -> Option<Option<u32>>
-    ensures { IfSome result (IsTold nearest.now at) }
+fn reported_at(nearest: &[Option<u32>], at: usize) -> Option<Option<u32>>
+    ensures { IfSome result (IsReported nearest.now at) }
 {
     match nearest.get(at) {
         Some(near) => Some(*near),
@@ -109,7 +109,7 @@ fn nearest_before(
     if mark.name != name || mark.desc != desc {
         return Some(None);
     }
-    told_at(nearest, at - 1)
+    reported_at(nearest, at - 1)
 }
 
 // The nearest class for what follows a mark, where that is known for those before it.
@@ -155,16 +155,20 @@ fn nearest_of(
     Ok(Some(nearest))
 }
 
-impl Marks {
+impl SpanMarks {
     /// The marks of rows.
-    pub fn of(alloc: Global, spans: &Spans, rows: &[MemberRow]) -> Result<Option<Marks>, NoMemory>
+    pub fn of(
+        alloc: Global,
+        spans: &Spans,
+        rows: &[MemberRow],
+    ) -> Result<Option<SpanMarks>, NoMemory>
         ensures { IfOk result (λ found. IfSome found (AreNear spans.now rows.now)) }
     {
         let marks = marks_of(alloc, spans, rows)?;
         let Some(nearest) = nearest_of(alloc, spans, &marks)? else {
             return Ok(None);
         };
-        Ok(Some(Marks {
+        Ok(Some(SpanMarks {
             rows: marks,
             nearest,
         }))

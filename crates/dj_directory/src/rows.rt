@@ -1,7 +1,7 @@
 //! Members by the numbers of their texts, in the order of these.
 ghost use Rattle.std.specs.Prelude.{◌≡◌, ◌<◌, ◌≤◌, ltb, true, false, length, IfOk};
 ghost use Rattle.std.specs.List.Sorted.{IsNonDecreasingBy, IsPartitionPoint, IsPermutation};
-ghost use Rattle.dj_directory.specs.DirectoryRows.{pair_of, key_of, AreAlike, AreFirst, AreInOrder, AreRowsWith, IsTold, IsAnswer, IsRepeat};
+ghost use Rattle.dj_directory.specs.DirectoryRows.{pair_of, key_of, AreAlike, AreFirst, AreInOrder, AreRowsWith, IsReported, IsAnswer, IsRepeat};
 
 use dj_names::NoMemory;
 use std::alloc::Global;
@@ -99,7 +99,7 @@ fn place_if(row: MemberRow, name: u32, desc: u32, class: u32) -> Option<u32>
 /// The least place of a row with these numbers, by halving.
 pub fn place_in(rows: &[MemberRow], name: u32, desc: u32, class: u32) -> Option<u32>
     requires { AreInOrder rows.now }
-    ensures { IsTold rows.now name desc class result }
+    ensures { IsReported rows.now name desc class result }
 {
     let least = MemberRow {
         name,

@@ -15,7 +15,7 @@ use Rattle.dj_edge.specs.declared.mem_files.MemFiles.{MemFiles}
 use Rattle.dj_edge.specs.trusted.Counts.{Rose}
 use Rattle.dj_edge.specs.Counts.{one_more}
 use Rattle.dj_edge.specs.trusted.Held.{Held, bytes_at}
-use Rattle.dj_edge.specs.trusted.Calls.{ListCounts, ReadCounts, ReadTells, Gives, Writes, WriteCounts}
+use Rattle.dj_edge.specs.trusted.Calls.{ListCounts, ReadCounts, AnswersRead, Gives, Writes, WriteCounts}
 use Rattle.dj_edge.specs.Calls.{CountsListing, CountsRead, Puts, CountsWrite}
 use Rattle.dj_edge.specs.Listings.{ListsFolder}
 use Rattle.dj_edge.specs.Sinks.{piece_of, room_of, faults_of, Takes}
@@ -71,20 +71,20 @@ falls-not = (λ h. omega (arith, h), λ h. omega (arith, h), λ h. omega (arith,
 -- ---- what calls report
 
 -- Absent is reported only of a file that a store of known contents lacks; where they are unknown, of none
-tells-absent : (h : Held) (path : List ℕ) → bytes_at h path ≡ None → ReadTells (λ (bytes : List ℕ). bytes) (Some h) path 5 (read (Err read_errors.Absent))
-tells-absent h path none = none
+says-absent : (h : Held) (path : List ℕ) → bytes_at h path ≡ None → AnswersRead (λ (bytes : List ℕ). bytes) (Some h) path 5 (read (Err read_errors.Absent))
+says-absent h path none = none
 
-tells-absent_not : (h : Held) (path : List ℕ) → bytes_at h path ≡ Some (1 ∷ 2 ∷ []) → ReadTells (λ (bytes : List ℕ). bytes) (Some h) path 5 (read (Err read_errors.Absent)) → ⊥
-tells-absent_not h path two none = absurd cc
+says-absent_not : (h : Held) (path : List ℕ) → bytes_at h path ≡ Some (1 ∷ 2 ∷ []) → AnswersRead (λ (bytes : List ℕ). bytes) (Some h) path 5 (read (Err read_errors.Absent)) → ⊥
+says-absent_not h path two none = absurd cc
 
-untold-absent_not : (path : List ℕ) → ReadTells (λ (bytes : List ℕ). bytes) None path 5 (read (Err read_errors.Absent)) → ⊥
-untold-absent_not path h = h
+unreported-absent_not : (path : List ℕ) → AnswersRead (λ (bytes : List ℕ). bytes) None path 5 (read (Err read_errors.Absent)) → ⊥
+unreported-absent_not path h = h
 
-tells-long : (h : Held) (path : List ℕ) → bytes_at h path ≡ Some (1 ∷ 2 ∷ []) → ReadTells (λ (bytes : List ℕ). bytes) (Some h) path 1 (read (Err read_errors.TooLong))
-tells-long h path two = subst (λ (found : Option (List ℕ)). IsSomeAnd found (λ bytes. 1 < length bytes)) (sym two) (omega arith)
+says-long : (h : Held) (path : List ℕ) → bytes_at h path ≡ Some (1 ∷ 2 ∷ []) → AnswersRead (λ (bytes : List ℕ). bytes) (Some h) path 1 (read (Err read_errors.TooLong))
+says-long h path two = subst (λ (found : Option (List ℕ)). IsSomeAnd found (λ bytes. 1 < length bytes)) (sym two) (omega arith)
 
-tells-long_not : (h : Held) (path : List ℕ) → bytes_at h path ≡ Some (1 ∷ 2 ∷ []) → ReadTells (λ (bytes : List ℕ). bytes) (Some h) path 2 (read (Err read_errors.TooLong)) → ⊥
-tells-long_not h path two long = let here = subst (λ (found : Option (List ℕ)). IsSomeAnd found (λ bytes. 2 < length bytes)) two long in omega (arith, here)
+says-long_not : (h : Held) (path : List ℕ) → bytes_at h path ≡ Some (1 ∷ 2 ∷ []) → AnswersRead (λ (bytes : List ℕ). bytes) (Some h) path 2 (read (Err read_errors.TooLong)) → ⊥
+says-long_not h path two long = let here = subst (λ (found : Option (List ℕ)). IsSomeAnd found (λ bytes. 2 < length bytes)) two long in omega (arith, here)
 
 -- a host that refuses gives nothing
 gives-none : (kind : ℤ → HostAnswer) (answer : HostAnswer) → Gives kind [] (answer ∷ []) (Err host_errors.Memory) → ⊥

@@ -117,23 +117,23 @@ pub sorted_listing : {Z : Type 0} (folder : List ℕ) (held : Held) (most : ℕ)
 sorted_listing folder held most found paths listing few moved sorted =
     sorted_class_paths folder held paths sorted
     (IsPermutation-trans (map string_bytes paths) (map string_bytes found) (map (λ file. file.0) (class_files folder held))
-    (IsPermutation-sym (map string_bytes found) (map string_bytes paths) (IsPermutation-map string_bytes found paths moved)) (listing.told.0 few))
+    (IsPermutation-sym (map string_bytes found) (map string_bytes paths) (IsPermutation-map string_bytes found paths moved)) (listing.reported.0 few))
 
 -- the same where a store's contents may be known
-pub sorted_where_told : {Z : Type 0} (told : Option Held) (folder : List ℕ) (most : ℕ) (found paths : List (String Z)) → IsListing told folder most (map string_bytes found)
+pub sorted_where_reported : {Z : Type 0} (reported : Option Held) (folder : List ℕ) (most : ℕ) (found paths : List (String Z)) → IsListing reported folder most (map string_bytes found)
     → IsPermutation found paths → IsSorted string_cmp paths
-    → IfSome told (λ held. length (class_files folder held) ≤ most → map string_bytes paths ≡ map (λ file. file.0) (class_files folder held))
-sorted_where_told None folder most found paths listing moved sorted = tt
-sorted_where_told (Some held) folder most found paths listing moved sorted = λ few. sorted_listing folder held most found paths listing few moved sorted
+    → IfSome reported (λ held. length (class_files folder held) ≤ most → map string_bytes paths ≡ map (λ file. file.0) (class_files folder held))
+sorted_where_reported None folder most found paths listing moved sorted = tt
+sorted_where_reported (Some held) folder most found paths listing moved sorted = λ few. sorted_listing folder held most found paths listing few moved sorted
 
 -- a listing has as many paths as there are class files, up to most
 pub length_listing : (folder : List ℕ) (held : Held) (most : ℕ) (paths : List (List ℕ)) → IsListing (Some held) folder most paths
     → length paths ≡ min most (length (class_files folder held))
 length_listing folder held most paths listing =
     let files = class_files folder held in
-    ⊎_elim (λ (many : most < length files). let cut : length paths ≡ most = listing.told.1 many in omega arith)
+    ⊎_elim (λ (many : most < length files). let cut : length paths ≡ most = listing.reported.1 many in omega arith)
     (λ (few : length files ≤ most).
-    let all : length (map (λ (file : File). file.0) files) ≡ length paths = length_permutation paths (map (λ file. file.0) files) (listing.told.0 few) in
+    let all : length (map (λ (file : File). file.0) files) ≡ length paths = length_permutation paths (map (λ file. file.0) files) (listing.reported.0 few) in
     omega (arith, length-map files (λ (file : File). file.0)))
     (cases_lt most (length files))
 

@@ -6,13 +6,13 @@ use Rattle.std.proofs.Common.{◌≡◌, ℕ, ◌+◌, ◌<◌, true, List, [], 
 use Rattle.std.proofs.lemmas.List.{length-map, take_more, get_or-map}
 
 -- one fact from another, where there is a value
-pub told_so : {A : Type 0} (o : Option A) (P Q : A → Type 0) → ((x : A) → P x → Q x) → IfSome o P → IfSome o Q
-told_so None P Q so p = tt
-told_so (Some x) P Q so p = so x p
+pub reported_so : {A : Type 0} (o : Option A) (P Q : A → Type 0) → ((x : A) → P x → Q x) → IfSome o P → IfSome o Q
+reported_so None P Q so p = tt
+reported_so (Some x) P Q so p = so x p
 
-pub both_told : {A : Type 0} (o : Option A) (P Q R : A → Type 0) → ((x : A) → P x → Q x → R x) → IfSome o P → IfSome o Q → IfSome o R
-both_told None P Q R so p q = tt
-both_told (Some x) P Q R so p q = so x p q
+pub both_reported : {A : Type 0} (o : Option A) (P Q R : A → Type 0) → ((x : A) → P x → Q x → R x) → IfSome o P → IfSome o Q → IfSome o R
+both_reported None P Q R so p q = tt
+both_reported (Some x) P Q R so p q = so x p q
 
 pub ok_so : {T E : Type 0} (r : Result T E) (P Q : T → Type 0) → ((x : T) → P x → Q x) → IfOk r P → IfOk r Q
 ok_so (Ok x) P Q so p = so x p

@@ -87,7 +87,7 @@ pub not_differ : (files : List (String × Vec ℕ)) (i : ℕ) (x : String × Vec
 not_differ files i x within is some differ =
     let q : List ℕ = string_bytes x.0 in
     let paths : List (List ℕ) = map path_of (files_in files) in
-    let front_is : map path_of (files_in (take i files)) ≡ take i paths =
+    let prefix_is : map path_of (files_in (take i files)) ≡ take i paths =
     sym (take-map path_of i (files_in files) ∙ ap (λ l. map path_of l) (take-map file_in i files)) in
     let size : length paths ≡ length files = length-map (files_in files) path_of ∙ length-map files file_in in
     let inside : i < length paths = omega arith in
@@ -97,7 +97,7 @@ not_differ files i x within is some differ =
     let short : k < i = omega (arith, length-take i paths) in
     let low : k < length paths = omega arith in
     differ k i q short inside (sym (get_or_default paths k d q low) ∙ sym (get_or-take i paths k d short) ∙ sym same ∙ sym here) in
-    some_after_none (find text_cmp q (files_in (take i files))) some (none_found q (files_in (take i files)) (subst (All (λ path. q ≢ path)) (sym front_is) apart))
+    some_after_none (find text_cmp q (files_in (take i files))) some (none_found q (files_in (take i files)) (subst (All (λ path. q ≢ path)) (sym prefix_is) apart))
 
 -- ---- the first of a listing
 
@@ -146,12 +146,12 @@ is_listing files order folder most paths differ is =
       differ = subst AllDiffer (sym is) (AllPairs-take (λ a b. a ≢ b) most listed (differ_in_order order (class_paths folder files) class_differ));
       bounded = omega arith;
       class_paths = subst (All (λ path. is_class_path folder path ≡ true)) (sym is) (All-take (λ path. is_class_path folder path ≡ true) most listed all_pass);
-      told = (λ few. subst (λ l. IsPermutation l (map path_of (class_files folder held))) (sym (is ∙ take_all most listed (omega arith))) moved, λ many. omega arith);
+      reported = (λ few. subst (λ l. IsPermutation l (map path_of (class_files folder held))) (sym (is ∙ take_all most listed (omega arith))) moved, λ many. omega arith);
       held_paths = subst (All (λ path. IsSome (bytes_at held path))) (sym is) (All-take (λ path. IsSome (bytes_at held path)) most listed some_held);
     }
 
 -- what a look-up by the list says of what is held
-pub told_by : (bytes : Option (List ℕ)) (p path : List ℕ) (list files : List (String × Vec ℕ)) → bytes ≡ find text_cmp p (files_in list) → p ≡ path → list ≡ files
+pub reported_by : (bytes : Option (List ℕ)) (p path : List ℕ) (list files : List (String × Vec ℕ)) → bytes ≡ find text_cmp p (files_in list) → p ≡ path → list ≡ files
     → bytes_at (held_of (files_in files)) path ≡ bytes
-told_by bytes p path list files found same_path same_list =
+reported_by bytes p path list files found same_path same_list =
     bytes_at-held_of (files_in files) path ∙ sym (found ∙ ap (λ l. find text_cmp l (files_in list)) same_path ∙ ap (λ l. find text_cmp path (files_in l)) same_list)

@@ -72,7 +72,7 @@ listing_from_once folder found most paths once =
       class_paths = All-take (λ path. IsTrue (is_class_path folder path)) most once.all
           (All-weaker (Contains (filter (is_class_path folder) found)) (λ path. IsTrue (is_class_path folder path))
           (λ path is. All-contains (λ path. IsTrue (is_class_path folder path)) (filter (is_class_path folder) found) path pass is) once.all once.among);
-      told = tt;
+      reported = tt;
       held_paths = tt;
     })
 

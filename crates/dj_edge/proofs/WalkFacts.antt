@@ -129,6 +129,6 @@ opened-other : (path : List ℕ) → IsFileOpened {F = List ℕ} (λ left. Some 
 unfolding two
 opened-other path h = absurd cc
 
-opened-untold : (path : List ℕ) → IsFileOpened {F = List ℕ} (λ left. None) two path (Ok (1 ∷ [], 0)) → ⊥
+opened-unreported : (path : List ℕ) → IsFileOpened {F = List ℕ} (λ left. None) two path (Ok (1 ∷ [], 0)) → ⊥
 unfolding two
-opened-untold path h = h
+opened-unreported path h = h

@@ -3,7 +3,7 @@ use Rattle.std.proofs.Common.{◌≡◌, ℕ, zero, suc, ◌+◌, ◌-◌, ◌<�
 use Rattle.std.specs.Bool.{⊤}
 use Rattle.std.proofs.lemmas.List.{take_more, take_all, map-append, length-map}
 use Rattle.std.proofs.lemmas.List.Elements.{filter-append}
-use Rattle.dj_edge.specs.declared.walk.Entry.{Entry}
+use Rattle.dj_edge.specs.declared.walk.FolderEntry.{FolderEntry}
 use Rattle.dj_edge.specs.declared.walk.EntryKind.{EntryKind}
 use Rattle.dj_edge.specs.declared.walk.EntryKind.TheVariants as kinds
 use Rattle.dj_edge.specs.declared.walk.FolderEntries.{FolderEntries}
@@ -17,14 +17,14 @@ class_files-append xs ys =
 
 -- a prefix and then the rest, where both are there
 abbrev pub joined : Option (List Place) → Option (List Place) → Option (List Place)
-joined a b = option_and_then (λ front. option_map (λ rest. front ++ rest) b) a
+joined a b = option_and_then (λ prefix. option_map (λ rest. prefix ++ rest) b) a
 
 joined_more : (a b c : Option (List Place)) (all more : List Place) → joined a b ≡ Some all → ((rest : List Place) → b ≡ Some rest → c ≡ Some (rest ++ more)) → joined a c ≡ Some (all ++ more)
 joined_more None b c all more e step = absurd cc
-joined_more (Some front) None c all more e step = absurd cc
-joined_more (Some front) (Some rest) c all more e step =
-    let whole : front ++ rest ≡ all = cc in
-    ap (option_map (λ (l : List Place). front ++ l)) (step rest refl) ∙ ap Some (sym (append_assoc front rest more) ∙ ap (λ (l : List Place). l ++ more) whole)
+joined_more (Some prefix) None c all more e step = absurd cc
+joined_more (Some prefix) (Some rest) c all more e step =
+    let whole : prefix ++ rest ≡ all = cc in
+    ap (option_map (λ (l : List Place). prefix ++ l)) (step rest refl) ∙ ap Some (sym (append_assoc prefix rest more) ∙ ap (λ (l : List Place). l ++ more) whole)
 
 spread_more : (inside : Tree) (xs : List Place) (x : Place) (all more : List Place) → spread inside xs ≡ Some all → with_inside inside x ≡ Some more → spread inside (xs ++ x ∷ []) ≡ Some (all ++ more)
 unfolding spread
@@ -35,9 +35,9 @@ spread_more inside (y ∷ ys) x all more e step =
     joined_more (with_inside inside y) (spread inside ys) (spread inside (ys ++ x ∷ [])) all more e (λ rest same. spread_more inside ys x rest more same step)
 
 -- what was met of the entries so far
-pub record SoFar (tree : Option Tree) (levels : ℕ) (done : List Entry) (before now : Walk) : Type 0 where
+pub record SoFar (tree : Option Tree) (levels : ℕ) (done : List FolderEntry) (before now : Walk) : Type 0 where
   pub places : List Place
-  pub told : IfSome tree (λ t. spread (met_in t (levels - 1)) (map place_of done) ≡ Some places)
+  pub reported : IfSome tree (λ t. spread (met_in t (levels - 1)) (map place_of done) ≡ Some places)
   pub found : texts_found now ≡ texts_found before ++ class_files_in places
   pub entries : now.entries + length done ≡ before.entries + length places
 
@@ -49,50 +49,50 @@ spread_none (Some t) levels = refl
 pub so_far_none : (tree : Option Tree) (levels : ℕ) (walk : Walk) → SoFar tree levels [] walk walk
 so_far_none tree levels walk = record {
   places = [];
-  told = spread_none tree levels;
+  reported = spread_none tree levels;
   found = sym (append-nil (texts_found walk));
   entries = omega arith;
 }
 
-told_more : (tree : Option Tree) (levels : ℕ) (done : List Entry) (entry : Entry) (all more : List Place) → IfSome tree (λ t. spread (met_in t (levels - 1)) (map place_of done) ≡ Some all)
+reported_more : (tree : Option Tree) (levels : ℕ) (done : List FolderEntry) (entry : FolderEntry) (all more : List Place) → IfSome tree (λ t. spread (met_in t (levels - 1)) (map place_of done) ≡ Some all)
     → IfSome tree (λ t. with_inside (met_in t (levels - 1)) (place_of entry) ≡ Some more) → IfSome tree (λ t. spread (met_in t (levels - 1)) (map place_of (done ++ entry ∷ [])) ≡ Some (all ++ more))
-told_more None levels done entry all more e step = tt
-told_more (Some t) levels done entry all more e step =
+reported_more None levels done entry all more e step = tt
+reported_more (Some t) levels done entry all more e step =
     ap (spread (met_in t (levels - 1))) (map-append place_of done (entry ∷ [])) ∙ spread_more (met_in t (levels - 1)) (map place_of done) (place_of entry) all more e step
 
-so_far_more : (tree : Option Tree) (levels : ℕ) (done : List Entry) (entry : Entry) (before mid now : Walk) (more : List Place) → SoFar tree levels done before mid
+so_far_more : (tree : Option Tree) (levels : ℕ) (done : List FolderEntry) (entry : FolderEntry) (before mid now : Walk) (more : List Place) → SoFar tree levels done before mid
     → IfSome tree (λ t. with_inside (met_in t (levels - 1)) (place_of entry) ≡ Some more) → texts_found now ≡ texts_found mid ++ class_files_in more → now.entries + 1 ≡ mid.entries + length more
     → SoFar tree levels (done ++ entry ∷ []) before now
 so_far_more tree levels done entry before mid now more far step found count = record {
   places = far.places ++ more;
-  told = told_more tree levels done entry far.places more far.told step;
+  reported = reported_more tree levels done entry far.places more far.reported step;
   found = found ∙ ap (λ (l : List (List ℕ)). l ++ class_files_in more) far.found ∙ append_assoc (texts_found before) (class_files_in far.places) (class_files_in more)
       ∙ ap (λ (l : List (List ℕ)). texts_found before ++ l) (sym (class_files-append far.places more));
   entries = omega (arith, far.entries, count, length-append done (entry ∷ []), length-append far.places more);
 }
 
-file_told : (tree : Option Tree) (levels : ℕ) (entry : Entry) (before now : Walk) → IsEntryTaken entry before now false → IfSome tree (λ t. with_inside (met_in t (levels - 1)) (place_of entry) ≡ Some (place_of entry ∷ []))
-file_told None levels entry before now taken = tt
-file_told (Some t) levels entry before now taken = ap (option_map (λ (l : List Place). place_of entry ∷ l)) (taken.other refl (met_in t (levels - 1) (string_bytes entry.path)))
+file_reported : (tree : Option Tree) (levels : ℕ) (entry : FolderEntry) (before now : Walk) → IsEntryTaken entry before now false → IfSome tree (λ t. with_inside (met_in t (levels - 1)) (place_of entry) ≡ Some (place_of entry ∷ []))
+file_reported None levels entry before now taken = tt
+file_reported (Some t) levels entry before now taken = ap (option_map (λ (l : List Place). place_of entry ∷ l)) (taken.other refl (met_in t (levels - 1) (string_bytes entry.path)))
 
 -- an entry that is no folder
-pub so_far_file : (tree : Option Tree) (levels : ℕ) (done : List Entry) (entry : Entry) (before mid now : Walk) → SoFar tree levels done before mid → IsEntryTaken entry mid now false → SoFar tree levels (done ++ entry ∷ []) before now
+pub so_far_file : (tree : Option Tree) (levels : ℕ) (done : List FolderEntry) (entry : FolderEntry) (before mid now : Walk) → SoFar tree levels done before mid → IsEntryTaken entry mid now false → SoFar tree levels (done ++ entry ∷ []) before now
 so_far_file tree levels done entry before mid now far taken =
-    so_far_more tree levels done entry before mid now (place_of entry ∷ []) far (file_told tree levels entry mid now taken) taken.found (omega (arith, taken.entries))
+    so_far_more tree levels done entry before mid now (place_of entry ∷ []) far (file_reported tree levels entry mid now taken) taken.found (omega (arith, taken.entries))
 
-folder_told : (tree : Option Tree) (levels : ℕ) (entry : Entry) (places : List Place) → entry.kind ≡ kinds.Folder → IfSome tree (λ t. met_in t (levels - 1) (string_bytes entry.path) ≡ Some places)
+folder_reported : (tree : Option Tree) (levels : ℕ) (entry : FolderEntry) (places : List Place) → entry.kind ≡ kinds.Folder → IfSome tree (λ t. met_in t (levels - 1) (string_bytes entry.path) ≡ Some places)
     → IfSome tree (λ t. with_inside (met_in t (levels - 1)) (place_of entry) ≡ Some (place_of entry ∷ places))
-folder_told None levels entry places is told = tt
-folder_told (Some t) levels entry places is told =
+folder_reported None levels entry places is reported = tt
+folder_reported (Some t) levels entry places is reported =
     let inside = met_in t (levels - 1) (string_bytes entry.path) in
     let same : inside_of entry.kind (has_class_name (string_bytes entry.path)) inside ≡ inside = ap (λ k. inside_of k (has_class_name (string_bytes entry.path)) inside) is in
-    ap (option_map (λ (l : List Place). place_of entry ∷ l)) (same ∙ told)
+    ap (option_map (λ (l : List Place). place_of entry ∷ l)) (same ∙ reported)
 
-no_file : (entry : Entry) → entry.kind ≡ kinds.Folder → class_files_in (place_of entry ∷ []) ≡ []
+no_file : (entry : FolderEntry) → entry.kind ≡ kinds.Folder → class_files_in (place_of entry ∷ []) ≡ []
 no_file entry is = ap (λ k. class_files_in ((string_bytes entry.path, k) ∷ [])) is
 
 -- a folder, and what is met in it
-pub so_far_folder : (tree : Option Tree) (levels : ℕ) (done : List Entry) (entry : Entry) (before mid between now : Walk) → SoFar tree levels done before mid → IsEntryTaken entry mid between true
+pub so_far_folder : (tree : Option Tree) (levels : ℕ) (done : List FolderEntry) (entry : FolderEntry) (before mid between now : Walk) → SoFar tree levels done before mid → IsEntryTaken entry mid between true
     → IsWalked tree (levels - 1) (string_bytes entry.path) between now → SoFar tree levels (done ++ entry ∷ []) before now
 so_far_folder tree levels done entry before mid between now far taken walked =
     let is = taken.folder refl in
@@ -100,7 +100,7 @@ so_far_folder tree levels done entry before mid between now far taken walked =
     let places = place_of entry ∷ walked.places in
     let files : class_files_in places ≡ class_files_in walked.places =
     class_files-append (place_of entry ∷ []) walked.places ∙ ap (λ (l : List (List ℕ)). l ++ class_files_in walked.places) (no_file entry is) in
-    so_far_more tree levels done entry before mid now places far (folder_told tree levels entry walked.places is walked.told)
+    so_far_more tree levels done entry before mid now places far (folder_reported tree levels entry walked.places is walked.reported)
     (walked.found ∙ ap (λ (l : List (List ℕ)). l ++ class_files_in walked.places) none ∙ ap (λ (l : List (List ℕ)). texts_found mid ++ l) (sym files))
     (omega (arith, walked.entries, taken.entries))
 
@@ -209,54 +209,54 @@ met_whole t (suc k) folder entries places some read e =
     let less : suc k - 1 ≡ k = omega arith in
     ap (option_and_then (spread (met_in t k))) read ∙ ap (λ n. spread (met_in t n) entries) (sym less) ∙ e
 
-walked_untold : (levels : ℕ) (folder : List ℕ) (most : ℕ) (entries : FolderEntries) (before first now : Walk) → AreEntries None folder most entries
+walked_unreported : (levels : ℕ) (folder : List ℕ) (most : ℕ) (entries : FolderEntries) (before first now : Walk) → AreEntries None folder most entries
     → texts_found first ≡ texts_found before → first.entries ≡ before.entries + entries.count → SoFar None levels entries.kept.items first now → IsWalked None levels folder before now
-walked_untold levels folder most entries before first now read same count far =
+walked_unreported levels folder most entries before first now read same count far =
     let none : class_files_in (unkept read.places) ≡ [] = ap (map (λ (place : Place). place.0)) (unkept_filtered read.places) in
     let files : class_files_in (far.places ++ unkept read.places) ≡ class_files_in far.places =
     class_files-append far.places (unkept read.places) ∙ ap (λ (l : List (List ℕ)). class_files_in far.places ++ l) none ∙ append-nil (class_files_in far.places) in
     let size : length entries.kept.items ≡ length (filter is_kept read.places) = sym (length-map entries.kept.items place_of) ∙ ap length read.kept in
     record {
       places = far.places ++ unkept read.places;
-      told = tt;
+      reported = tt;
       found = far.found ∙ ap (λ (l : List (List ℕ)). l ++ class_files_in far.places) same ∙ ap (λ (l : List (List ℕ)). texts_found before ++ l) (sym files);
       entries = omega (arith, far.entries, count, read.count, size, unkept_count read.places, length-append far.places (unkept read.places));
     }
 
-walked_told : (t : Tree) (levels : ℕ) (folder : List ℕ) (most : ℕ) (entries : FolderEntries) (before first now : Walk) → 0 < levels → AreEntries (Some t) folder most entries
+walked_reported : (t : Tree) (levels : ℕ) (folder : List ℕ) (most : ℕ) (entries : FolderEntries) (before first now : Walk) → 0 < levels → AreEntries (Some t) folder most entries
     → texts_found first ≡ texts_found before → first.entries ≡ before.entries + entries.count → SoFar (Some t) levels entries.kept.items first now → IsWalked (Some t) levels folder before now
-walked_told t levels folder most entries before first now some read same count far =
+walked_reported t levels folder most entries before first now some read same count far =
     let inside : Tree = met_in t (levels - 1) in
-    let kept : spread (met_in t (levels - 1)) (filter is_kept read.places) ≡ Some far.places = ap (spread (met_in t (levels - 1))) (sym read.kept) ∙ far.told in
+    let kept : spread (met_in t (levels - 1)) (filter is_kept read.places) ≡ Some far.places = ap (spread (met_in t (levels - 1))) (sym read.kept) ∙ far.reported in
     let whole = from_kept read.places (spread (met_in t (levels - 1)) read.places) (spread (met_in t (levels - 1)) (filter is_kept read.places)) far.places (spread_alike (met_in t (levels - 1)) read.places) kept in
     let size : length entries.kept.items ≡ length (filter is_kept read.places) = sym (length-map entries.kept.items place_of) ∙ ap length read.kept in
     record {
       places = whole.0;
-      told = met_whole t levels folder read.places whole.0 some read.told whole.1;
+      reported = met_whole t levels folder read.places whole.0 some read.reported whole.1;
       found = far.found ∙ ap (λ (l : List (List ℕ)). l ++ class_files_in far.places) same ∙ ap (λ (l : List (List ℕ)). texts_found before ++ l) (sym whole.2);
       entries = omega (arith, far.entries, count, read.count, size, whole.3);
     }
 
 pub walked_whole : (tree : Option Tree) (levels : ℕ) (folder : List ℕ) (most : ℕ) (entries : FolderEntries) (before first now : Walk) → 0 < levels → AreEntries tree folder most entries
     → texts_found first ≡ texts_found before → first.entries ≡ before.entries + entries.count → SoFar tree levels entries.kept.items first now → IsWalked tree levels folder before now
-walked_whole None levels folder most entries before first now some read same count far = walked_untold levels folder most entries before first now read same count far
-walked_whole (Some t) levels folder most entries before first now some read same count far = walked_told t levels folder most entries before first now some read same count far
+walked_whole None levels folder most entries before first now some read same count far = walked_unreported levels folder most entries before first now read same count far
+walked_whole (Some t) levels folder most entries before first now some read same count far = walked_reported t levels folder most entries before first now some read same count far
 
 -- ---- the same at equal values
 
-pub taken_as : (entry : Entry) (before now : Walk) (a b : Bool) → a ≡ b → IsEntryTaken entry before now a → IsEntryTaken entry before now b
+pub taken_as : (entry : FolderEntry) (before now : Walk) (a b : Bool) → a ≡ b → IsEntryTaken entry before now a → IsEntryTaken entry before now b
 taken_as entry before now a b same taken = subst (IsEntryTaken entry before now) same taken
 
 pub walked_as : (a b : Option Tree) (levels : ℕ) (x y : List ℕ) (before now : Walk) → a ≡ b → x ≡ y → IsWalked a levels x before now → IsWalked b levels y before now
 walked_as a b levels x y before now same path walked =
     subst (λ l. IsWalked b levels l before now) path (subst (λ (o : Option Tree). IsWalked o levels x before now) same walked)
 
-pub so_far_as : (a b : Option Tree) (levels : ℕ) (xs ys : List Entry) (before now : Walk) → a ≡ b → xs ≡ ys → SoFar a levels xs before now → SoFar b levels ys before now
+pub so_far_as : (a b : Option Tree) (levels : ℕ) (xs ys : List FolderEntry) (before now : Walk) → a ≡ b → xs ≡ ys → SoFar a levels xs before now → SoFar b levels ys before now
 so_far_as a b levels xs ys before now same done far =
-    subst (λ (l : List Entry). SoFar b levels l before now) done (subst (λ (o : Option Tree). SoFar o levels xs before now) same far)
+    subst (λ (l : List FolderEntry). SoFar b levels l before now) done (subst (λ (o : Option Tree). SoFar o levels xs before now) same far)
 
-pub next_entry : (entries : List Entry) (i : ℕ) (entry : Entry) → i < length entries → entry ≡ get_or entries i entry → take i entries ++ entry ∷ [] ≡ take (i + 1) entries
-next_entry entries i entry within is = ap (λ (e : Entry). take i entries ++ e ∷ []) is ∙ sym (take_more entries i entry within)
+pub next_entry : (entries : List FolderEntry) (i : ℕ) (entry : FolderEntry) → i < length entries → entry ≡ get_or entries i entry → take i entries ++ entry ∷ [] ≡ take (i + 1) entries
+next_entry entries i entry within is = ap (λ (e : FolderEntry). take i entries ++ e ∷ []) is ∙ sym (take_more entries i entry within)
 
-pub all_entries : (entries all : List Entry) (i : ℕ) → length entries ≤ i → entries ≡ all → take i entries ≡ all
+pub all_entries : (entries all : List FolderEntry) (i : ℕ) → length entries ≤ i → entries ≡ all → take i entries ≡ all
 all_entries entries all i past same = take_all i entries past ∙ same

@@ -7,7 +7,7 @@ use Rattle.dj_edge.specs.declared.files.ReadError.{ReadError}
 use Rattle.dj_edge.specs.declared.files.ReadError.TheVariants as read_errors
 use Rattle.dj_edge.specs.declared.sink.SinkError.{SinkError}
 use Rattle.dj_edge.specs.declared.sink.SinkError.TheVariants as sink_errors
-use Rattle.dj_edge.specs.trusted.Counts.{IsFront}
+use Rattle.dj_edge.specs.trusted.Counts.{IsPrefix}
 use Rattle.dj_edge.specs.Counts.{one_more}
 
 -- the count goes up by one exactly where a listing failed; at any other answer it doesn't change
@@ -23,7 +23,7 @@ CountsRead before now _ = now ≡ before
 -- all of the bytes are written, or a prefix of them where a write failed
 abbrev pub Puts : {T : Type 0} → Option (List ℕ) → Option (List ℕ) → List ℕ → Result T SinkError → Type 0
 Puts old new bytes (Ok done) = Appends old new bytes
-Puts old new bytes (Err e) = (front : List ℕ) × IsFront front bytes × Appends old new front
+Puts old new bytes (Err e) = (prefix : List ℕ) × IsPrefix prefix bytes × Appends old new prefix
 
 -- the count goes up by one exactly where a write failed; at any other answer it doesn't change
 abbrev pub CountsWrite : {T : Type 0} → ℕ → ℕ → Result T SinkError → Type 0

@@ -3,15 +3,15 @@ use Rattle.std.specs.Prelude.{◌≡◌, ℕ, ◌+◌, ◌-◌, ◌<◌, ◌≤�
 use Rattle.std.specs.Io.KnownBytes.{Consumes, IsAtEnd}
 use Rattle.dj_edge.specs.declared.files.ReadError.{ReadError}
 use Rattle.dj_edge.specs.declared.files.ReadError.TheVariants as read_errors
-use Rattle.dj_edge.specs.declared.streams.Found.{Found}
-use Rattle.dj_edge.specs.declared.streams.Found.TheVariants as founds
+use Rattle.dj_edge.specs.declared.streams.ReadFound.{ReadFound}
+use Rattle.dj_edge.specs.declared.streams.ReadFound.TheVariants as founds
 
 -- at most this many bytes were taken from the beginning of the stream
 abbrev pub TakesAtMost : Option (List ℕ) → Option (List ℕ) → ℕ → Type 0
 TakesAtMost old new most = (taken : List ℕ) × (length taken ≤ most) × Consumes old new taken
 
 -- bytes of the stream were added to those before, up to one more than this many in all; or the stream is at its end
-abbrev pub ReadsMore : Option (List ℕ) → Option (List ℕ) → List ℕ → List ℕ → ℕ → Result Found ReadError → Type 0
+abbrev pub ReadsMore : Option (List ℕ) → Option (List ℕ) → List ℕ → List ℕ → ℕ → Result ReadFound ReadError → Type 0
 ReadsMore old new before now most (Ok founds.Some) = (length now ≤ most + 1) × ((taken : List ℕ) × (now ≡ before ++ taken) × Consumes old new taken)
 ReadsMore old new before now most (Ok founds.End) = (now ≡ before) × IsAtEnd new × Consumes old new []
 ReadsMore old new before now most (Err read_errors.TooLong) = ⊥

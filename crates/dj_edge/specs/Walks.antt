@@ -3,7 +3,7 @@ use Rattle.std.specs.Prelude.{◌≡◌, ℕ, zero, suc, ◌+◌, ◌<◌, ◌�
 use Rattle.std.specs.List.{ends_with}
 use Rattle.dj_edge.specs.declared.files.ListError.{ListError}
 use Rattle.dj_edge.specs.declared.files.ListError.TheVariants as list_errors
-use Rattle.dj_edge.specs.declared.walk.Entry.{Entry}
+use Rattle.dj_edge.specs.declared.walk.FolderEntry.{FolderEntry}
 use Rattle.dj_edge.specs.declared.walk.EntryKind.{EntryKind}
 use Rattle.dj_edge.specs.declared.walk.EntryKind.TheVariants as kinds
 use Rattle.dj_edge.specs.declared.walk.FolderEntries.{FolderEntries}
@@ -13,7 +13,7 @@ use Rattle.dj_edge.specs.declared.walk.Walk.{Walk}
 abbrev pub Place : Type 0
 Place = List ℕ × EntryKind
 
-abbrev pub place_of : Entry → Place
+abbrev pub place_of : FolderEntry → Place
 place_of entry = (string_bytes entry.path, entry.kind)
 
 -- the entries of the folder under a path. None where it can't be read to its end: it isn't there, or one of its entries can't be looked at
@@ -38,7 +38,7 @@ with_inside inside place = option_map (λ places. place ∷ places) (inside_of p
 -- entries one after the other, each followed by what is met inside it
 unfoldable pub spread : Tree → List Place → Option (List Place)
 spread inside [] = Some []
-spread inside (place ∷ places) = option_and_then (λ front. option_map (λ rest. front ++ rest) (spread inside places)) (with_inside inside place)
+spread inside (place ∷ places) = option_and_then (λ prefix. option_map (λ rest. prefix ++ rest) (spread inside places)) (with_inside inside place)
 
 -- what is met in a folder and in this many levels of folders, of which it is the first. None where one of them can't be read, or where there is a
 -- deeper folder
@@ -63,7 +63,7 @@ IsOpened tree left folder (Err list_errors.Failed) = IfSome tree (λ t. t folder
 IsOpened tree left folder (Err list_errors.Memory) = ⊤
 
 -- the first of the entries that were left; or that none was left; or that the folder can't be read to its end
-abbrev pub IsNextEntry : Option Tree → Option (List Place) → Option (List Place) → Result (Option Entry) ListError → Type 0
+abbrev pub IsNextEntry : Option Tree → Option (List Place) → Option (List Place) → Result (Option FolderEntry) ListError → Type 0
 IsNextEntry tree old new (Ok (Some entry)) = IfSome tree (λ t. old ≡ option_map (λ places. place_of entry ∷ places) new)
 IsNextEntry tree old new (Ok None) = IfSome tree (λ t. old ≡ Some [])
 IsNextEntry tree old new (Err list_errors.Failed) = IfSome tree (λ t. old ≡ None)
@@ -72,7 +72,7 @@ IsNextEntry tree old new (Err list_errors.Memory) = ⊤
 -- the entries that matter were kept, and all were counted, at most this many
 pub record AreEntries (tree : Option Tree) (folder : List ℕ) (most : ℕ) (entries : FolderEntries) : Type 0 where
   pub places : List Place
-  pub told : IfSome tree (λ t. t folder ≡ Some places)
+  pub reported : IfSome tree (λ t. t folder ≡ Some places)
   pub kept : map place_of entries.kept.items ≡ filter is_kept places
   pub count : entries.count ≡ length places
   pub few : entries.count ≤ most
@@ -97,14 +97,14 @@ abbrev pub texts_found : Walk → List (List ℕ)
 texts_found walk = map string_bytes walk.found.items
 
 -- whether the entry is a folder; if it isn't, nothing is met inside it; and where it is a class file, it was found
-pub record IsEntryTaken (entry : Entry) (before now : Walk) (is_folder : Bool) : Type 0 where
+pub record IsEntryTaken (entry : FolderEntry) (before now : Walk) (is_folder : Bool) : Type 0 where
   pub folder : is_folder ≡ true → entry.kind ≡ kinds.Folder
   pub other : is_folder ≡ false → (inside : Option (List Place)) → inside_of entry.kind (has_class_name (string_bytes entry.path)) inside ≡ Some []
   pub found : texts_found now ≡ texts_found before ++ class_files_in (place_of entry ∷ [])
   pub entries : now.entries ≡ before.entries
 
 -- the entry was taken; or it has a class file's name and is neither a file nor a folder
-abbrev pub IsTaken : Entry → Walk → Walk → Result Bool ListError → Type 0
+abbrev pub IsTaken : FolderEntry → Walk → Walk → Result Bool ListError → Type 0
 IsTaken entry before now (Ok is_folder) = IsEntryTaken entry before now is_folder
 IsTaken entry before now (Err list_errors.Failed) = (inside : Option (List Place)) → inside_of entry.kind (has_class_name (string_bytes entry.path)) inside ≡ None
 IsTaken entry before now (Err list_errors.Memory) = ⊤
@@ -112,7 +112,7 @@ IsTaken entry before now (Err list_errors.Memory) = ⊤
 -- everything in the folder was met, down to this many levels
 pub record IsWalked (tree : Option Tree) (levels : ℕ) (folder : List ℕ) (before now : Walk) : Type 0 where
   pub places : List Place
-  pub told : IfSome tree (λ t. met_in t levels folder ≡ Some places)
+  pub reported : IfSome tree (λ t. met_in t levels folder ≡ Some places)
   pub found : texts_found now ≡ texts_found before ++ class_files_in places
   pub entries : now.entries ≡ before.entries + length places
 
@@ -138,7 +138,7 @@ met_below tree folder = met_in tree 65 (folder ++ codes "/")
 -- 1,048,576 entries, and the class files among them were found
 pub record IsWalk (tree : Option Tree) (folder : List ℕ) (found : List (List ℕ)) : Type 0 where
   pub places : List Place
-  pub told : IfSome tree (λ t. met_below t folder ≡ Some places)
+  pub reported : IfSome tree (λ t. met_below t folder ≡ Some places)
   pub few : length places ≤ most_entries
   pub class_files : found ≡ class_files_in places
 

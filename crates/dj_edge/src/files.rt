@@ -67,7 +67,7 @@ impl From<AllocError> for ReadError {
 
 /// A store of files. Its calls only read.
 pub trait Files {
-    ghost use Rattle.dj_edge.specs.trusted.Calls.{IsListing, ListAsks, ListCounts, ReadTells, ReadAsks, ReadCounts};
+    ghost use Rattle.dj_edge.specs.trusted.Calls.{IsListing, ListAsks, ListCounts, AnswersRead, ReadAsks, ReadCounts};
 
     /// What the store holds, where its contents are known. No call changes it.
     ghost held: { Self → Option Held };
@@ -93,5 +93,5 @@ pub trait Files {
         ensures asks { ReadAsks (asked self.old) (asked self.new) path.now result }
         ensures never_falls { faults self.old ≤ faults self.new }
         ensures counts { ReadCounts (faults self.old) (faults self.new) result }
-        ensures tells { ReadTells (λ bytes. bytes.items) (held self.old) path.now most result };
+        ensures says { AnswersRead (λ bytes. bytes.items) (held self.old) path.now most result };
 }

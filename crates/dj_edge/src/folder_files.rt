@@ -1,6 +1,6 @@
 //! The class files and the bytes of files in folders, as a store of files.
 ghost use Rattle.std.specs.Prelude.{◌≡◌, ◌≤◌, [], ◌∷◌, ◌++◌, None, IfOk, OnOk, OnErr, map, string_bytes};
-ghost use Rattle.dj_edge.specs.trusted.Calls.{IsListing, ListAsks, ListCounts, ReadTells, ReadAsks, ReadCounts};
+ghost use Rattle.dj_edge.specs.trusted.Calls.{IsListing, ListAsks, ListCounts, AnswersRead, ReadAsks, ReadCounts};
 ghost use Rattle.dj_edge.specs.Calls.{CountsListing, CountsRead};
 ghost use Rattle.dj_edge.specs.Listings.{ListsFolder};
 ghost use Rattle.dj_edge.specs.Reads.{ReadsFile};
@@ -79,7 +79,7 @@ impl<S: Folders + OpensFiles + Drop> Files for FolderFiles<S> {
         ensures never_falls { ⟦<FolderFiles<S> as Files>⟧.faults self.old ≤ ⟦<FolderFiles<S> as Files>⟧.faults self.new }
         ensures counts { ReadCounts (⟦<FolderFiles<S> as Files>⟧.faults self.old) (⟦<FolderFiles<S> as Files>⟧.faults self.new) result }
         ensures counts_one { CountsRead (⟦<FolderFiles<S> as Files>⟧.faults self.old) (⟦<FolderFiles<S> as Files>⟧.faults self.new) result }
-        ensures tells { ReadTells (λ bytes. bytes.items) None path.now most result }
+        ensures says { AnswersRead (λ bytes. bytes.items) None path.now most result }
         ensures reads { ReadsFile (λ bytes. bytes.items) (S.contents (system_of self.old)) path.now most result }
     {
         let read = read_file(alloc, &mut self.system, path, most);

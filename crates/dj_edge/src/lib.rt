@@ -27,4 +27,4 @@ pub use order::Order;
 pub use sink::{Sink, SinkError, put_all};
 pub use stored::paths_differ;
 pub use streams::{read_bounded, read_error, write_piece};
-pub use walk::{Entry, EntryKind, Folders, files_below};
+pub use walk::{EntryKind, FolderEntry, Folders, files_below};

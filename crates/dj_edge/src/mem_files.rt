@@ -63,7 +63,7 @@ impl Files for MemFiles {
     ghost use Rattle.std.specs.Prelude.{◌≡◌, ◌≤◌, Some, List, ℕ, Option, Result, IfOk, map, string_bytes};
     ghost use Rattle.dj_edge.specs.trusted.Held.{Held};
     ghost use Rattle.dj_edge.specs.Held.{held_of};
-    ghost use Rattle.dj_edge.specs.trusted.Calls.{IsListing, ListAsks, ListCounts, ReadTells, ReadAsks, ReadCounts};
+    ghost use Rattle.dj_edge.specs.trusted.Calls.{IsListing, ListAsks, ListCounts, AnswersRead, ReadAsks, ReadCounts};
     ghost use Rattle.dj_edge.specs.Calls.{CountsListing, CountsRead};
     ghost use Rattle.dj_edge.specs.Stores.{files_of, faults_of, asked_of, IsOneCall, Lists, Reads};
 
@@ -101,7 +101,7 @@ impl Files for MemFiles {
         ensures never_falls { faults_of self.old ≤ faults_of self.new }
         ensures counts { ReadCounts (faults_of self.old) (faults_of self.new) result }
         ensures counts_one { CountsRead (faults_of self.old) (faults_of self.new) result }
-        ensures tells { ReadTells (λ bytes. bytes.items) (Some (held_of (files_of self.old))) path.now most result }
+        ensures says { AnswersRead (λ bytes. bytes.items) (Some (held_of (files_of self.old))) path.now most result }
         ensures one_call { IsOneCall self.old self.new }
         ensures answers { Reads self.old self.new result }
     {

@@ -50,7 +50,7 @@ const CHUNK: usize = 8_192;
 
 /// What one read found.
 #[derive(Clone, Copy)]
-pub enum Found {
+pub enum ReadFound {
     /// There may be more.
     Some,
     /// The end.
@@ -58,7 +58,11 @@ pub enum Found {
 }
 
 /// One read of bytes, which are added to those that were read before, up to one more than `most` in all.
-fn read_more<R: Read>(reader: &mut R, bytes: &mut Vec<u8>, most: u64) -> Result<Found, ReadError>
+fn read_more<R: Read>(
+    reader: &mut R,
+    bytes: &mut Vec<u8>,
+    most: u64,
+) -> Result<ReadFound, ReadError>
     requires { length bytes.old.items ≤ most }
     ensures { ReadsMore (R.remaining reader.old) (R.remaining reader.new) bytes.old.items bytes.new.items most result }
 {
@@ -70,12 +74,12 @@ fn read_more<R: Read>(reader: &mut R, bytes: &mut Vec<u8>, most: u64) -> Result<
         CHUNK
     };
     match reader.read(&mut chunk[..wanted]) {
-        Ok(0) => Ok(Found::End),
+        Ok(0) => Ok(ReadFound::End),
         Ok(taken) => {
             bytes.extend_from_slice(&chunk[..taken])?;
-            Ok(Found::Some)
+            Ok(ReadFound::Some)
         }
-        Err(error) if error.kind() == ErrorKind::Interrupted => Ok(Found::Some),
+        Err(error) if error.kind() == ErrorKind::Interrupted => Ok(ReadFound::Some),
         Err(error) => Err(read_error(error)),
     }
 }
@@ -94,12 +98,12 @@ pub fn read_bounded<R: Read>(
     let mut bytes = Vec::with_capacity(alloc, expected.min(most) as usize)?;
     for _ in 0..u64::MAX {
         match read_more(reader, &mut bytes, most)? {
-            Found::Some => {
+            ReadFound::Some => {
                 if bytes.len() as u64 > most {
                     return Err(ReadError::TooLong);
                 }
             }
-            Found::End => {
+            ReadFound::End => {
                 bytes.shrink_to_fit();
                 return Ok(bytes);
             }

@@ -25,14 +25,14 @@ pub enum EntryKind {
 
 /// An entry of a folder.
 #[derive(Drop)]
-pub struct Entry {
+pub struct FolderEntry {
     /// Its path, which begins with the folder's.
     pub path: String,
     /// What it is.
     pub kind: EntryKind,
 }
 
-impl Entry {
+impl FolderEntry {
     ghost use Rattle.std.specs.Prelude.{◌≡◌};
     ghost use Rattle.dj_edge.specs.Walks.{place_of, is_kept};
 
@@ -61,7 +61,7 @@ pub trait Folders {
         ensures opens { IsOpened (tree self.old) (left self.new) folder.now result };
 
     /// The next entry of the open folder; none at its end. It fails where the entry can't be looked at or its name is not UTF-8.
-    fn next(&mut self, alloc: Global) -> Result<Option<Entry>, ListError>
+    fn next(&mut self, alloc: Global) -> Result<Option<FolderEntry>, ListError>
         ensures unchanged { tree self.new ≡ tree self.old }
         ensures reads { IsNextEntry (tree self.old) (left self.old) (left self.new) result };
 }
@@ -70,13 +70,13 @@ pub trait Folders {
 #[derive(Drop)]
 struct FolderEntries {
     /// The folders in it, and what has the name of a class file.
-    kept: Vec<Entry>,
+    kept: Vec<FolderEntry>,
     /// How many entries it has.
     count: u32,
 }
 
 /// Adds an entry where a walk keeps it.
-fn keep(kept: &mut Vec<Entry>, entry: Entry) -> Result<(), ListError>
+fn keep(kept: &mut Vec<FolderEntry>, entry: FolderEntry) -> Result<(), ListError>
     ensures kept { OnOk result (map place_of kept.new.items ≡ map place_of kept.old.items ++ filter is_kept (place_of entry ∷ [])) }
     ensures no_fault { IfErr result (λ error. error ≡ Memory) }
 {
@@ -117,7 +117,7 @@ struct Walk {
 
 impl Walk {
     /// Takes an entry, and returns whether it is a folder. A class file is added to those found; anything else that has the name of one makes the walk fail.
-    fn take(&mut self, entry: &Entry) -> Result<bool, ListError>
+    fn take(&mut self, entry: &FolderEntry) -> Result<bool, ListError>
         ensures few { self.new.entries ≡ self.old.entries }
         ensures taken { IsTaken entry.now self.old self.new result }
     {

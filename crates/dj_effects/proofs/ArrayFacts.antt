@@ -16,30 +16,30 @@ use Rattle.dj_heap.specs.declared.object.Made.TheVariants as made
 use Rattle.dj_effects.specs.declared.way.Way.TheVariants as ways
 use Rattle.dj_effects.specs.declared.way.Flow.{Flow}
 use Rattle.dj_effects.specs.declared.way.Flow.TheVariants as goes
-use Rattle.dj_effects.specs.Arrays.{array_told, place_at, place_of}
+use Rattle.dj_effects.specs.Arrays.{array_reported, place_at, place_of}
 
 -- ---- what a reference is
 
-abbrev pub told_array : Element → ℕ → Result (Element × ℕ) Flow
-told_array element n = Ok (element, n)
+abbrev pub reported_array : Element → ℕ → Result (Element × ℕ) Flow
+reported_array element n = Ok (element, n)
 
 array_of : (o : Option (Object ℕ)) (element : Element) (n : ℕ) → option_map made_as o ≡ Some (made.Array element) → option_map object_length o ≡ Some n
-    → told_array element n ≡ array_told (array_in o)
+    → reported_array element n ≡ array_reported (array_in o)
 array_of None element n kind count = absurd cc
 array_of (Some (Instance class fields)) element n kind count = absurd cc
 array_of (Some (Array class of contents)) element n kind count =
     let same_element : of ≡ element = cc in
     let same_count : length contents ≡ n = cc in
-    ap (λ (e : Element). told_array e n) (sym same_element) ∙ ap (told_array of) (sym same_count)
+    ap (λ (e : Element). reported_array e n) (sym same_element) ∙ ap (reported_array of) (sym same_count)
 array_of (Some (Text class units)) element n kind count = absurd cc
 
-instance_of : (o : Option (Object ℕ)) → option_map made_as o ≡ Some made.Instance → Err goes.Link ≡ array_told (array_in o)
+instance_of : (o : Option (Object ℕ)) → option_map made_as o ≡ Some made.Instance → Err goes.Link ≡ array_reported (array_in o)
 instance_of None kind = absurd cc
 instance_of (Some (Instance class fields)) kind = refl
 instance_of (Some (Array class of contents)) kind = absurd cc
 instance_of (Some (Text class units)) kind = refl
 
-text_of : (o : Option (Object ℕ)) → option_map made_as o ≡ Some made.Text → Err goes.Link ≡ array_told (array_in o)
+text_of : (o : Option (Object ℕ)) → option_map made_as o ≡ Some made.Text → Err goes.Link ≡ array_reported (array_in o)
 text_of None kind = absurd cc
 text_of (Some (Instance class fields)) kind = refl
 text_of (Some (Array class of contents)) kind = absurd cc
@@ -56,18 +56,18 @@ not_null r some = not_null_if (nat_eq r 0) r refl some
 at_object : (h : LimitedHeap) (r : ℕ) → (r ≡ 0 → ⊥) → array_at h.heap r ≡ array_in (object_in h r)
 at_object h r some = ap (λ (b : Bool). if b then model.Null else array_in (object_in h r)) (not_null r some)
 
-pub found_null : (h : LimitedHeap) (r : ℕ) → r ≡ 0 → Err (goes.Goes (ways.Raise raises.NullPointer)) ≡ array_told (array_at h.heap r)
-found_null h r null = ap (λ (r : ℕ). array_told (array_at h.heap r)) (sym null)
+pub found_null : (h : LimitedHeap) (r : ℕ) → r ≡ 0 → Err (goes.Goes (ways.Raise raises.NullPointer)) ≡ array_reported (array_at h.heap r)
+found_null h r null = ap (λ (r : ℕ). array_reported (array_at h.heap r)) (sym null)
 
 pub found_array : (h : LimitedHeap) (r : ℕ) (element : Element) (n : ℕ) → (r ≡ 0 → ⊥) → option_map made_as (object_in h r) ≡ Some (made.Array element)
-    → option_map object_length (object_in h r) ≡ Some n → told_array element n ≡ array_told (array_at h.heap r)
-found_array h r element n some kind count = array_of (object_in h r) element n kind count ∙ ap array_told (sym (at_object h r some))
+    → option_map object_length (object_in h r) ≡ Some n → reported_array element n ≡ array_reported (array_at h.heap r)
+found_array h r element n some kind count = array_of (object_in h r) element n kind count ∙ ap array_reported (sym (at_object h r some))
 
-pub found_instance : (h : LimitedHeap) (r : ℕ) → (r ≡ 0 → ⊥) → option_map made_as (object_in h r) ≡ Some made.Instance → Err goes.Link ≡ array_told (array_at h.heap r)
-found_instance h r some kind = instance_of (object_in h r) kind ∙ ap array_told (sym (at_object h r some))
+pub found_instance : (h : LimitedHeap) (r : ℕ) → (r ≡ 0 → ⊥) → option_map made_as (object_in h r) ≡ Some made.Instance → Err goes.Link ≡ array_reported (array_at h.heap r)
+found_instance h r some kind = instance_of (object_in h r) kind ∙ ap array_reported (sym (at_object h r some))
 
-pub found_text : (h : LimitedHeap) (r : ℕ) → (r ≡ 0 → ⊥) → option_map made_as (object_in h r) ≡ Some made.Text → Err goes.Link ≡ array_told (array_at h.heap r)
-found_text h r some kind = text_of (object_in h r) kind ∙ ap array_told (sym (at_object h r some))
+pub found_text : (h : LimitedHeap) (r : ℕ) → (r ≡ 0 → ⊥) → option_map made_as (object_in h r) ≡ Some made.Text → Err goes.Link ≡ array_reported (array_at h.heap r)
+found_text h r some kind = text_of (object_in h r) kind ∙ ap array_reported (sym (at_object h r some))
 
 past : (objects : List (Object ℕ)) (i : ℕ) → length objects ≤ i → slice_get objects i ≡ None
 past [] i e = refl
@@ -77,10 +77,10 @@ past (o ∷ objects) (suc i) e = past objects i (omega (arith, e))
 number_there : (h : LimitedHeap) (r : ℕ) → (r ≡ 0 → ⊥) → object_in h r ≡ slice_get h.heap.objects (r - 1)
 number_there h r some = ap (λ (b : Bool). if b then None else slice_get h.heap.objects (r - 1)) (not_null r some)
 
-pub found_past : (h : LimitedHeap) (r : ℕ) → (r ≡ 0 → ⊥) → length h.heap.objects < r → Err goes.Link ≡ array_told (array_at h.heap r)
+pub found_past : (h : LimitedHeap) (r : ℕ) → (r ≡ 0 → ⊥) → length h.heap.objects < r → Err goes.Link ≡ array_reported (array_at h.heap r)
 found_past h r some e =
     let none : object_in h r ≡ None = number_there h r some ∙ past h.heap.objects (r - 1) (omega (arith, e)) in
-    ap (λ o. array_told (array_in o)) (sym none) ∙ ap array_told (sym (at_object h r some))
+    ap (λ o. array_reported (array_in o)) (sym none) ∙ ap array_reported (sym (at_object h r some))
 
 pub inside : {A : Type 0} (items : List A) (i : ℕ) → i < length items → IsSome (slice_get items i)
 inside [] i e = absurd (omega (arith, e))
@@ -123,7 +123,7 @@ reached_array access (pos i) class element contents place true reached e =
     within_array access i class element contents place (nat_lt i (length contents)) reached refl e
 reached_array access (negsuc i) class element contents place true reached e = absurd cc
 
-pub place_is : (access : Access) (index : ℤ) (found : Found ℕ) (place : Element × ℕ) → Ok place ≡ place_of access index (array_told found) → IsPlace access index found place
+pub place_is : (access : Access) (index : ℤ) (found : Found ℕ) (place : Element × ℕ) → Ok place ≡ place_of access index (array_reported found) → IsPlace access index found place
 place_is access index model.Null place e = absurd cc
 place_is access index model.NoArray place e = absurd cc
 place_is access index (model.IsArray class element contents) place e = reached_array access index class element contents place (reaches access element) refl e
@@ -143,7 +143,7 @@ pub array_there : (h : LimitedHeap) (r class : ℕ) (element : Element) (content
 array_there h r class element contents e = array_if (nat_eq r 0) (object_in h r) class element contents e
 
 pub element_there : (h : LimitedHeap) (r : ℕ) (access : Access) (index : ℤ) (element : Element) (at : ℕ)
-    → Ok (element, at) ≡ place_of access index (array_told (array_at h.heap r)) → IsSome (element_in h r at)
+    → Ok (element, at) ≡ place_of access index (array_reported (array_at h.heap r)) → IsSome (element_in h r at)
 element_there h r access index element at e =
     let place = place_is access index (array_at h.heap r) (element, at) e in
     let there : object_in h r ≡ Some (Array place.class element place.contents) = array_there h r place.class element place.contents place.array in

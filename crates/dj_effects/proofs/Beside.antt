@@ -8,20 +8,20 @@ use Rattle.dj_model.specs.trusted.Arrays.{Found, reaches}
 use Rattle.dj_stack.specs.Frames.{StackFrame, top_operands}
 use Rattle.dj_effects.specs.declared.way.Flow.{Flow}
 use Rattle.dj_effects.specs.declared.way.Flow.TheVariants as goes
-use Rattle.dj_effects.specs.Arrays.{array_told, outside, place_at, place_of}
-use Rattle.dj_effects.specs.DoesOnHeap.{told_beside}
-use Rattle.dj_effects.proofs.ArrayFacts.{told_array}
+use Rattle.dj_effects.specs.Arrays.{array_reported, outside, place_at, place_of}
+use Rattle.dj_effects.specs.DoesOnHeap.{reported_beside}
+use Rattle.dj_effects.proofs.ArrayFacts.{reported_array}
 
 abbrev Beside : List StackFrame → List StackFrame → Result (Element × ℕ) Flow → Type 0
 Beside old new (Ok place) = ⊤
-Beside old new (Err flow) = told_beside old new flow ≡ top_operands old
+Beside old new (Err flow) = reported_beside old new flow ≡ top_operands old
 
-array_beside : (old new : List StackFrame) (found : Found ℕ) → Beside old new (array_told found)
+array_beside : (old new : List StackFrame) (found : Found ℕ) → Beside old new (array_reported found)
 array_beside old new model.Null = refl
 array_beside old new model.NoArray = refl
 array_beside old new (model.IsArray class element contents) = tt
 
-within_beside : (old new : List StackFrame) (b : Bool) (element : Element) (i : ℕ) → Beside old new (if b then told_array element i else Err outside)
+within_beside : (old new : List StackFrame) (b : Bool) (element : Element) (i : ℕ) → Beside old new (if b then reported_array element i else Err outside)
 within_beside old new true element i = tt
 within_beside old new false element i = refl
 
@@ -37,9 +37,9 @@ place_beside : (old new : List StackFrame) (access : Access) (index : ℤ) (foun
 place_beside old new access index (Ok found) h = if_beside old new (reaches access found.0) index found
 place_beside old new access index (Err flow) h = h
 
-pub told_before : (old new : List StackFrame) (access : Access) (index : ℤ) (found : Found ℕ) (flow : Flow) → Err flow ≡ place_of access index (array_told found)
-    → told_beside old new flow ≡ top_operands old
-told_before old new access index found flow e = subst (Beside old new) (sym e) (place_beside old new access index (array_told found) (array_beside old new found))
+pub reported_before : (old new : List StackFrame) (access : Access) (index : ℤ) (found : Found ℕ) (flow : Flow) → Err flow ≡ place_of access index (array_reported found)
+    → reported_beside old new flow ≡ top_operands old
+reported_before old new access index found flow e = subst (Beside old new) (sym e) (place_beside old new access index (array_reported found) (array_beside old new found))
 
-pub length_before : (old new : List StackFrame) (found : Found ℕ) (flow : Flow) → Err flow ≡ array_told found → told_beside old new flow ≡ top_operands old
+pub length_before : (old new : List StackFrame) (found : Found ℕ) (flow : Flow) → Err flow ≡ array_reported found → reported_beside old new flow ≡ top_operands old
 length_before old new found flow e = subst (Beside old new) (sym e) (array_beside old new found)

@@ -75,17 +75,17 @@ not_run_so e = absurd cc
 
 -- ---- the parts of an effect
 
-abbrev operands_told : Option Values → List Value
-operands_told None = []
-operands_told (Some v) = v.operands
+abbrev operands_reported : Option Values → List Value
+operands_reported None = []
+operands_reported (Some v) = v.operands
 
-abbrev locals_told : Option Values → List (Option Value)
-locals_told None = []
-locals_told (Some v) = v.locals
+abbrev locals_reported : Option Values → List (Option Value)
+locals_reported None = []
+locals_reported (Some v) = v.locals
 
-abbrev way_told : Option Values → states.Way
-way_told None = states.Next
-way_told (Some v) = v.way
+abbrev way_reported : Option Values → states.Way
+way_reported None = states.Next
+way_reported (Some v) = v.way
 
 -- ---- effects on values
 
@@ -104,14 +104,14 @@ unfolding on_values compute int_wrap
 subtracted = record { effect = refl; frames = record { count = refl; method = refl; room = refl; below = refl }; number = refl }
 
 swapped_apart : Some (left [] (values.Int (pos 5) ∷ []) states.Next) ≡ Some (left [] (values.Int (negsuc 4) ∷ []) states.Next) → ⊥
-swapped_apart e = let same : values.Int (pos 5) ∷ [] ≡ values.Int (negsuc 4) ∷ [] = ap operands_told e in absurd cc
+swapped_apart e = let same : values.Int (pos 5) ∷ [] ≡ values.Int (negsuc 4) ∷ [] = ap operands_reported e in absurd cc
 
 swapped : Does (model.Compute (model.Subtract kinds.Int)) (frames 7 [] two) (frames 7 [] (values.Int (negsuc 4) ∷ [])) (Some ways.Next) → ⊥
 unfolding on_values compute int_wrap
 swapped does = swapped_apart does.effect
 
 not_taken_apart : Some (left [] (values.Int (pos 5) ∷ []) states.Next) ≡ Some (left [] (values.Int (pos 5) ∷ values.Int (pos 9) ∷ []) states.Next) → ⊥
-not_taken_apart e = let same : values.Int (pos 5) ∷ [] ≡ values.Int (pos 5) ∷ values.Int (pos 9) ∷ [] = ap operands_told e in absurd cc
+not_taken_apart e = let same : values.Int (pos 5) ∷ [] ≡ values.Int (pos 5) ∷ values.Int (pos 9) ∷ [] = ap operands_reported e in absurd cc
 
 not_taken : Does (model.Compute (model.Subtract kinds.Int)) (frames 7 [] two) (frames 7 [] (values.Int (pos 5) ∷ values.Int (pos 9) ∷ [])) (Some ways.Next) → ⊥
 unfolding on_values compute int_wrap
@@ -126,7 +126,7 @@ unfolding on_values compute int_wrap
 no_effect does = no_effect_apart does.effect
 
 elsewhere_apart : Some (left [] (values.Int (pos 5) ∷ []) states.Next) ≡ Some (left [] (values.Int (pos 5) ∷ []) (states.To 8)) → ⊥
-elsewhere_apart e = let same : states.Next ≡ states.To 8 = ap way_told e in absurd cc
+elsewhere_apart e = let same : states.Next ≡ states.To 8 = ap way_reported e in absurd cc
 
 elsewhere : Does (model.Compute (model.Subtract kinds.Int)) (frames 7 [] two) (frames 7 [] (values.Int (pos 5) ∷ [])) (Some (ways.To 8)) → ⊥
 unfolding on_values compute int_wrap
@@ -137,7 +137,7 @@ moved_on does = let e = does.number in absurd cc
 
 -- locals are compared too
 other_local_apart : Some (left (Some (values.Int (pos 4)) ∷ []) (values.Int (pos 9) ∷ []) states.Next) ≡ Some (left (Some (values.Int (pos 9)) ∷ []) (values.Int (pos 9) ∷ []) states.Next) → ⊥
-other_local_apart e = let same : Some (values.Int (pos 4)) ∷ [] ≡ Some (values.Int (pos 9)) ∷ [] = ap locals_told e in absurd cc
+other_local_apart e = let same : Some (values.Int (pos 4)) ∷ [] ≡ Some (values.Int (pos 9)) ∷ [] = ap locals_reported e in absurd cc
 
 other_local : Does (model.Store kinds.Int 0) (frames 7 (None ∷ []) two) (frames 7 (Some (values.Int (pos 9)) ∷ []) (values.Int (pos 9) ∷ [])) (Some ways.Next) → ⊥
 unfolding on_values
@@ -149,7 +149,7 @@ unfolding on_values
 long_stored = record { effect = refl; frames = record { count = refl; method = refl; room = refl; below = refl }; number = refl }
 
 long_in_one_slot_apart : Some (left (Some (values.Long (pos 9)) ∷ None ∷ []) [] states.Next) ≡ Some (left (Some (values.Long (pos 9)) ∷ Some (values.Int (pos 2)) ∷ []) [] states.Next) → ⊥
-long_in_one_slot_apart e = let same : Some (values.Long (pos 9)) ∷ None ∷ [] ≡ Some (values.Long (pos 9)) ∷ Some (values.Int (pos 2)) ∷ [] = ap locals_told e in absurd cc
+long_in_one_slot_apart e = let same : Some (values.Long (pos 9)) ∷ None ∷ [] ≡ Some (values.Long (pos 9)) ∷ Some (values.Int (pos 2)) ∷ [] = ap locals_reported e in absurd cc
 
 long_in_one_slot : Does (model.Store kinds.Long 0) (frames 7 (None ∷ Some (values.Int (pos 2)) ∷ []) (values.Long (pos 9) ∷ []))
     (frames 7 (Some (values.Long (pos 9)) ∷ Some (values.Int (pos 2)) ∷ []) []) (Some ways.Next) → ⊥
@@ -162,7 +162,7 @@ unfolding on_values compute
 divided left = record { effect = refl; frames = record { count = refl; method = refl; room = refl; below = refl }; number = refl }
 
 divided_on_apart : Some (left [] (values.Int (pos 0) ∷ values.Int (pos 9) ∷ []) (states.Raise raises.Arithmetic)) ≡ Some (left [] (values.Int (pos 0) ∷ []) states.Next) → ⊥
-divided_on_apart e = let same : states.Raise raises.Arithmetic ≡ states.Next = ap way_told e in absurd cc
+divided_on_apart e = let same : states.Raise raises.Arithmetic ≡ states.Next = ap way_reported e in absurd cc
 
 divided_on : Does (model.Compute (model.Divide kinds.Int)) (frames 7 [] (values.Int (pos 0) ∷ values.Int (pos 9) ∷ [])) (frames 7 [] (values.Int (pos 0) ∷ [])) (Some ways.Next) → ⊥
 unfolding on_values compute
@@ -178,7 +178,7 @@ unfolding on_values
 returned = record { effect = refl; frames = record { count = refl; method = refl; room = refl; below = refl }; number = refl }
 
 returned_another_apart : Some (left [] (values.Int (pos 9) ∷ []) (states.Back (Some (values.Int (pos 4))))) ≡ Some (left [] (values.Int (pos 9) ∷ []) (states.Back (Some (values.Int (pos 9))))) → ⊥
-returned_another_apart e = let same : states.Back (Some (values.Int (pos 4))) ≡ states.Back (Some (values.Int (pos 9))) = ap way_told e in absurd cc
+returned_another_apart e = let same : states.Back (Some (values.Int (pos 4))) ≡ states.Back (Some (values.Int (pos 9))) = ap way_reported e in absurd cc
 
 returned_another : Does (model.Return (Some kinds.Int)) (frames 7 [] two) (frames 7 [] (values.Int (pos 9) ∷ [])) (Some (ways.Back (Some (values.Int (pos 9))))) → ⊥
 unfolding on_values

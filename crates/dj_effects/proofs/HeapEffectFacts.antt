@@ -16,14 +16,14 @@ use Rattle.dj_heap.specs.Heaps.{LimitedHeap}
 use Rattle.dj_stack.specs.Frames.{StackFrame}
 use Rattle.dj_effects.specs.declared.way.Way.TheVariants as ways
 use Rattle.dj_effects.specs.declared.way.Flow.TheVariants as goes
-use Rattle.dj_effects.specs.Arrays.{array_told, outside, place_at, place_of, takes_value, value_of}
+use Rattle.dj_effects.specs.Arrays.{array_reported, outside, place_at, place_of, takes_value, value_of}
 use Rattle.dj_effects.specs.DoesOnHeap.{DoesOnHeap, FitsOnHeap, IsTakenSo}
 use Rattle.dj_effects.specs.Tops.{has_place, IsPlaceTop, IsTop}
 
 -- ---- places
 
 -- null is asked first, then the elements, and at last the index
-places : map (λ found. place_of model.Bytes (pos 5) (array_told found))
+places : map (λ found. place_of model.Bytes (pos 5) (array_reported found))
     (Null ∷ NoArray ∷ IsArray 2 elements.Char (pos 1 ∷ []) ∷ IsArray 2 elements.Byte (pos 1 ∷ []) ∷ [])
     ≡ Err (goes.Goes (ways.Raise raises.NullPointer)) ∷ Err goes.Link ∷ Err goes.Link ∷ Err outside ∷ []
 places = refl
@@ -59,9 +59,9 @@ placed = refl
 not_placed : IsPlaceTop None (values.Int (pos 4) ∷ values.Ref 2 ∷ []) [] → ⊥
 not_placed e = absurd cc
 
-places_told : map has_place ((values.Int (pos 4) ∷ values.Ref 2 ∷ []) ∷ (values.Ref 2 ∷ values.Int (pos 4) ∷ []) ∷ (values.Int (pos 4) ∷ []) ∷ [])
+places_reported : map has_place ((values.Int (pos 4) ∷ values.Ref 2 ∷ []) ∷ (values.Ref 2 ∷ values.Int (pos 4) ∷ []) ∷ (values.Int (pos 4) ∷ []) ∷ [])
     ≡ true ∷ false ∷ false ∷ []
-places_told = refl
+places_reported = refl
 
 -- ---- effects
 
@@ -72,22 +72,22 @@ frames operands = record { method = 3; number = 7; locals = []; operands = opera
 abbrev heap : ℤ → LimitedHeap
 heap z = record { heap = record { objects = Array 2 elements.Byte (pos 1 ∷ z ∷ []) ∷ []; used = 24 }; limit = 40 }
 
-abbrev operands_told : Option (OnHeap ℕ) → List Value
-operands_told None = []
-operands_told (Some e) = e.operands
+abbrev operands_reported : Option (OnHeap ℕ) → List Value
+operands_reported None = []
+operands_reported (Some e) = e.operands
 
 -- the elements of the first object
 abbrev first_elements : List (Object ℕ) → List ℤ
 first_elements (Array class element contents ∷ rest) = contents
 first_elements objects = []
 
-abbrev elements_told : Option (OnHeap ℕ) → List ℤ
-elements_told None = []
-elements_told (Some e) = first_elements e.heap.objects
+abbrev elements_reported : Option (OnHeap ℕ) → List ℤ
+elements_reported None = []
+elements_reported (Some e) = first_elements e.heap.objects
 
-abbrev result_told : Option (OnHeap ℕ) → Result states.Way Outcome
-result_told None = Ok Next
-result_told (Some e) = e.result
+abbrev result_reported : Option (OnHeap ℕ) → Result states.Way Outcome
+result_reported None = Ok Next
+result_reported (Some e) = e.result
 
 loaded : DoesOnHeap (load_element model.Bytes) (frames (values.Int (pos 1) ∷ values.Ref 1 ∷ [])) (frames (values.Int (negsuc 5) ∷ [])) (heap (negsuc 5)) (heap (negsuc 5))
     (Some (goes.Goes ways.Next))
@@ -95,7 +95,7 @@ unfolding load_element
 loaded = record { effect = refl; limit = refl; frames = record { frames = record { count = refl; method = refl; room = refl; below = refl }; number = refl; locals = refl } }
 
 loaded_without_sign_apart : Some (flows (heap (negsuc 5)).heap (values.Int (negsuc 5) ∷ []) (Ok Next)) ≡ Some (flows (heap (negsuc 5)).heap (values.Int (pos 250) ∷ []) (Ok Next)) → ⊥
-loaded_without_sign_apart e = let same : values.Int (negsuc 5) ∷ [] ≡ values.Int (pos 250) ∷ [] = ap operands_told e in absurd cc
+loaded_without_sign_apart e = let same : values.Int (negsuc 5) ∷ [] ≡ values.Int (pos 250) ∷ [] = ap operands_reported e in absurd cc
 
 loaded_without_sign : DoesOnHeap (load_element model.Bytes) (frames (values.Int (pos 1) ∷ values.Ref 1 ∷ [])) (frames (values.Int (pos 250) ∷ [])) (heap (negsuc 5)) (heap (negsuc 5))
     (Some (goes.Goes ways.Next)) → ⊥
@@ -104,7 +104,7 @@ loaded_without_sign does = loaded_without_sign_apart does.effect
 
 -- the heap is compared too
 changed_apart : Some (flows (heap (negsuc 5)).heap (values.Int (negsuc 5) ∷ []) (Ok Next)) ≡ Some (flows (heap (pos 0)).heap (values.Int (negsuc 5) ∷ []) (Ok Next)) → ⊥
-changed_apart e = let same : pos 1 ∷ negsuc 5 ∷ [] ≡ pos 1 ∷ pos 0 ∷ [] = ap elements_told e in absurd cc
+changed_apart e = let same : pos 1 ∷ negsuc 5 ∷ [] ≡ pos 1 ∷ pos 0 ∷ [] = ap elements_reported e in absurd cc
 
 changed : DoesOnHeap (load_element model.Bytes) (frames (values.Int (pos 1) ∷ values.Ref 1 ∷ [])) (frames (values.Int (negsuc 5) ∷ [])) (heap (negsuc 5)) (heap (pos 0))
     (Some (goes.Goes ways.Next)) → ⊥
@@ -123,7 +123,7 @@ unfolding store_element int_wrap
 stored = record { effect = refl; limit = refl; frames = record { frames = record { count = refl; method = refl; room = refl; below = refl }; number = refl; locals = refl } }
 
 stored_whole_apart : Some (flows (heap (pos 44)).heap ([]) (Ok Next)) ≡ Some (flows (heap (pos 300)).heap ([]) (Ok Next)) → ⊥
-stored_whole_apart e = let same : pos 1 ∷ pos 44 ∷ [] ≡ pos 1 ∷ pos 300 ∷ [] = ap elements_told e in absurd cc
+stored_whole_apart e = let same : pos 1 ∷ pos 44 ∷ [] ≡ pos 1 ∷ pos 300 ∷ [] = ap elements_reported e in absurd cc
 
 stored_whole : DoesOnHeap (store_element (λ r v. false) model.Bytes) (frames (values.Int (pos 300) ∷ values.Int (pos 1) ∷ values.Ref 1 ∷ [])) (frames []) (heap (pos 7)) (heap (pos 300))
     (Some (goes.Goes ways.Next)) → ⊥
@@ -132,7 +132,7 @@ stored_whole does = stored_whole_apart does.effect
 
 -- where it doesn't just go on, the heap is as before
 stored_outside_apart : Some (flows (heap (pos 7)).heap (values.Int (pos 9) ∷ values.Int (negsuc 0) ∷ values.Ref 1 ∷ []) (Ok (Raise raises.ArrayIndexOutOfBounds))) ≡ Some (flows (heap (pos 9)).heap (values.Int (pos 9) ∷ values.Int (negsuc 0) ∷ values.Ref 1 ∷ []) (Ok (Raise raises.ArrayIndexOutOfBounds))) → ⊥
-stored_outside_apart e = let same : pos 1 ∷ pos 7 ∷ [] ≡ pos 1 ∷ pos 9 ∷ [] = ap elements_told e in absurd cc
+stored_outside_apart e = let same : pos 1 ∷ pos 7 ∷ [] ≡ pos 1 ∷ pos 9 ∷ [] = ap elements_reported e in absurd cc
 
 stored_outside : DoesOnHeap (store_element (λ r v. false) model.Bytes) (frames (values.Int (pos 9) ∷ values.Int (negsuc 0) ∷ values.Ref 1 ∷ [])) (frames []) (heap (pos 7)) (heap (pos 9))
     (Some (goes.Goes (ways.Raise raises.ArrayIndexOutOfBounds))) → ⊥
@@ -141,7 +141,7 @@ stored_outside does = stored_outside_apart does.effect
 
 -- null before the index
 null_first_apart : Some (flows (heap (pos 7)).heap (values.Int (pos 9) ∷ values.Int (negsuc 0) ∷ values.Ref 0 ∷ []) (Ok (Raise raises.NullPointer))) ≡ Some (flows (heap (pos 7)).heap (values.Int (pos 9) ∷ values.Int (negsuc 0) ∷ values.Ref 0 ∷ []) (Ok (Raise raises.ArrayIndexOutOfBounds))) → ⊥
-null_first_apart e = let same : ◌≡◌ {A = Result states.Way Outcome} (Ok (Raise raises.NullPointer)) (Ok (Raise raises.ArrayIndexOutOfBounds)) = ap result_told e in absurd cc
+null_first_apart e = let same : ◌≡◌ {A = Result states.Way Outcome} (Ok (Raise raises.NullPointer)) (Ok (Raise raises.ArrayIndexOutOfBounds)) = ap result_reported e in absurd cc
 
 null_first : DoesOnHeap (store_element (λ r v. false) model.Bytes) (frames (values.Int (pos 9) ∷ values.Int (negsuc 0) ∷ values.Ref 0 ∷ [])) (frames []) (heap (pos 7)) (heap (pos 7))
     (Some (goes.Goes (ways.Raise raises.ArrayIndexOutOfBounds))) → ⊥
@@ -153,14 +153,14 @@ unfolding make_array
 full = record { effect = refl; limit = refl; frames = record { frames = record { count = refl; method = refl; room = refl; below = refl }; number = refl; locals = refl } }
 
 full_by_another_size_apart : Some (flows (heap (pos 7)).heap (values.Int (pos 1) ∷ []) (Err (outcomes.HeapFull 24 24))) ≡ Some (flows (heap (pos 7)).heap (values.Int (pos 1) ∷ []) (Err (outcomes.HeapFull 24 20))) → ⊥
-full_by_another_size_apart e = let same : ◌≡◌ {A = Result states.Way Outcome} (Err (outcomes.HeapFull 24 24)) (Err (outcomes.HeapFull 24 20)) = ap result_told e in absurd cc
+full_by_another_size_apart e = let same : ◌≡◌ {A = Result states.Way Outcome} (Err (outcomes.HeapFull 24 24)) (Err (outcomes.HeapFull 24 20)) = ap result_reported e in absurd cc
 
 full_by_another_size : DoesOnHeap (make_array (Some 40) 5 elements.Int) (frames (values.Int (pos 1) ∷ [])) (frames []) (heap (pos 7)) (heap (pos 7)) (Some (goes.HeapFull 24 20)) → ⊥
 unfolding make_array
 full_by_another_size does = full_by_another_size_apart does.effect
 
 negative_apart : Some (flows (heap (pos 7)).heap (values.Int (negsuc 0) ∷ []) (Ok (Raise raises.NegativeArraySize))) ≡ Some (flows (heap (pos 7)).heap (values.Int (negsuc 0) ∷ []) (Err (outcomes.HeapFull 24 24))) → ⊥
-negative_apart e = let same : ◌≡◌ {A = Result states.Way Outcome} (Ok (Raise raises.NegativeArraySize)) (Err (outcomes.HeapFull 24 24)) = ap result_told e in absurd cc
+negative_apart e = let same : ◌≡◌ {A = Result states.Way Outcome} (Ok (Raise raises.NegativeArraySize)) (Err (outcomes.HeapFull 24 24)) = ap result_reported e in absurd cc
 
 negative : DoesOnHeap (make_array (Some 40) 5 elements.Int) (frames (values.Int (negsuc 0) ∷ [])) (frames []) (heap (pos 7)) (heap (pos 7)) (Some (goes.HeapFull 24 24)) → ⊥
 unfolding make_array
@@ -181,12 +181,12 @@ too_many e = omega (arith, e)
 abbrev takes_itself : ℕ → ℕ → Bool
 takes_itself r v = nat_eq r v
 
-told : IsTakenSo takes_itself (values.Ref 4 ∷ values.Int (pos 0) ∷ values.Ref 4 ∷ []) true
-told = refl
+reported : IsTakenSo takes_itself (values.Ref 4 ∷ values.Int (pos 0) ∷ values.Ref 4 ∷ []) true
+reported = refl
 
-told_wrong : IsTakenSo takes_itself (values.Ref 4 ∷ values.Int (pos 0) ∷ values.Ref 5 ∷ []) true → ⊥
-told_wrong e = absurd cc
+reported_wrong : IsTakenSo takes_itself (values.Ref 4 ∷ values.Int (pos 0) ∷ values.Ref 5 ∷ []) true → ⊥
+reported_wrong e = absurd cc
 
 -- for a number nothing has to hold
-told_nothing : IsTakenSo takes_itself (values.Int (pos 4) ∷ values.Int (pos 0) ∷ values.Ref 5 ∷ []) true
-told_nothing = tt
+reported_nothing : IsTakenSo takes_itself (values.Int (pos 4) ∷ values.Int (pos 0) ∷ values.Ref 5 ∷ []) true
+reported_nothing = tt

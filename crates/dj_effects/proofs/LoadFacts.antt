@@ -21,9 +21,9 @@ use Rattle.dj_effects.specs.declared.way.Way.TheVariants as ways
 use Rattle.dj_effects.specs.declared.way.Flow.{Flow}
 use Rattle.dj_effects.specs.declared.way.Flow.TheVariants as goes
 use Rattle.dj_effects.specs.DoesOnHeap.{flow_view, FitsOnHeapIn}
-use Rattle.dj_effects.specs.Arrays.{array_told, outside, place_at, place_of, value_of}
+use Rattle.dj_effects.specs.Arrays.{array_reported, outside, place_at, place_of, value_of}
 use Rattle.dj_effects.specs.Tops.{has_place}
-use Rattle.dj_effects.proofs.ArrayFacts.{told_array, place_is, array_there}
+use Rattle.dj_effects.proofs.ArrayFacts.{reported_array, place_is, array_there}
 
 -- ---- a number that an array keeps, as a value
 
@@ -67,7 +67,7 @@ loads_at heap operands rest access index class at element contents z reached is 
     ∙ ap (λ (found : Option ℤ). model.load_at heap operands rest element found) found
 
 pub loads : (h : LimitedHeap) (operands rest after : List Value) (access : Access) (index : ℤ) (r : ℕ) (element : Element) (at : ℕ) (z : ℤ) (v : Value)
-    → operands ≡ values.Int index ∷ (values.Ref r ∷ rest) → Ok (element, at) ≡ place_of access index (array_told (array_at h.heap r))
+    → operands ≡ values.Int index ∷ (values.Ref r ∷ rest) → Ok (element, at) ≡ place_of access index (array_reported (array_at h.heap r))
     → element_in h r at ≡ Some z → IsKeptIn (object_in h r) z → v ≡ value_of element z → after ≡ v ∷ rest
     → load_element access h.heap operands ≡ Some (flows h.heap after (Ok Next))
 unfolding load_element
@@ -83,7 +83,7 @@ loads h operands rest after access index r element at z v all e value kept is le
     ∙ (ap (with_value h.heap rest) (sym (is ∙ kept_value element z low)) ∙ ap (λ (after : List Value). flows h.heap after (Ok Next)) (sym left))))
 
 refused_at : (heap : Heap ℕ) (operands rest : List Value) (element : Element) (contents : List ℤ) (i : ℕ) (flow : Flow) (b : Bool) → nat_lt i (length contents) ≡ b
-    → Err flow ≡ (if b then told_array element i else Err outside) → model.load_at heap operands rest element (slice_get contents i) ≡ flows heap operands (flow_view flow)
+    → Err flow ≡ (if b then reported_array element i else Err outside) → model.load_at heap operands rest element (slice_get contents i) ≡ flows heap operands (flow_view flow)
 refused_at heap operands rest element contents i flow true less e = absurd cc
 refused_at heap operands rest element contents i flow false less e =
     let none : slice_get contents i ≡ None = slice_get_past contents i (ltb-false i (length contents) less) in
@@ -102,7 +102,7 @@ refused_of heap operands rest access (negsuc i) class element contents flow true
     let same : outside ≡ flow = cc in
     ap (λ (flow : Flow). flows heap operands (flow_view flow)) same
 
-refused : (heap : Heap ℕ) (operands rest : List Value) (access : Access) (index : ℤ) (found : Found ℕ) (flow : Flow) → Err flow ≡ place_of access index (array_told found)
+refused : (heap : Heap ℕ) (operands rest : List Value) (access : Access) (index : ℤ) (found : Found ℕ) (flow : Flow) → Err flow ≡ place_of access index (array_reported found)
     → load_from heap operands rest index (only access found) ≡ flows heap operands (flow_view flow)
 refused heap operands rest access index model.Null flow e =
     let same : goes.Goes (ways.Raise raises.NullPointer) ≡ flow = cc in
@@ -114,7 +114,7 @@ refused heap operands rest access index (model.IsArray class element contents) f
     refused_of heap operands rest access index class element contents flow (reaches access element) e
 
 pub loads_nothing : (h : LimitedHeap) (operands rest : List Value) (access : Access) (index : ℤ) (r : ℕ) (flow : Flow)
-    → operands ≡ values.Int index ∷ (values.Ref r ∷ rest) → Err flow ≡ place_of access index (array_told (array_at h.heap r))
+    → operands ≡ values.Int index ∷ (values.Ref r ∷ rest) → Err flow ≡ place_of access index (array_reported (array_at h.heap r))
     → load_element access h.heap operands ≡ Some (flows h.heap operands (flow_view flow))
 unfolding load_element
 loads_nothing h operands rest access index r flow all e =
@@ -123,7 +123,7 @@ loads_nothing h operands rest access index r flow all e =
     ∙ ap (λ (operands : List Value). flows h.heap operands (flow_view flow)) (sym all))
 
 pub load_room : (h : LimitedHeap) (operands rest : List Value) (access : Access) (index : ℤ) (r : ℕ) (element : Element) (at : ℕ) (z : ℤ) (v : Value) (room : ℕ)
-    → operands ≡ values.Int index ∷ (values.Ref r ∷ rest) → Ok (element, at) ≡ place_of access index (array_told (array_at h.heap r))
+    → operands ≡ values.Int index ∷ (values.Ref r ∷ rest) → Ok (element, at) ≡ place_of access index (array_reported (array_at h.heap r))
     → element_in h r at ≡ Some z → IsKeptIn (object_in h r) z → v ≡ value_of element z
     → FitsOnHeapIn room (load_element access h.heap operands) → length rest < room
 load_room h operands rest access index r element at z v room all e value kept is fits =
@@ -142,7 +142,7 @@ not_placed access heap (values.Int index ∷ (values.Ref r ∷ rest)) e = absurd
 
 -- ---- lengths
 
-length_found : (heap : Heap ℕ) (operands rest : List Value) (found : Found ℕ) (element : Element) (n : ℕ) → told_array element n ≡ array_told found
+length_found : (heap : Heap ℕ) (operands rest : List Value) (found : Found ℕ) (element : Element) (n : ℕ) → reported_array element n ≡ array_reported found
     → length_of heap operands rest found ≡ with_value heap rest (values.Int (pos n))
 length_found heap operands rest model.Null element n e = absurd cc
 length_found heap operands rest model.NoArray element n e = absurd cc
@@ -151,22 +151,22 @@ length_found heap operands rest (model.IsArray class of contents) element n e =
     let same : length contents ≡ n = ap (λ (p : Element × ℕ). p.1) same_place in
     ap (λ (n : ℕ). with_value heap rest (values.Int (pos n))) same
 
-pub tells_length : (heap : Heap ℕ) (operands rest after : List Value) (r : ℕ) (element : Element) (n : ℕ)
-    → operands ≡ values.Ref r ∷ rest → Ok (element, n) ≡ array_told (array_at heap r) → after ≡ values.Int (pos n) ∷ rest
+pub says_length : (heap : Heap ℕ) (operands rest after : List Value) (r : ℕ) (element : Element) (n : ℕ)
+    → operands ≡ values.Ref r ∷ rest → Ok (element, n) ≡ array_reported (array_at heap r) → after ≡ values.Int (pos n) ∷ rest
     → array_length heap operands ≡ Some (flows heap after (Ok Next))
 unfolding array_length
-tells_length heap operands rest after r element n all e left =
+says_length heap operands rest after r element n all e left =
     ap (array_length heap) all
     ∙ ap Some (length_found heap (values.Ref r ∷ rest) rest (array_at heap r) element n e ∙ ap (λ (after : List Value). flows heap after (Ok Next)) (sym left))
 
 pub length_room : (heap : Heap ℕ) (operands rest : List Value) (r : ℕ) (element : Element) (n room : ℕ)
-    → operands ≡ values.Ref r ∷ rest → Ok (element, n) ≡ array_told (array_at heap r) → FitsOnHeapIn room (array_length heap operands) → length rest < room
+    → operands ≡ values.Ref r ∷ rest → Ok (element, n) ≡ array_reported (array_at heap r) → FitsOnHeapIn room (array_length heap operands) → length rest < room
 length_room heap operands rest r element n room all e fits =
     let left : length (values.Int (pos n) ∷ rest) ≤ room =
-    subst (FitsOnHeapIn room) (tells_length heap operands rest (values.Int (pos n) ∷ rest) r element n all e refl) fits in
+    subst (FitsOnHeapIn room) (says_length heap operands rest (values.Int (pos n) ∷ rest) r element n all e refl) fits in
     omega (arith, left)
 
-no_length : (heap : Heap ℕ) (operands rest : List Value) (found : Found ℕ) (flow : Flow) → Err flow ≡ array_told found
+no_length : (heap : Heap ℕ) (operands rest : List Value) (found : Found ℕ) (flow : Flow) → Err flow ≡ array_reported found
     → length_of heap operands rest found ≡ flows heap operands (flow_view flow)
 no_length heap operands rest model.Null flow e =
     let same : goes.Goes (ways.Raise raises.NullPointer) ≡ flow = cc in
@@ -176,10 +176,10 @@ no_length heap operands rest model.NoArray flow e =
     ap (λ (flow : Flow). flows heap operands (flow_view flow)) same
 no_length heap operands rest (model.IsArray class of contents) flow e = absurd cc
 
-pub tells_no_length : (heap : Heap ℕ) (operands rest : List Value) (r : ℕ) (flow : Flow) → operands ≡ values.Ref r ∷ rest → Err flow ≡ array_told (array_at heap r)
+pub says_no_length : (heap : Heap ℕ) (operands rest : List Value) (r : ℕ) (flow : Flow) → operands ≡ values.Ref r ∷ rest → Err flow ≡ array_reported (array_at heap r)
     → array_length heap operands ≡ Some (flows heap operands (flow_view flow))
 unfolding array_length
-tells_no_length heap operands rest r flow all e =
+says_no_length heap operands rest r flow all e =
     ap (array_length heap) all
     ∙ ap Some (no_length heap (values.Ref r ∷ rest) rest (array_at heap r) flow e
     ∙ ap (λ (operands : List Value). flows heap operands (flow_view flow)) (sym all))

@@ -30,28 +30,28 @@ some_divisor b quotient e = ap (λ (null : Bool). if null then Err raises.Arithm
 
 -- ---- what is computed
 
-abbrev two_told : List (Option Value) → List Value → List Value → Option (Result Value Raised) → Option Values
-two_told locals operands rest None = None
-two_told locals operands rest (Some (Ok v)) = Some (left locals (v ∷ rest) Next)
-two_told locals operands rest (Some (Err raised)) = Some (left locals operands (Raise raised))
+abbrev two_reported : List (Option Value) → List Value → List Value → Option (Result Value Raised) → Option Values
+two_reported locals operands rest None = None
+two_reported locals operands rest (Some (Ok v)) = Some (left locals (v ∷ rest) Next)
+two_reported locals operands rest (Some (Err raised)) = Some (left locals operands (Raise raised))
 
 two_if : (locals : List (Option Value)) (operands rest : List Value) (kind : Kind) (b : Bool) (number : Result ℤ Raised)
-    → (if b then Some (computed locals operands rest kind number) else None) ≡ two_told locals operands rest (if b then Some (value_result kind number) else None)
+    → (if b then Some (computed locals operands rest kind number) else None) ≡ two_reported locals operands rest (if b then Some (value_result kind number) else None)
 two_if locals operands rest kind false number = refl
 two_if locals operands rest kind true (Ok z) = refl
 two_if locals operands rest kind true (Err raised) = refl
 
-compute_told : (operation : BinaryOperation) (locals : List (Option Value)) (operands rest : List Value) (a b : Value) → operands ≡ b ∷ (a ∷ rest)
-    → on_values (Compute operation) locals operands ≡ two_told locals operands rest (of_two operation a b)
+compute_reported : (operation : BinaryOperation) (locals : List (Option Value)) (operands rest : List Value) (a b : Value) → operands ≡ b ∷ (a ∷ rest)
+    → on_values (Compute operation) locals operands ≡ two_reported locals operands rest (of_two operation a b)
 unfolding on_values
-compute_told operation locals operands rest a b all =
-    subst (λ (operands : List Value). on_values (Compute operation) locals operands ≡ two_told locals operands rest (of_two operation a b)) (sym all)
+compute_reported operation locals operands rest a b all =
+    subst (λ (operands : List Value). on_values (Compute operation) locals operands ≡ two_reported locals operands rest (of_two operation a b)) (sym all)
     (two_if locals (b ∷ (a ∷ rest)) rest (given_kind operation) (is_of_kind (right_kind operation) b && is_of_kind (left_kind operation) a)
     (compute operation (value_number a) (value_number b)))
 
 pub computes : (operation : BinaryOperation) (locals : List (Option Value)) (operands rest : List Value) (a b v : Value) → operands ≡ b ∷ (a ∷ rest)
     → of_two operation a b ≡ Some (Ok v) → on_values (Compute operation) locals operands ≡ Some (left locals (v ∷ rest) Next)
-computes operation locals operands rest a b v all e = compute_told operation locals operands rest a b all ∙ ap (two_told locals operands rest) e
+computes operation locals operands rest a b v all e = compute_reported operation locals operands rest a b all ∙ ap (two_reported locals operands rest) e
 
 pub compute_room : (operation : BinaryOperation) (locals : List (Option Value)) (operands rest : List Value) (a b v : Value) (room : ℕ) → operands ≡ b ∷ (a ∷ rest)
     → of_two operation a b ≡ Some (Ok v) → FitsIn room (on_values (Compute operation) locals operands) → length rest < room

@@ -20,25 +20,25 @@ use Rattle.dj_effects.specs.declared.way.Way.TheVariants as ways
 use Rattle.dj_effects.specs.declared.way.Flow.{Flow}
 use Rattle.dj_effects.specs.declared.way.Flow.TheVariants as goes
 use Rattle.dj_effects.specs.DoesOnHeap.{flow_view, IsTakenSo}
-use Rattle.dj_effects.specs.Arrays.{array_told, outside, place_at, place_of, takes_value}
+use Rattle.dj_effects.specs.Arrays.{array_reported, outside, place_at, place_of, takes_value}
 use Rattle.dj_effects.specs.Tops.{has_place}
-use Rattle.dj_effects.proofs.ArrayFacts.{told_array, place_is, array_there, inside}
+use Rattle.dj_effects.proofs.ArrayFacts.{reported_array, place_is, array_there, inside}
 
 -- ---- whether an array takes a reference, asked only for the pair on the operands
 
-pub told_so : (takes : ℕ → ℕ → Bool) (taken : Bool) (access : Access) (heap : Heap ℕ) (operands : List Value) → IsTakenSo takes operands taken
+pub reported_so : (takes : ℕ → ℕ → Bool) (taken : Bool) (access : Access) (heap : Heap ℕ) (operands : List Value) → IsTakenSo takes operands taken
     → store_element takes access heap operands ≡ store_element (λ r v. taken) access heap operands
 unfolding store_element
-told_so takes taken access heap [] so = refl
-told_so takes taken access heap (v ∷ []) so = refl
-told_so takes taken access heap (v ∷ (values.Long z ∷ rest)) so = refl
-told_so takes taken access heap (v ∷ (values.Ref r ∷ rest)) so = refl
-told_so takes taken access heap (v ∷ (values.Int index ∷ [])) so = refl
-told_so takes taken access heap (v ∷ (values.Int index ∷ (values.Int z ∷ rest))) so = refl
-told_so takes taken access heap (v ∷ (values.Int index ∷ (values.Long z ∷ rest))) so = refl
-told_so takes taken access heap (values.Int z ∷ (values.Int index ∷ (values.Ref r ∷ rest))) so = refl
-told_so takes taken access heap (values.Long z ∷ (values.Int index ∷ (values.Ref r ∷ rest))) so = refl
-told_so takes taken access heap (values.Ref v ∷ (values.Int index ∷ (values.Ref r ∷ rest))) so =
+reported_so takes taken access heap [] so = refl
+reported_so takes taken access heap (v ∷ []) so = refl
+reported_so takes taken access heap (v ∷ (values.Long z ∷ rest)) so = refl
+reported_so takes taken access heap (v ∷ (values.Ref r ∷ rest)) so = refl
+reported_so takes taken access heap (v ∷ (values.Int index ∷ [])) so = refl
+reported_so takes taken access heap (v ∷ (values.Int index ∷ (values.Int z ∷ rest))) so = refl
+reported_so takes taken access heap (v ∷ (values.Int index ∷ (values.Long z ∷ rest))) so = refl
+reported_so takes taken access heap (values.Int z ∷ (values.Int index ∷ (values.Ref r ∷ rest))) so = refl
+reported_so takes taken access heap (values.Long z ∷ (values.Int index ∷ (values.Ref r ∷ rest))) so = refl
+reported_so takes taken access heap (values.Ref v ∷ (values.Int index ∷ (values.Ref r ∷ rest))) so =
     ap (λ (t : Bool). if is_of_kind (access_kind access) (values.Ref v)
     then Some (store_in heap (values.Ref v ∷ (values.Int index ∷ (values.Ref r ∷ rest))) rest r index (values.Ref v) t (only access (array_at heap r))) else None) so
 
@@ -97,7 +97,7 @@ some_at (Some a) some = (a, refl)
 
 pub stores : (old new : LimitedHeap) (operands rest : List Value) (access : Access) (taken : Bool) (v : Value) (index : ℤ) (r : ℕ) (element : Element) (at : ℕ) (z : ℤ)
     → is_of_kind (access_kind access) v ≡ true → operands ≡ v ∷ (values.Int index ∷ (values.Ref r ∷ rest))
-    → Ok (element, at) ≡ place_of access index (array_told (array_at old.heap r)) → takes_value v taken ≡ true → z ≡ value_number v
+    → Ok (element, at) ≡ place_of access index (array_reported (array_at old.heap r)) → takes_value v taken ≡ true → z ≡ value_number v
     → (is_of_kind kinds.Ref v ≡ true → low_bits elements.Ref (value_number v) ≡ value_number v) → Replaces old new r (λ object. with_number object at z)
     → store_element (λ r v. taken) access old.heap operands ≡ Some (flows new.heap rest (Ok Next))
 stores old new operands rest access taken v index r element at z kind all e takes is small replaced =
@@ -115,14 +115,14 @@ stores old new operands rest access taken v index r element at z kind all e take
     ∙ ap (λ (heap : Heap ℕ). flows heap rest (Ok Next)) (sym after))))
 
 pub stores_limit : (old new : LimitedHeap) (access : Access) (index : ℤ) (r : ℕ) (element : Element) (at : ℕ) (z : ℤ)
-    → Ok (element, at) ≡ place_of access index (array_told (array_at old.heap r)) → Replaces old new r (λ object. with_number object at z) → new.limit ≡ old.limit
+    → Ok (element, at) ≡ place_of access index (array_reported (array_at old.heap r)) → Replaces old new r (λ object. with_number object at z) → new.limit ≡ old.limit
 stores_limit old new access index r element at z e replaced =
     let place = place_is access index (array_at old.heap r) (element, at) e in
     ap (λ (h : LimitedHeap). h.limit) (replaced (Array place.class element place.contents) (array_there old r place.class element place.contents place.array))
 
 pub stores_no_reference : (h : LimitedHeap) (operands rest : List Value) (access : Access) (taken : Bool) (v : Value) (index : ℤ) (r : ℕ) (element : Element) (at : ℕ)
     → is_of_kind (access_kind access) v ≡ true → operands ≡ v ∷ (values.Int index ∷ (values.Ref r ∷ rest))
-    → Ok (element, at) ≡ place_of access index (array_told (array_at h.heap r)) → takes_value v taken ≡ false
+    → Ok (element, at) ≡ place_of access index (array_reported (array_at h.heap r)) → takes_value v taken ≡ false
     → store_element (λ r v. taken) access h.heap operands ≡ Some (flows h.heap operands (Ok (Raise raises.ArrayStore)))
 stores_no_reference h operands rest access taken v index r element at kind all e takes =
     let place = place_is access index (array_at h.heap r) (element, at) e in
@@ -135,7 +135,7 @@ stores_no_reference h operands rest access taken v index r element at kind all e
 -- ---- what is refused
 
 refused_at : (heap : Heap ℕ) (operands rest : List Value) (r : ℕ) (array : Object ℕ) (element : Element) (contents : List ℤ) (i : ℕ) (takes : Bool) (flow : Flow) (b : Bool)
-    → nat_lt i (length contents) ≡ b → Err flow ≡ (if b then told_array element i else Err outside)
+    → nat_lt i (length contents) ≡ b → Err flow ≡ (if b then reported_array element i else Err outside)
     → store_at heap operands rest r array (slice_get contents i) takes ≡ flows heap operands (flow_view flow)
 refused_at heap operands rest r array element contents i takes flow true less e = absurd cc
 refused_at heap operands rest r array element contents i takes flow false less e =
@@ -156,7 +156,7 @@ refused_of heap operands rest r (negsuc i) v takes class element contents flow t
     ap (λ (flow : Flow). flows heap operands (flow_view flow)) same
 
 refused : (heap : Heap ℕ) (operands rest : List Value) (access : Access) (r : ℕ) (index : ℤ) (v : Value) (takes : Bool) (found : Found ℕ) (flow : Flow)
-    → Err flow ≡ place_of access index (array_told found) → store_in heap operands rest r index v takes (only access found) ≡ flows heap operands (flow_view flow)
+    → Err flow ≡ place_of access index (array_reported found) → store_in heap operands rest r index v takes (only access found) ≡ flows heap operands (flow_view flow)
 refused heap operands rest access r index v takes model.Null flow e =
     let same : goes.Goes (ways.Raise raises.NullPointer) ≡ flow = cc in
     ap (λ (flow : Flow). flows heap operands (flow_view flow)) same
@@ -168,7 +168,7 @@ refused heap operands rest access r index v takes (model.IsArray class element c
 
 pub stores_nothing : (h : LimitedHeap) (operands rest : List Value) (access : Access) (taken : Bool) (v : Value) (index : ℤ) (r : ℕ) (flow : Flow)
     → is_of_kind (access_kind access) v ≡ true → operands ≡ v ∷ (values.Int index ∷ (values.Ref r ∷ rest))
-    → Err flow ≡ place_of access index (array_told (array_at h.heap r))
+    → Err flow ≡ place_of access index (array_reported (array_at h.heap r))
     → store_element (λ r v. taken) access h.heap operands ≡ Some (flows h.heap operands (flow_view flow))
 stores_nothing h operands rest access taken v index r flow kind all e =
     store_of taken access h.heap v index r operands rest kind all

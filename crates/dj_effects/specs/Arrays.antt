@@ -13,10 +13,10 @@ use Rattle.dj_effects.specs.declared.way.Flow.{Flow}
 use Rattle.dj_effects.specs.declared.way.Flow.TheVariants as goes
 
 -- what the elements of an array are and how many, or how the run goes on in its place
-abbrev pub array_told : Found ℕ → Result (Element × ℕ) Flow
-array_told Null = Err (goes.Goes (ways.Raise raises.NullPointer))
-array_told NoArray = Err goes.Link
-array_told (IsArray class element contents) = Ok (element, length contents)
+abbrev pub array_reported : Found ℕ → Result (Element × ℕ) Flow
+array_reported Null = Err (goes.Goes (ways.Raise raises.NullPointer))
+array_reported NoArray = Err goes.Link
+array_reported (IsArray class element contents) = Ok (element, length contents)
 
 abbrev pub outside : Flow
 outside = goes.Goes (ways.Raise raises.ArrayIndexOutOfBounds)

@@ -15,18 +15,18 @@ way_view (ways.Raise raised) = model.Raise raised
 way_view (ways.Back v) = model.Back v
 
 -- the operands after an effect: where an exception is raised, those before it
-abbrev pub told_operands : List StackFrame → List StackFrame → Way → List Value
-told_operands old new (ways.Raise raised) = top_operands old
-told_operands old new way = top_operands new
+abbrev pub reported_operands : List StackFrame → List StackFrame → Way → List Value
+reported_operands old new (ways.Raise raised) = top_operands old
+reported_operands old new way = top_operands new
 
 -- the effect that the new frames and the answer mean
-abbrev pub told : List StackFrame → List StackFrame → Option Way → Option Values
-told old new None = None
-told old new (Some way) = Some (left (top_locals new) (told_operands old new way) (way_view way))
+abbrev pub reported : List StackFrame → List StackFrame → Option Way → Option Values
+reported old new None = None
+reported old new (Some way) = Some (left (top_locals new) (reported_operands old new way) (way_view way))
 
 -- the top frame's locals and operands are as the instruction leaves them, and the answer is how the run goes on; none where the instruction has no effect
 pub record Does (i : Instruction) (old new : List StackFrame) (way : Option Way) : Type 0 where
-  pub effect : on_values i (top_locals old) (top_operands old) ≡ told old new way
+  pub effect : on_values i (top_locals old) (top_operands old) ≡ reported old new way
   pub frames : SameFrames old new
   pub number : top_number new ≡ top_number old
 

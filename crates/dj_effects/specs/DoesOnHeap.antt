@@ -9,7 +9,7 @@ use Rattle.dj_model.specs.trusted.State as model
 use Rattle.dj_model.specs.trusted.Arrays.{OnHeap, flows}
 use Rattle.dj_heap.specs.Heaps.{LimitedHeap}
 use Rattle.dj_stack.specs.Frames.{StackFrame, SameButOperands, top_operands, top_room}
-use Rattle.dj_effects.specs.Does.{way_view, told_operands}
+use Rattle.dj_effects.specs.Does.{way_view, reported_operands}
 use Rattle.dj_effects.specs.declared.way.Flow.{Flow}
 use Rattle.dj_effects.specs.declared.way.Flow.TheVariants as goes
 
@@ -19,17 +19,17 @@ flow_view goes.Link = Err outcomes.Link
 flow_view (goes.HeapFull used size) = Err (outcomes.HeapFull used size)
 
 -- the operands after an effect: where the run doesn't just go on, those before it
-abbrev pub told_beside : List StackFrame → List StackFrame → Flow → List Value
-told_beside old new (goes.Goes way) = told_operands old new way
-told_beside old new flow = top_operands old
+abbrev pub reported_beside : List StackFrame → List StackFrame → Flow → List Value
+reported_beside old new (goes.Goes way) = reported_operands old new way
+reported_beside old new flow = top_operands old
 
-abbrev pub told_on_heap : List StackFrame → List StackFrame → Heap ℕ → Option Flow → Option (OnHeap ℕ)
-told_on_heap old new heap None = None
-told_on_heap old new heap (Some flow) = Some (flows heap (told_beside old new flow) (flow_view flow))
+abbrev pub reported_on_heap : List StackFrame → List StackFrame → Heap ℕ → Option Flow → Option (OnHeap ℕ)
+reported_on_heap old new heap None = None
+reported_on_heap old new heap (Some flow) = Some (flows heap (reported_beside old new flow) (flow_view flow))
 
 -- the top frame's operands and the heap are as the effect has them, and the answer is how the run goes on; none where there is no effect
 pub record DoesOnHeap (effect_of : Heap ℕ → List Value → Option (OnHeap ℕ)) (old new : List StackFrame) (before after : LimitedHeap) (flow : Option Flow) : Type 0 where
-  pub effect : effect_of before.heap (top_operands old) ≡ told_on_heap old new after.heap flow
+  pub effect : effect_of before.heap (top_operands old) ≡ reported_on_heap old new after.heap flow
   pub limit : after.limit ≡ before.limit
   pub frames : SameButOperands old new
 

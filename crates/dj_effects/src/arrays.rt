@@ -8,7 +8,7 @@ ghost use Rattle.dj_model.specs.trusted.Numbers.{is_of_kind};
 ghost use Rattle.dj_heap.specs.Heaps.{low_bits};
 ghost use Rattle.dj_stack.specs.Frames.{top_operands};
 ghost use Rattle.dj_effects.specs.Actions.{access_view};
-ghost use Rattle.dj_effects.specs.Arrays.{array_told, place_at, place_of, takes_value, value_of};
+ghost use Rattle.dj_effects.specs.Arrays.{array_reported, place_at, place_of, takes_value, value_of};
 ghost use Rattle.dj_effects.specs.DoesOnHeap.{DoesOnHeap, FitsOnHeap, IsTakenSo};
 
 use crate::actions::Access;
@@ -45,12 +45,17 @@ pub fn store_element(
     ensures { (takes : ℕ → ℕ → Bool) → IsTakenSo takes (top_operands frames.old) is_taken
         → DoesOnHeap (arrays.store_element takes (access_view access)) frames.old frames.new heap.old heap.new result }
 {
-    store_told(frames, heap, access, is_taken)
+    store_reported(frames, heap, access, is_taken)
 }
 
 // Whether the array takes the reference is given.
 #[tactic(auto, using(crate::proofs::StoreFacts::no_value, crate::proofs::StoreFacts::no_place, crate::proofs::StoreFacts::no_such_value, crate::proofs::ArrayFacts::element_there))]
-fn store_told(frames: &mut Frames, heap: &mut Heap, access: Access, is_taken: bool) -> Option<Flow>
+fn store_reported(
+    frames: &mut Frames,
+    heap: &mut Heap,
+    access: Access,
+    is_taken: bool,
+) -> Option<Flow>
     ensures { DoesOnHeap (arrays.store_element (λ r v. is_taken) (access_view access)) frames.old frames.new heap.old heap.new result }
 {
     let value = pop(frames)?;
@@ -71,7 +76,7 @@ fn store_told(frames: &mut Frames, heap: &mut Heap, access: Access, is_taken: bo
 }
 
 /// An array is taken, and its length pushed.
-#[tactic(auto, using(crate::proofs::LoadFacts::tells_length, crate::proofs::LoadFacts::tells_no_length), unfolding(dj_model::specs::trusted::Arrays::array_length))]
+#[tactic(auto, using(crate::proofs::LoadFacts::says_length, crate::proofs::LoadFacts::says_no_length), unfolding(dj_model::specs::trusted::Arrays::array_length))]
 pub fn array_length(frames: &mut Frames, heap: &Heap) -> Option<Flow>
     requires { FitsOnHeap arrays.array_length frames.old heap.now }
     ensures { DoesOnHeap arrays.array_length frames.old frames.new heap.now heap.now result }
@@ -79,7 +84,7 @@ pub fn array_length(frames: &mut Frames, heap: &Heap) -> Option<Flow>
     let Some(Value::Ref(r)) = pop(frames) else {
         return None;
     };
-    match array_told(heap, r) {
+    match array_reported(heap, r) {
         Ok((_, n)) => {
             frames.push_value(Value::Int(n.cast_signed()));
             Some(Flow::Goes(Way::Next))
@@ -119,8 +124,8 @@ pub fn new_array(
 
 // What the elements of an array are and how many, or how the run goes on in its place.
 #[tactic(auto, using(crate::proofs::ArrayFacts::found_null, crate::proofs::ArrayFacts::found_array, crate::proofs::ArrayFacts::found_instance, crate::proofs::ArrayFacts::found_text))]
-fn array_told(heap: &Heap, r: u32) -> Result<(Element, u32), Flow>
-    ensures told { result ≡ array_told (array_at heap.now.heap r) }
+fn array_reported(heap: &Heap, r: u32) -> Result<(Element, u32), Flow>
+    ensures reported { result ≡ array_reported (array_at heap.now.heap r) }
     ensures few { IfOk result (λ found. found.1 < 2 ^ 31) }
 {
     if r == 0 {
@@ -138,9 +143,9 @@ fn array_told(heap: &Heap, r: u32) -> Result<(Element, u32), Flow>
 
 // What the element is at an index and at which place, or how the run goes on in its place.
 fn place_of(heap: &Heap, access: Access, r: u32, index: i32) -> Result<(Element, u32), Flow>
-    ensures { result ≡ place_of (access_view access) index (array_told (array_at heap.now.heap r)) }
+    ensures { result ≡ place_of (access_view access) index (array_reported (array_at heap.now.heap r)) }
 {
-    let (element, n) = array_told(heap, r)?;
+    let (element, n) = array_reported(heap, r)?;
     if !reaches(access, element) {
         return Err(Flow::Link);
     }

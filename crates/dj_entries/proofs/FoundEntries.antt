@@ -175,7 +175,7 @@ module _ (texts : List Name) (ks : List Key) (es : List Entry) (are : AreKeysOf 
 
   found_step : (answer : Option ℕ) → FindsKey ks key answer → unwrap_or answer 0 ≡ found_index es e
   found_step (Some i) (at, ends) =
-      let here : Contains ks key = subst (λ l. Contains l key) (sym at.parts) (Contains-append_right at.front (key ∷ at.back) key (in_here key at.back)) in
+      let here : Contains ks key = subst (λ l. Contains l key) (sym at.parts) (Contains-append_right at.prefix (key ∷ at.back) key (in_here key at.back)) in
       let named = named_there here in
       let same = alike ∙ alike_found es e named in
       let place = place_same texts ks es are key e number named same i at in

@@ -68,11 +68,11 @@ numbered_last n (k ∷ ks) key =
 
 -- the key stands there, counted from n
 record StandsFrom (n : ℕ) (ks : List Key) (key : Key) (index : ℕ) : Type 0 where
-  front : List Key
+  prefix : List Key
   back : List Key
-  parts : ks ≡ front ++ key ∷ back
-  absent : Contains front key → ⊥
-  index_is : index ≡ n + key_widths front
+  parts : ks ≡ prefix ++ key ∷ back
+  absent : Contains prefix key → ⊥
+  index_is : index ≡ n + key_widths prefix
 
 some_is : (a b : ℕ) → Some a ≡ Some b → a ≡ b
 some_is a b e = ap (λ r. unwrap_or r a) e
@@ -82,14 +82,14 @@ found_from n [] key i e = absurd (false≢true (ap is_some e))
 found_from n (k ∷ ks) key i e = elim (cases_Bool (same_key key k)) [
   | inl so ↦
       let here = some_is n i (sym (ap (λ b. cond b (Some n) (lookup (same_key key) (numbered (n + key_width k) ks))) so) ∙ e) in
-      record { front = []; back = ks; parts = ap (λ x. x ∷ ks) (sym (key_is key k so)); absent = λ h. none_in key h; index_is = omega (arith, here) }
+      record { prefix = []; back = ks; parts = ap (λ x. x ∷ ks) (sym (key_is key k so)); absent = λ h. none_in key h; index_is = omega (arith, here) }
   | inr other ↦
       let r = found_from (n + key_width k) ks key i (sym (ap (λ b. cond b (Some n) (lookup (same_key key) (numbered (n + key_width k) ks))) other) ∙ e) in
       let at = r.index_is in
-      record { front = k ∷ r.front; back = r.back; parts = ap (λ l. k ∷ l) r.parts; absent = λ h. before_it k r.front h other r.absent; index_is = omega (arith, at) }
+      record { prefix = k ∷ r.prefix; back = r.back; parts = ap (λ l. k ∷ l) r.parts; absent = λ h. before_it k r.prefix h other r.absent; index_is = omega (arith, at) }
 ] where
-  before_it : (k : Key) (front : List Key) → Contains (k ∷ front) key → same_key key k ≡ false → (Contains front key → ⊥) → ⊥
-  before_it k front h other absent = elim (in_cases k front key h) [
+  before_it : (k : Key) (prefix : List Key) → Contains (k ∷ prefix) key → same_key key k ≡ false → (Contains prefix key → ⊥) → ⊥
+  before_it k prefix h other absent = elim (in_cases k prefix key h) [
     | inl same ↦ false≢true (sym other ∙ subst (λ x. same_key key x ≡ true) (sym same) (key_itself key))
     | inr more ↦ absent more
   ]
@@ -104,15 +104,15 @@ not_found n (k ∷ ks) key e h = elim (cases_Bool (same_key key k)) [
   ]
 ]
 
-in_middle : (front back : List Key) (key : Key) → Contains (front ++ key ∷ back) key
+in_middle : (prefix back : List Key) (key : Key) → Contains (prefix ++ key ∷ back) key
 in_middle [] back key = in_here key back
-in_middle (k ∷ front) back key = in_rest k (front ++ key ∷ back) key (in_middle front back key)
+in_middle (k ∷ prefix) back key = in_rest k (prefix ++ key ∷ back) key (in_middle prefix back key)
 
 -- where the key stands, from what is found
 pub stands : (entries : List (Key × ℕ)) (next : ℕ) (key : Key) (i : ℕ) → IsNumbered entries next → lookup (same_key key) entries ≡ Some i → StandsAt (keys_of entries) key i
 stands entries next key i h e =
     let at = found_from 1 (keys_of entries) key i (ap (λ l. lookup (same_key key) l) (sym h.indexes) ∙ e) in
-    record { front = at.front; back = at.back; parts = at.parts; absent = at.absent; index_is = at.index_is }
+    record { prefix = at.prefix; back = at.back; parts = at.parts; absent = at.absent; index_is = at.index_is }
 
 placed : (before : List Key) (key : Key) (now : List Key) (i : ℕ) (answer : Option ℕ) → IsKept (next_index before) before key now → StandsAt now key i → IsWithin key i answer → IsPlaced before key now answer
 placed before key now i None kept at past = (kept, inl (record { index = i; at = at; past = past }))
@@ -123,7 +123,7 @@ pub there : (entries : List (Key × ℕ)) (next : ℕ) (key : Key) (i : ℕ) (an
     → IsPlaced (keys_of entries) key (keys_of entries) answer
 there entries next key i answer h e within =
     let at = stands entries next key i h e in
-    placed (keys_of entries) key (keys_of entries) i answer (inl (subst (λ l. Contains l key) (sym at.parts) (in_middle at.front at.back key), refl)) at within
+    placed (keys_of entries) key (keys_of entries) i answer (inl (subst (λ l. Contains l key) (sym at.parts) (in_middle at.prefix at.back key), refl)) at within
 
 pub lacks : (entries : List (Key × ℕ)) (next : ℕ) (key : Key) → IsNumbered entries next → lookup (same_key key) entries ≡ None → Contains (keys_of entries) key → ⊥
 lacks entries next key h e = not_found 1 (keys_of entries) key (ap (λ l. lookup (same_key key) l) (sym h.indexes) ∙ e)
@@ -156,5 +156,5 @@ module _ (entries : List (Key × ℕ)) (next : ℕ) (key : Key) (h : IsNumbered 
       let keys_are = keys_last entries key next in
       placed (keys_of entries) key (keys_of more) next answer
       (inr (inl (record { absent = lacks entries next key h e; room = subst (λ (n : ℕ). n ≤ most_next) h.next_is room; last = keys_are })))
-      (record { front = keys_of entries; back = []; parts = keys_are; absent = lacks entries next key h e; index_is = h.next_is })
+      (record { prefix = keys_of entries; back = []; parts = keys_are; absent = lacks entries next key h e; index_is = h.next_is })
       within

@@ -72,7 +72,7 @@ text_got (x ∷ xs) items (suc n) r h = text_got xs items n r h
 pub text_key : (texts : List Name) (text : Name) (k : Key) → HasNumber texts k → constant_of_key texts k ≡ pool.Utf8 text → Contains texts text
 text_key texts text (keys.Utf8 n) h e =
     let is : h.0 ≡ text = sym (text_is texts h.0 n h.1) ∙ ap (λ k. unwrap_or (text_of k) []) e in
-    subst (λ l. Contains l text) (sym h.1.parts) (Contains-append_right h.1.front (h.0 ∷ h.1.back) text (subst (λ t. Contains (h.0 ∷ h.1.back) t) is (in_here h.0 h.1.back)))
+    subst (λ l. Contains l text) (sym h.1.parts) (Contains-append_right h.1.prefix (h.0 ∷ h.1.back) text (subst (λ t. Contains (h.0 ∷ h.1.back) t) is (in_here h.0 h.1.back)))
 text_key texts text (keys.Integer n) h e = absurd (false≢true (ap (λ k. is_some (text_of k)) e))
 text_key texts text (keys.Long n) h e = absurd (false≢true (ap (λ k. is_some (text_of k)) e))
 text_key texts text (keys.Class name) h e = absurd (false≢true (ap (λ k. is_some (text_of k)) e))

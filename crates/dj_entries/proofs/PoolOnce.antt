@@ -202,11 +202,11 @@ past_in_once xs e full past ends = elim (there_or_not (all_kept [] xs) e) [
       absurd (omega (arith, le, i, ends, full))
 ]
 
-differ_seam : (front rest : List Entry) (e : Entry) → Differ (front ++ e ∷ rest) → Contains front e → ⊥
+differ_seam : (prefix rest : List Entry) (e : Entry) → Differ (prefix ++ e ∷ rest) → Contains prefix e → ⊥
 differ_seam [] rest e d h = none_in e h
-differ_seam (x ∷ front) rest e d h = elim (in_cases x front e h) [
-  | inl same ↦ each_in (λ y. x ≡ y → ⊥) (front ++ e ∷ rest) e d.0 (Contains-append_right front (e ∷ rest) e (in_here e rest)) same
-  | inr more ↦ differ_seam front rest e d.1 more
+differ_seam (x ∷ prefix) rest e d h = elim (in_cases x prefix e h) [
+  | inl same ↦ each_in (λ y. x ≡ y → ⊥) (prefix ++ e ∷ rest) e d.0 (Contains-append_right prefix (e ∷ rest) e (in_here e rest)) same
+  | inr more ↦ differ_seam prefix rest e d.1 more
 ]
 
 -- where all have an index the pool is the whole

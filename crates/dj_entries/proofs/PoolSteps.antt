@@ -158,20 +158,20 @@ module _ (texts : List Name) (ks : List Key) (es : List Entry) (made : AreKeysOf
 
     pub place_same : (i : ℕ) → StandsAt ks key i → (i ≡ index_of es e) × Contains es e
     place_same i at =
-        let s = seam_in (constant_of (index_of es)) es (constants_in texts at.front) (constants_in texts at.back) (constant_of_key texts key)
-        (sym made.constants ∙ (ap (constants_in texts) at.parts ∙ map_seam (constant_of_key texts) at.front at.back key)) in
+        let s = seam_in (constant_of (index_of es)) es (constants_in texts at.prefix) (constants_in texts at.back) (constant_of_key texts key)
+        (sym made.constants ∙ (ap (constants_in texts) at.parts ∙ map_seam (constant_of_key texts) at.prefix at.back key)) in
         let here : Contains es s.middle = subst (λ l. Contains l s.middle) (sym s.parts) (Contains-append_right s.first (s.middle ∷ s.last) s.middle (in_here s.middle s.last)) in
         let middle_is : s.middle ≡ e = same_entries es made.closed s.middle e (made.closed s.middle here) named (s.image ∙ alike) in
         let parts : es ≡ s.first ++ e ∷ s.last = s.parts ∙ ap (λ x. s.first ++ x ∷ s.last) middle_is in
-        let w = entry_widths (index_of es) s.first ∙ (ap const_widths s.front_is ∙ sym (widths_of_keys texts at.front)) in
-        let index = index_first es s.first s.last e parts (λ h. first_lacks s.first h s.front_is) in
+        let w = entry_widths (index_of es) s.first ∙ (ap const_widths s.prefix_is ∙ sym (widths_of_keys texts at.prefix)) in
+        let index = index_first es s.first s.last e parts (λ h. first_lacks s.first h s.prefix_is) in
         (at.index_is ∙ (ap (λ (n : ℕ). 1 + n) (sym w) ∙ sym index), subst (λ x. Contains es x) middle_is here) where
-          first_lacks : (first : List Entry) → Contains first e → map (constant_of (index_of es)) first ≡ constants_in texts at.front → ⊥
+          first_lacks : (first : List Entry) → Contains first e → map (constant_of (index_of es)) first ≡ constants_in texts at.prefix → ⊥
           first_lacks first h are =
-              let in_front = subst (λ l. Contains l (constant_of_key texts key)) are (subst (λ k. Contains (map (constant_of (index_of es)) first) k) (sym alike) (in_map (constant_of (index_of es)) first e h)) in
-              let x = from_map (constant_of_key texts) at.front (constant_of_key texts key) in_front in
-              let in_keys : Contains ks x.0 = subst (λ l. Contains l x.0) (sym at.parts) (Contains-append_left at.front (key ∷ at.back) x.0 x.1) in
-              at.absent (subst (λ y. Contains at.front y) (same_keys texts x.0 key (each_in (HasNumber texts) ks x.0 made.numbers in_keys) number x.2) x.1)
+              let in_prefix = subst (λ l. Contains l (constant_of_key texts key)) are (subst (λ k. Contains (map (constant_of (index_of es)) first) k) (sym alike) (in_map (constant_of (index_of es)) first e h)) in
+              let x = from_map (constant_of_key texts) at.prefix (constant_of_key texts key) in_prefix in
+              let in_keys : Contains ks x.0 = subst (λ l. Contains l x.0) (sym at.parts) (Contains-append_left at.prefix (key ∷ at.back) x.0 x.1) in
+              at.absent (subst (λ y. Contains at.prefix y) (same_keys texts x.0 key (each_in (HasNumber texts) ks x.0 made.numbers in_keys) number x.2) x.1)
 
 -- ---- one step
 

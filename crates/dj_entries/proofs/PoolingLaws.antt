@@ -24,17 +24,17 @@ module _ {A : Type 0} where
   rest_of (x ∷ xs) = xs
 
   -- the element after a prefix
-  at_seam : (front back : List A) (x d : A) → get_or (front ++ x ∷ back) (length front) d ≡ x
+  at_seam : (prefix back : List A) (x d : A) → get_or (prefix ++ x ∷ back) (length prefix) d ≡ x
   at_seam [] back x d = refl
-  at_seam (y ∷ front) back x d = at_seam front back x d
+  at_seam (y ∷ prefix) back x d = at_seam prefix back x d
 
-  before_seam : (front back more : List A) (x d : A) → get_or ((front ++ x ∷ back) ++ more) (length front) d ≡ x
+  before_seam : (prefix back more : List A) (x d : A) → get_or ((prefix ++ x ∷ back) ++ more) (length prefix) d ≡ x
   before_seam [] back more x d = refl
-  before_seam (y ∷ front) back more x d = before_seam front back more x d
+  before_seam (y ∷ prefix) back more x d = before_seam prefix back more x d
 
-  join : (front back more : List A) (x : A) → (front ++ x ∷ back) ++ more ≡ front ++ x ∷ (back ++ more)
+  join : (prefix back more : List A) (x : A) → (prefix ++ x ∷ back) ++ more ≡ prefix ++ x ∷ (back ++ more)
   join [] back more x = refl
-  join (y ∷ front) back more x = ap (λ l. y ∷ l) (join front back more x)
+  join (y ∷ prefix) back more x = ap (λ l. y ∷ l) (join prefix back more x)
 
 head_is : {B : Type 0} (d : B) (y z : B) (ys zs : List B) → y ∷ ys ≡ z ∷ zs → y ≡ z
 head_is d y z ys zs e = ap (λ l. get_or l 0 d) e
@@ -48,31 +48,31 @@ module _ {A B : Type 0} where
   map_back f g [] same = refl
   map_back f g (x ∷ xs) same = ap (λ y. y ∷ map g (map f xs)) (same x (in_here x xs)) ∙ ap (λ l. x ∷ l) (map_back f g xs (λ y h. same y (in_rest x xs y h)))
 
-  pub map_seam : (f : A → B) (front back : List A) (x : A) → map f (front ++ x ∷ back) ≡ map f front ++ f x ∷ map f back
+  pub map_seam : (f : A → B) (prefix back : List A) (x : A) → map f (prefix ++ x ∷ back) ≡ map f prefix ++ f x ∷ map f back
   map_seam f [] back x = refl
-  map_seam f (y ∷ front) back x = ap (λ l. f y ∷ l) (map_seam f front back x)
+  map_seam f (y ∷ prefix) back x = ap (λ l. f y ∷ l) (map_seam f prefix back x)
 
   -- where an image stands there stands an element
-  pub record Seam (f : A → B) (xs : List A) (front : List B) (y : B) : Type 0 where
+  pub record Seam (f : A → B) (xs : List A) (prefix : List B) (y : B) : Type 0 where
     pub first : List A
     pub middle : A
     pub last : List A
     pub parts : xs ≡ first ++ middle ∷ last
-    pub front_is : map f first ≡ front
+    pub prefix_is : map f first ≡ prefix
     pub image : f middle ≡ y
 
-  pub seam_in : (f : A → B) (xs : List A) (front back : List B) (y : B) → map f xs ≡ front ++ y ∷ back → Seam f xs front y
+  pub seam_in : (f : A → B) (xs : List A) (prefix back : List B) (y : B) → map f xs ≡ prefix ++ y ∷ back → Seam f xs prefix y
   seam_in f [] [] back y e = absurd (let n = ap length e in omega (arith, n))
-  seam_in f [] (z ∷ front) back y e = absurd (let n = ap length e in omega (arith, n))
-  seam_in f (x ∷ xs) [] back y e = record { first = []; middle = x; last = xs; parts = refl; front_is = refl; image = head_is y (f x) y (map f xs) back e }
-  seam_in f (x ∷ xs) (z ∷ front) back y e =
-      let s = seam_in f xs front back y (ap rest_of e) in
+  seam_in f [] (z ∷ prefix) back y e = absurd (let n = ap length e in omega (arith, n))
+  seam_in f (x ∷ xs) [] back y e = record { first = []; middle = x; last = xs; parts = refl; prefix_is = refl; image = head_is y (f x) y (map f xs) back e }
+  seam_in f (x ∷ xs) (z ∷ prefix) back y e =
+      let s = seam_in f xs prefix back y (ap rest_of e) in
       record {
         first = x ∷ s.first;
         middle = s.middle;
         last = s.last;
         parts = ap (λ l. x ∷ l) s.parts;
-        front_is = ap (λ l. f x ∷ l) s.front_is ∙ ap (λ w. w ∷ front) (head_is y (f x) z (map f xs) (front ++ y ∷ back) e);
+        prefix_is = ap (λ l. f x ∷ l) s.prefix_is ∙ ap (λ w. w ∷ prefix) (head_is y (f x) z (map f xs) (prefix ++ y ∷ back) e);
         image = s.image;
       }
 
@@ -81,29 +81,29 @@ module _ {A B : Type 0} where
 abbrev number_in : List Name → Name → ℕ
 number_in texts text = prefix_len (λ other. not (same_name other text)) texts
 
-number_first : (front back : List Name) (text : Name) → (Contains front text → ⊥) → number_in (front ++ text ∷ back) text ≡ length front
+number_first : (prefix back : List Name) (text : Name) → (Contains prefix text → ⊥) → number_in (prefix ++ text ∷ back) text ≡ length prefix
 number_first [] back text absent = ap (λ b. cond (not b) (1 + number_in back text) 0) ((bytes_decides text text).1 refl)
-number_first (other ∷ front) back text absent = elim (cases_Bool (same_name other text)) [
-  | inl so ↦ absurd (absent (subst (λ t. Contains (other ∷ front) t) ((bytes_decides other text).0 so) (in_here other front)))
+number_first (other ∷ prefix) back text absent = elim (cases_Bool (same_name other text)) [
+  | inl so ↦ absurd (absent (subst (λ t. Contains (other ∷ prefix) t) ((bytes_decides other text).0 so) (in_here other prefix)))
   | inr unlike ↦
-      let rest = number_first front back text (λ h. absent (in_rest other front text h)) in
-      let one : 1 + length front ≡ suc (length front) = omega arith in
-      ap (λ b. cond (not b) (1 + number_in (front ++ text ∷ back) text) 0) unlike ∙ (ap (λ (n : ℕ). 1 + n) rest ∙ one)
+      let rest = number_first prefix back text (λ h. absent (in_rest other prefix text h)) in
+      let one : 1 + length prefix ≡ suc (length prefix) = omega arith in
+      ap (λ b. cond (not b) (1 + number_in (prefix ++ text ∷ back) text) 0) unlike ∙ (ap (λ (n : ℕ). 1 + n) rest ∙ one)
 ]
 
 number_is_first : (texts : List Name) (text : Name) (n : ℕ) → IsNumberOf texts text n → number_in texts text ≡ n
-number_is_first texts text n h = ap (λ l. number_in l text) h.parts ∙ (number_first h.front h.back text h.absent ∙ sym h.number_is)
+number_is_first texts text n h = ap (λ l. number_in l text) h.parts ∙ (number_first h.prefix h.back text h.absent ∙ sym h.number_is)
 
 pub text_is : (texts : List Name) (text : Name) (n : ℕ) → IsNumberOf texts text n → get_or texts n [] ≡ text
-text_is texts text n h = ap (λ l. get_or l n []) h.parts ∙ (ap (λ (k : ℕ). get_or (h.front ++ text ∷ h.back) k []) h.number_is ∙ at_seam h.front h.back text [])
+text_is texts text n h = ap (λ l. get_or l n []) h.parts ∙ (ap (λ (k : ℕ). get_or (h.prefix ++ text ∷ h.back) k []) h.number_is ∙ at_seam h.prefix h.back text [])
 
 pub number_stays : (texts more : List Name) (text : Name) (n : ℕ) → IsNumberOf texts text n → IsNumberOf (texts ++ more) text n
 number_stays texts more text n h =
-    record { front = h.front; back = h.back ++ more; parts = ap (λ l. l ++ more) h.parts ∙ join h.front h.back more text; absent = h.absent; number_is = h.number_is }
+    record { prefix = h.prefix; back = h.back ++ more; parts = ap (λ l. l ++ more) h.parts ∙ join h.prefix h.back more text; absent = h.absent; number_is = h.number_is }
 
 -- a new text has the next number
 pub new_number : (texts : List Name) (text : Name) → (Contains texts text → ⊥) → IsNumberOf (texts ++ text ∷ []) text (length texts)
-new_number texts text absent = record { front = texts; back = []; parts = refl; absent = absent; number_is = refl }
+new_number texts text absent = record { prefix = texts; back = []; parts = refl; absent = absent; number_is = refl }
 
 -- ---- keys and constants
 
@@ -161,15 +161,15 @@ constant_with texts more (keys.Dynamic place names) h = refl
 
 -- ---- indexes
 
-first_before : (front back : List Entry) (e : Entry) → (Contains front e → ⊥) → before (front ++ e ∷ back) e ≡ front
+first_before : (prefix back : List Entry) (e : Entry) → (Contains prefix e → ⊥) → before (prefix ++ e ∷ back) e ≡ prefix
 first_before [] back e absent = ap (λ b. take (cond (not b) (1 + prefix_len (λ other. not (same_entry other e)) back) 0) (e ∷ back)) (same_itself e)
-first_before (x ∷ front) back e absent = elim (cases_Bool (same_entry x e)) [
-  | inl so ↦ absurd (absent (subst (λ y. Contains (x ∷ front) y) (same_is x e so) (in_here x front)))
+first_before (x ∷ prefix) back e absent = elim (cases_Bool (same_entry x e)) [
+  | inl so ↦ absurd (absent (subst (λ y. Contains (x ∷ prefix) y) (same_is x e so) (in_here x prefix)))
   | inr unlike ↦
-      let n = prefix_len (λ other. not (same_entry other e)) (front ++ e ∷ back) in
+      let n = prefix_len (λ other. not (same_entry other e)) (prefix ++ e ∷ back) in
       let one : 1 + n ≡ suc n = omega arith in
-      ap (λ b. take (cond (not b) (1 + n) 0) (x ∷ (front ++ e ∷ back))) unlike
-      ∙ (ap (λ (k : ℕ). take k (x ∷ (front ++ e ∷ back))) one ∙ ap (λ l. x ∷ l) (first_before front back e (λ h. absent (in_rest x front e h))))
+      ap (λ b. take (cond (not b) (1 + n) 0) (x ∷ (prefix ++ e ∷ back))) unlike
+      ∙ (ap (λ (k : ℕ). take k (x ∷ (prefix ++ e ∷ back))) one ∙ ap (λ l. x ∷ l) (first_before prefix back e (λ h. absent (in_rest x prefix e h))))
 ]
 
 all_before : (es : List Entry) (e : Entry) → (Contains es e → ⊥) → before es e ≡ es
@@ -209,8 +209,8 @@ index_stays es more e h = index_is (es ++ more) e ∙ (ap (λ l. 1 + widths l) (
 pub index_absent : (es : List Entry) (e : Entry) → (Contains es e → ⊥) → index_of es e ≡ 1 + widths es
 index_absent es e absent = index_is es e ∙ ap (λ l. 1 + widths l) (all_before es e absent)
 
-pub index_first : (es front back : List Entry) (e : Entry) → es ≡ front ++ e ∷ back → (Contains front e → ⊥) → index_of es e ≡ 1 + widths front
-index_first es front back e parts absent = index_is es e ∙ ap (λ l. 1 + widths l) (ap (λ l. before l e) parts ∙ first_before front back e absent)
+pub index_first : (es prefix back : List Entry) (e : Entry) → es ≡ prefix ++ e ∷ back → (Contains prefix e → ⊥) → index_of es e ≡ 1 + widths prefix
+index_first es prefix back e parts absent = index_is es e ∙ ap (λ l. 1 + widths l) (ap (λ l. before l e) parts ∙ first_before prefix back e absent)
 
 pub has_index_with : (es more : List Entry) (e : Entry) → HasIndex es e → HasIndex (es ++ more) e
 has_index_with es more e h = (Contains-append_left es more e h.0, subst (λ (n : ℕ). n + width e ≤ most_next) (sym (index_stays es more e h.0)) h.1)

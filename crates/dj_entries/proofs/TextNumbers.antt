@@ -20,14 +20,14 @@ module _ {X : Type 0} (items : X → Name) (text : Name) where
   is_text x = bytes_eq text (items x)
 
   record From (n : ℕ) (xs : List X) (i : ℕ) : Type 0 where
-    front : List Name
+    prefix : List Name
     back : List Name
-    parts : map items xs ≡ front ++ text ∷ back
-    absent : Contains front text → ⊥
-    number_is : i ≡ n + length front
+    parts : map items xs ≡ prefix ++ text ∷ back
+    absent : Contains prefix text → ⊥
+    number_is : i ≡ n + length prefix
 
-  unlike : (x : X) (front : List Name) → is_text x ≡ false → (Contains front text → ⊥) → Contains (items x ∷ front) text → ⊥
-  unlike x front other absent h = elim (in_cases (items x) front text h) [
+  unlike : (x : X) (prefix : List Name) → is_text x ≡ false → (Contains prefix text → ⊥) → Contains (items x ∷ prefix) text → ⊥
+  unlike x prefix other absent h = elim (in_cases (items x) prefix text h) [
     | inl same ↦ false≢true (sym other ∙ (bytes_decides text (items x)).1 (sym same))
     | inr more ↦ absent more
   ]
@@ -37,11 +37,11 @@ module _ {X : Type 0} (items : X → Name) (text : Name) where
   from_found n (x ∷ xs) i e = elim (cases_Bool (is_text x)) [
     | inl so ↦
         let here = ap (λ (r : Option ℕ). unwrap_or r n) (sym (ap (λ b. cond b (Some n) (position_from is_text (n + 1) xs)) so) ∙ e) in
-        record { front = []; back = map items xs; parts = ap (λ t. t ∷ map items xs) (sym ((bytes_decides text (items x)).0 so)); absent = λ h. none_in text h; number_is = omega (arith, here) }
+        record { prefix = []; back = map items xs; parts = ap (λ t. t ∷ map items xs) (sym ((bytes_decides text (items x)).0 so)); absent = λ h. none_in text h; number_is = omega (arith, here) }
     | inr other ↦
         let r = from_found (n + 1) xs i (sym (ap (λ b. cond b (Some n) (position_from is_text (n + 1) xs)) other) ∙ e) in
         let at = r.number_is in
-        record { front = items x ∷ r.front; back = r.back; parts = ap (λ l. items x ∷ l) r.parts; absent = λ h. unlike x r.front other r.absent h; number_is = omega (arith, at) }
+        record { prefix = items x ∷ r.prefix; back = r.back; parts = ap (λ l. items x ∷ l) r.parts; absent = λ h. unlike x r.prefix other r.absent h; number_is = omega (arith, at) }
   ]
 
   from_missing : (n : ℕ) (xs : List X) → position_from is_text n xs ≡ None → Contains (map items xs) text → ⊥
@@ -63,7 +63,7 @@ found xs items text None e = from_missing items text 0 xs (sym (position_from-ze
 found xs items text (Some i) e =
     let r = from_found items text 0 xs i (sym (position_from-zero (λ x. bytes_eq text (items x)) xs) ∙ sym e) in
     let at = r.number_is in
-    record { front = r.front; back = r.back; parts = r.parts; absent = r.absent; number_is = omega (arith, at) }
+    record { prefix = r.prefix; back = r.back; parts = r.parts; absent = r.absent; number_is = omega (arith, at) }
 
 -- a new text is put last
 pub put_text : {X : Type 0} (xs : List X) (items : X → Name) (x : X) (text : Name) → items x ≡ text → (Contains (map items xs) text → ⊥)

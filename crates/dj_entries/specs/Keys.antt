@@ -33,11 +33,11 @@ pub record IsNumbered (entries : List (Key × ℕ)) (next : ℕ) : Type 0 where
 
 -- the key has this index, where it stands first
 pub record StandsAt (ks : List Key) (key : Key) (index : ℕ) : Type 0 where
-  pub front : List Key
+  pub prefix : List Key
   pub back : List Key
-  pub parts : ks ≡ front ++ key ∷ back
-  pub absent : Contains front key → ⊥
-  pub index_is : index ≡ next_index front
+  pub parts : ks ≡ prefix ++ key ∷ back
+  pub absent : Contains prefix key → ⊥
+  pub index_is : index ≡ next_index prefix
 
 -- the constant of the key ends where it may
 abbrev pub EndsWithin : Key → ℕ → Type 0

@@ -14,11 +14,11 @@ use Rattle.dj_entries.specs.trusted.Entries.{Entry, Utf8, Integer, Long, Class, 
 
 -- this many texts are before the first that is this one
 pub record IsNumberOf (texts : List Name) (text : Name) (number : ℕ) : Type 0 where
-  pub front : List Name
+  pub prefix : List Name
   pub back : List Name
-  pub parts : texts ≡ front ++ text ∷ back
-  pub absent : Contains front text → ⊥
-  pub number_is : number ≡ length front
+  pub parts : texts ≡ prefix ++ text ∷ back
+  pub absent : Contains prefix text → ⊥
+  pub number_is : number ≡ length prefix
 
 abbrev pub IsFound : List Name → Name → Option ℕ → Type 0
 IsFound texts text (Some number) = IsNumberOf texts text number

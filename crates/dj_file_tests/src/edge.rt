@@ -114,7 +114,7 @@ fn puts(alloc: Global) -> bool {
 }
 
 #[test]
-fn puts_all_or_a_front(rt: HostRuntime) {
+fn puts_all_or_a_prefix(rt: HostRuntime) {
     assert!(rt; puts(rt.alloc()));
 }
 

@@ -123,12 +123,12 @@ const LIMITS: [(&[u8], u8, usize, &[u8], (bool, bool)); 4] = [
 
 fn repeated(
     alloc: Global,
-    front: &[u8],
+    prefix: &[u8],
     unit: u8,
     count: usize,
     back: &[u8],
 ) -> Result<Bytes, NoMemory> {
-    let mut text = Bytes::from_slice(alloc, front)?;
+    let mut text = Bytes::from_slice(alloc, prefix)?;
     for _ in 0..count {
         text.push(unit)?;
     }
@@ -142,8 +142,8 @@ fn is_limit(alloc: Global, text: &[u8], wanted: (bool, bool)) -> bool {
 
 #[test]
 fn limits(rt: HostRuntime) {
-    for (front, unit, count, back, wanted) in &LIMITS {
-        let text = repeated(rt.alloc(), front, *unit, *count, back);
+    for (prefix, unit, count, back, wanted) in &LIMITS {
+        let text = repeated(rt.alloc(), prefix, *unit, *count, back);
         assert!(rt; matches!(&text, Ok(text) if is_limit(rt.alloc(), text.as_slice(), *wanted)));
     }
 }

@@ -5,7 +5,7 @@ use dj_report::{
 use std::alloc::Global;
 
 // The report has this text, and the program ends with this status.
-fn tells(alloc: Global, report: &Report, text: &[u8], status: u8) -> Result<bool, ReportError> {
+fn says(alloc: Global, report: &Report, text: &[u8], status: u8) -> Result<bool, ReportError> {
     let bytes = bytes_of(alloc, report)?;
     Ok(bytes.as_slice() == text && status_of(report) == status)
 }
@@ -41,7 +41,7 @@ const PLAIN: [(Report, &[u8], u8); 10] = [
 #[test]
 fn plain_reports(rt: HostRuntime) {
     for (report, text, status) in &PLAIN {
-        assert!(rt; tells(rt.alloc(), report, text, *status) == Ok(true));
+        assert!(rt; says(rt.alloc(), report, text, *status) == Ok(true));
     }
 }
 
@@ -56,7 +56,7 @@ const PATHS: [(bool, &[u8], &[u8], u8); 2] = [
     (true, b"in", b"ABSENT in\n", 65),
 ];
 
-fn tells_path(
+fn says_path(
     alloc: Global,
     is_absent: bool,
     path: &[u8],
@@ -71,13 +71,13 @@ fn tells_path(
     } else {
         Report::Later(path)
     };
-    tells(alloc, &report, text, status)
+    says(alloc, &report, text, status)
 }
 
 #[test]
 fn reports_of_paths(rt: HostRuntime) {
     for (is_absent, path, text, status) in &PATHS {
-        assert!(rt; tells_path(rt.alloc(), *is_absent, path, text, *status) == Ok(true));
+        assert!(rt; says_path(rt.alloc(), *is_absent, path, text, *status) == Ok(true));
     }
 }
 
@@ -102,34 +102,29 @@ const ENDS: [(Outcome, &[u8], u8); 9] = [
 ];
 
 // The report on a run that ended so has this line and one of the costs, and the program ends with this status.
-fn tells_run(
-    alloc: Global,
-    outcome: Outcome,
-    line: &[u8],
-    status: u8,
-) -> Result<bool, ReportError> {
+fn says_run(alloc: Global, outcome: Outcome, line: &[u8], status: u8) -> Result<bool, ReportError> {
     let mut text = Vec::from_slice(alloc, line)?;
     text.extend_from_slice(b"costs alloc 24 invoke 0 jump 7 throw 0\n")?;
     let report = Report::Costed {
         outcome,
         costs: COSTS,
     };
-    tells(alloc, &report, &text, status)
+    says(alloc, &report, &text, status)
 }
 
 #[test]
 fn plain_ends(rt: HostRuntime) {
     for (outcome, line, status) in ENDS {
-        assert!(rt; tells_run(rt.alloc(), outcome, line, status) == Ok(true));
+        assert!(rt; says_run(rt.alloc(), outcome, line, status) == Ok(true));
     }
 }
 
 // What a run returned, and its line.
 const RETURNED: [(&[u8], &[u8]); 2] = [(b"", b"OK 0\n"), (b"\x0a\x0b", b"OK 2 0a0b\n")];
 
-fn tells_bytes(alloc: Global, bytes: &[u8], line: &[u8]) -> Result<bool, ReportError> {
+fn says_bytes(alloc: Global, bytes: &[u8], line: &[u8]) -> Result<bool, ReportError> {
     match Bytes::from_slice(alloc, bytes) {
-        Ok(bytes) => tells_run(alloc, Outcome::OkBytes(bytes), line, 0),
+        Ok(bytes) => says_run(alloc, Outcome::OkBytes(bytes), line, 0),
         Err(_) => Err(ReportError::Memory),
     }
 }
@@ -137,7 +132,7 @@ fn tells_bytes(alloc: Global, bytes: &[u8], line: &[u8]) -> Result<bool, ReportE
 #[test]
 fn returned_bytes(rt: HostRuntime) {
     for (bytes, line) in &RETURNED {
-        assert!(rt; tells_bytes(rt.alloc(), bytes, line) == Ok(true));
+        assert!(rt; says_bytes(rt.alloc(), bytes, line) == Ok(true));
     }
 }
 
@@ -193,9 +188,9 @@ fn thrown_of(alloc: Global, row: &Thrown) -> Result<Outcome, NoMemory> {
     }
 }
 
-fn tells_thrown(alloc: Global, row: &Thrown) -> Result<bool, ReportError> {
+fn says_thrown(alloc: Global, row: &Thrown) -> Result<bool, ReportError> {
     match thrown_of(alloc, row) {
-        Ok(outcome) => tells_run(alloc, outcome, row.3, row.4),
+        Ok(outcome) => says_run(alloc, outcome, row.3, row.4),
         Err(_) => Err(ReportError::Memory),
     }
 }
@@ -203,7 +198,7 @@ fn tells_thrown(alloc: Global, row: &Thrown) -> Result<bool, ReportError> {
 #[test]
 fn exceptions(rt: HostRuntime) {
     for row in &THROWN {
-        assert!(rt; tells_thrown(rt.alloc(), row) == Ok(true));
+        assert!(rt; says_thrown(rt.alloc(), row) == Ok(true));
     }
 }
 
@@ -258,9 +253,7 @@ fn rejected(alloc: Global) -> Result<Report, ReportError> {
 #[test]
 fn violations_in_order(rt: HostRuntime) {
     let report = rejected(rt.alloc());
-    assert!(rt;
-        matches!(&report, Ok(report) if tells(rt.alloc(), report, REJECTED, 2) == Ok(true))
-    );
+    assert!(rt; matches!(&report, Ok(report) if says(rt.alloc(), report, REJECTED, 2) == Ok(true)));
 }
 
 // Lines that rise: no number comes before any, and capital letters before small ones.

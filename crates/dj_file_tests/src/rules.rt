@@ -102,7 +102,7 @@ const ERRORS: [(ClassError, bool); 3] = [
 ];
 
 #[test]
-fn errors_told_apart(rt: HostRuntime) {
+fn errors_differ(rt: HostRuntime) {
     for (error, memory) in &ERRORS {
         assert!(rt; is_memory(*error) == *memory);
     }

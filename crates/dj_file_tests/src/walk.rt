@@ -1,6 +1,6 @@
 ghost use Rattle.std.specs.Prelude.{None};
 
-use dj_edge::{Entry, EntryKind, Folders, ListError, files_below, list_folder};
+use dj_edge::{EntryKind, FolderEntry, Folders, ListError, files_below, list_folder};
 use std::alloc::{AllocError, Global};
 use std::test::Fail;
 
@@ -29,9 +29,9 @@ impl Chain {
         }
     }
 
-    fn entry(&self, alloc: Global, name: &str, kind: EntryKind) -> Result<Entry, AllocError> {
+    fn entry(&self, alloc: Global, name: &str, kind: EntryKind) -> Result<FolderEntry, AllocError> {
         let path = format!(in alloc; "{}{name}", self.folder.as_str())?;
-        Ok(Entry { path, kind })
+        Ok(FolderEntry { path, kind })
     }
 
     fn fails(&mut self) -> bool {
@@ -55,7 +55,7 @@ impl Folders for Chain {
         self.folder.push_str(folder).map_err(|_| ListError::Memory)
     }
 
-    fn next(&mut self, alloc: Global) -> Result<Option<Entry>, ListError> {
+    fn next(&mut self, alloc: Global) -> Result<Option<FolderEntry>, ListError> {
         if self.fails() {
             return Err(ListError::Failed);
         }
@@ -128,14 +128,14 @@ fn lists_each_once(rt: HostRuntime) -> Result<(), Fail> {
 
 // Folders whose contents are known: each is empty, or none can be read.
 #[derive(Drop)]
-struct Told(bool);
+struct Reported(bool);
 
-impl Folders for Told {
+impl Folders for Reported {
     ghost use Rattle.std.specs.Prelude.{Some, None, [], cond};
 
-    ghost tree = { λ told. Some (λ _. cond told.0 (Some []) None) };
+    ghost tree = { λ reported. Some (λ _. cond reported.0 (Some []) None) };
 
-    ghost left = { λ told. cond told.0 (Some []) None };
+    ghost left = { λ reported. cond reported.0 (Some []) None };
 
     fn open(&mut self, _folder: &str) -> Result<(), ListError> {
         if self.0 {
@@ -145,7 +145,7 @@ impl Folders for Told {
         }
     }
 
-    fn next(&mut self, _alloc: Global) -> Result<Option<Entry>, ListError> {
+    fn next(&mut self, _alloc: Global) -> Result<Option<FolderEntry>, ListError> {
         if self.0 {
             Ok(None)
         } else {
@@ -156,8 +156,8 @@ impl Folders for Told {
 
 #[test]
 fn empty_or_unread(rt: HostRuntime) {
-    let empty = list_folder(rt.alloc(), &mut Told(true), "f", 9);
+    let empty = list_folder(rt.alloc(), &mut Reported(true), "f", 9);
     assert!(rt; matches!(&empty, Ok(paths) if paths.is_empty()));
-    let unread = list_folder(rt.alloc(), &mut Told(false), "f", 9);
+    let unread = list_folder(rt.alloc(), &mut Reported(false), "f", 9);
     assert!(rt; matches!(&unread, Err(ListError::Failed)));
 }

@@ -25,9 +25,9 @@ pub all_join : {A : Type 0} (P : A → Type 0) (xs ys : List A) → AllByRecursi
 all_join P [] ys p q = q
 all_join P (x ∷ xs) ys p q = (p.0, all_join P xs ys p.1 q)
 
-pub all_front : {A : Type 0} (P : A → Type 0) (xs ys : List A) → AllByRecursion P (xs ++ ys) → AllByRecursion P xs
-all_front P [] ys p = tt
-all_front P (x ∷ xs) ys p = (p.0, all_front P xs ys p.1)
+pub all_prefix : {A : Type 0} (P : A → Type 0) (xs ys : List A) → AllByRecursion P (xs ++ ys) → AllByRecursion P xs
+all_prefix P [] ys p = tt
+all_prefix P (x ∷ xs) ys p = (p.0, all_prefix P xs ys p.1)
 
 pub all_back : {A : Type 0} (P : A → Type 0) (xs ys : List A) → AllByRecursion P (xs ++ ys) → AllByRecursion P ys
 all_back P [] ys p = p
@@ -130,7 +130,7 @@ form_again starts rise c (forms.Append locals) next counts types s =
     let same : append_at starts ((251 + length locals) - 251) c ≡ append_at starts (length locals) c = ap (λ (n : ℕ). append_at starts n c) is in
     cond_false _ a (cond_false _ b (cond_false _ d (cond_true _ f (same ∙ read))))
 form_again starts rise c (forms.Full locals operands) next counts types s =
-    let few : AreFew (IsType starts) locals = (counts.0, all_front (IsType starts) locals operands types) in
+    let few : AreFew (IsType starts) locals = (counts.0, all_prefix (IsType starts) locals operands types) in
     let more : AreFew (IsType starts) operands = (counts.1, all_back (IsType starts) locals operands types) in
     let first = step_again (table_reads errors.BadFrame (type_reads starts rise)) c locals (table_bytes (type_bytes starts) operands) next few s in
     bind_again _ first.1 (bind_again _ ((table_reads errors.BadFrame (type_reads starts rise)).again first.0 operands next more first.2) refl)

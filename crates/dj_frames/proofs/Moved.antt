@@ -12,7 +12,7 @@ use Rattle.dj_frames.specs.trusted.StackMaps.{types_of}
 use Rattle.dj_frames.specs.StackMaps.{IsTypeBelow, IsFrameBelow}
 use Rattle.dj_frames.specs.Moves.{moved_type, moved_form, moved_frame}
 use Rattle.dj_frames.specs.Laws.{IsUnchanged, MovedNowhere}
-use Rattle.dj_frames.proofs.Written.{all_of_front, all_of_back}
+use Rattle.dj_frames.proofs.Written.{all_of_prefix, all_of_back}
 
 type_stays : (own : List ℕ) → IsUnchanged own → (type : VType) → IsTypeBelow (length own) type → moved_type own type ≡ type
 type_stays own same (types.Uninitialized number) below = ap types.Uninitialized (same number below)
@@ -41,7 +41,7 @@ form_stays own same (forms.Stack1 operand) below =
 form_stays own same (forms.Append locals) below = ap forms.Append (types_stay own same locals below)
 form_stays own same (forms.Full locals operands) below =
     ap₂ forms.Full
-    (types_stay own same locals (all_of_front (IsTypeBelow (length own)) locals operands below))
+    (types_stay own same locals (all_of_prefix (IsTypeBelow (length own)) locals operands below))
     (types_stay own same operands (all_of_back (IsTypeBelow (length own)) locals operands below))
 
 frame_stays : (start own : List ℕ) → IsUnchanged start → IsUnchanged own → (frame : Frame) → IsFrameBelow (length start) frame → IsFrameBelow (length own) frame → moved_frame start own frame ≡ frame

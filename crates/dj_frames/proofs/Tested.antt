@@ -4,7 +4,7 @@ use Rattle.std.specs.Prelude.{◌↔◌, All, AllPairs, IsTrue}
 use Rattle.std.proofs.lemmas.Bool.{cases_lt}
 use Rattle.std.proofs.lemmas.List.Elements.{All-append}
 use Rattle.dj_ops.specs.declared.frames.Frame.{Frame}
-use Rattle.dj_frames.proofs.Written.{all_of_front, all_of_back}
+use Rattle.dj_frames.proofs.Written.{all_of_prefix, all_of_back}
 
 -- the first list passes, and the second is tested
 pub then_second : {A : Type 0} (P : A → Type 0) (xs ys : List A) (r : Bool) → All P xs → (IsTrue r ↔ All P ys) → IsTrue r ↔ All P (xs ++ ys)
@@ -12,7 +12,7 @@ then_second P xs ys r first h = (λ t. All-append P xs ys first (h.0 t), λ all.
 
 -- the first list fails
 pub else_first : {A : Type 0} (P : A → Type 0) (xs ys : List A) (r : Bool) → r ≡ false → (IsTrue r ↔ All P xs) → IsTrue r ↔ All P (xs ++ ys)
-else_first P xs ys r fails h = (λ t. absurd cc, λ all. h.1 (all_of_front P xs ys all))
+else_first P xs ys r fails h = (λ t. absurd cc, λ all. h.1 (all_of_prefix P xs ys all))
 
 -- each frame's number is below the next one's
 abbrev pub IsStepwise : List Frame → Type 0

@@ -153,7 +153,7 @@ pub types_stop : (starts : List ℕ) → IsStrictlyIncreasing starts → (count 
 types_stop starts rise count c e fits h =
     let s = many_stops (type_reads starts rise) count c e fits h in
     record {
-      found = s.front;
+      found = s.prefix;
       more = s.mid.rest;
       begins = record { good = s.good; are = s.spans.parts };
       few = s.within;

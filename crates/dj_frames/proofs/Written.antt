@@ -15,12 +15,12 @@ use Rattle.dj_frames.specs.trusted.Written.{short_tag, head_with, head_bytes, fr
 use Rattle.dj_frames.specs.Reading.{frames_read}
 use Rattle.dj_frames.proofs.Numbers.{rises}
 use Rattle.dj_frames.proofs.WholeLaws.{map_again}
-use Rattle.dj_frames.proofs.FormLaws.{all_front, all_back}
+use Rattle.dj_frames.proofs.FormLaws.{all_prefix, all_back}
 
 -- ---- lists that are joined
 
-pub all_of_front : {A : Type 0} (P : A → Type 0) (xs ys : List A) → All P (xs ++ ys) → All P xs
-all_of_front P xs ys h = All-from_recursion P xs (all_front P xs ys (recursion_from_All P (xs ++ ys) h))
+pub all_of_prefix : {A : Type 0} (P : A → Type 0) (xs ys : List A) → All P (xs ++ ys) → All P xs
+all_of_prefix P xs ys h = All-from_recursion P xs (all_prefix P xs ys (recursion_from_All P (xs ++ ys) h))
 
 pub all_of_back : {A : Type 0} (P : A → Type 0) (xs ys : List A) → All P (xs ++ ys) → All P ys
 all_of_back P xs ys h = All-from_recursion P ys (all_back P xs ys (recursion_from_All P (xs ++ ys) h))

@@ -50,14 +50,6 @@ impl<T: Drop> From<AllocFailed<T>> for FrameError {
     }
 }
 
-impl From<dj_ops::NoMemory> for FrameError {
-    ghost from_gives = { λ _ e. e ≡ errors.Memory };
-
-    fn from(_error: dj_ops::NoMemory) -> FrameError {
-        FrameError::Memory
-    }
-}
-
 impl From<dj_names::NoMemory> for FrameError {
     ghost from_gives = { λ _ e. e ≡ errors.Memory };
 

@@ -1,8 +1,8 @@
 -- The last component is closed: the closed nodes are whole, and the rest of the search is sound.
 use Rattle.std.proofs.Common.{◌≡◌, ℕ, ◌-◌, ◌<◌, ◌≤◌, List, length, take, drop, sym, ◌∙◌, subst, inl, inr, arith}
 use Rattle.std.proofs.lemmas.Bool.{cases_lt}
-use Rattle.dj_graph.specs.declared.mark.Mark.{Mark}
-use Rattle.dj_graph.specs.declared.mark.Mark.TheVariants.{Open, Closed}
+use Rattle.dj_graph.specs.declared.mark.NodeMark.{NodeMark}
+use Rattle.dj_graph.specs.declared.mark.NodeMark.TheVariants.{Open, Closed}
 use Rattle.dj_graph.specs.Graphs.{Edges, HasEdge, Reaches}
 use Rattle.dj_graph.specs.Searches.{IsClosed, IsSettled, AreWhole, IsSound, Numbers, IsLast}
 use Rattle.dj_graph.proofs.Lists.{At, one_at, of_take}
@@ -11,7 +11,7 @@ use Rattle.dj_graph.proofs.Joined.{fewer_starts}
 use Rattle.dj_graph.proofs.Closing.{IsClosing, closing, closed_still, closed_path, closed_linked, closed_starts, closed_work, before_last}
 
 -- an edge from a node of the last component leads to a closed node, or to one of that component
-closed_edge : (edges : Edges) (marks new : List Mark) (looked path starts work : List ℕ) (start number i a b : ℕ) → IsSound edges marks looked path starts work → IsLast starts start → ((s x : ℕ) → At work s x → x < start) → IsClosing start number marks new → At marks a (Open i) → start ≤ i → HasEdge edges a b → IsClosed new b
+closed_edge : (edges : Edges) (marks new : List NodeMark) (looked path starts work : List ℕ) (start number i a b : ℕ) → IsSound edges marks looked path starts work → IsLast starts start → ((s x : ℕ) → At work s x → x < start) → IsClosing start number marks new → At marks a (Open i) → start ≤ i → HasEdge edges a b → IsClosed new b
 closed_edge edges marks new looked path starts work start number i a b sound last low closes at le edge =
     let parts = edge_parts edges a b edge in
     elim (sound.settled i a parts.1 b parts.0 (sound.path_is.listed i a at) parts.2 parts.3) [
@@ -26,7 +26,7 @@ closed_edge edges marks new looked path starts work start number i a b sound las
     ]
 
 -- each node of the last component is reached from the first and reaches it
-closed_named : (edges : Edges) (marks new : List Mark) (looked path starts work : List ℕ) (start number i a : ℕ) → IsSound edges marks looked path starts work → IsLast starts start → At path start number → At marks a (Open i) → start ≤ i → Reaches edges a number × Reaches edges number a
+closed_named : (edges : Edges) (marks new : List NodeMark) (looked path starts work : List ℕ) (start number i a : ℕ) → IsSound edges marks looked path starts work → IsLast starts start → At path start number → At marks a (Open i) → start ≤ i → Reaches edges a number × Reaches edges number a
 closed_named edges marks new looked path starts work start number i a sound last first at le =
     let there = sound.path_is.listed i a at in (
       sound.linked.back start i number a le first there (λ s x start_at above most. let h = before_last starts start s x sound.starts_are.rising last start_at in omega (arith, h, above)),
@@ -34,13 +34,13 @@ closed_named edges marks new looked path starts work start number i a sound last
     )
 
 -- a closed node reaches no open one
-not_open : (edges : Edges) (marks : List Mark) (a b m i : ℕ) → AreWhole edges marks → At marks a (Closed m) → At marks b (Open i) → Reaches edges a b → ⊥
+not_open : (edges : Edges) (marks : List NodeMark) (a b m i : ℕ) → AreWhole edges marks → At marks a (Closed m) → At marks b (Open i) → Reaches edges a b → ⊥
 not_open edges marks a b m i whole closed open_ reaches =
     let there : IsClosed marks b = stays_within (IsClosed marks) (λ x y here edge. whole.onward x y here.0 here.1 edge) reaches (m, closed) in
     let e : Closed there.0 ≡ Open i = one_at marks b (Closed there.0) (Open i) there.1 open_ in
     absurd cc
 
-closed_whole : (edges : Edges) (marks new : List Mark) (looked path starts work : List ℕ) (start number : ℕ) → IsSound edges marks looked path starts work → IsLast starts start → ((s x : ℕ) → At work s x → x < start) → At path start number → IsClosing start number marks new → AreWhole edges new
+closed_whole : (edges : Edges) (marks new : List NodeMark) (looked path starts work : List ℕ) (start number : ℕ) → IsSound edges marks looked path starts work → IsLast starts start → ((s x : ℕ) → At work s x → x < start) → At path start number → IsClosing start number marks new → AreWhole edges new
 closed_whole edges marks new looked path starts work start number sound last low first closes = record {
   onward = λ a b m at edge. elim (closes.was_closed a m at) [
     | inl old ↦ closed_still start number b marks new closes (sound.whole.onward a b m old edge)
@@ -62,7 +62,7 @@ closed_whole edges marks new looked path starts work start number sound last low
   ];
 }
 
-closed_settled : (marks new : List Mark) (starts : List ℕ) (start number i b : ℕ) → IsClosing start number marks new → IsSettled marks starts i b → IsSettled new (take (length starts - 1) starts) i b
+closed_settled : (marks new : List NodeMark) (starts : List ℕ) (start number i b : ℕ) → IsClosing start number marks new → IsSettled marks starts i b → IsSettled new (take (length starts - 1) starts) i b
 closed_settled marks new starts start number i b closes settled =
     elim settled [
       | inl closed ↦ inl (closed_still start number b marks new closes closed)
@@ -72,7 +72,7 @@ closed_settled marks new starts start number i b closes settled =
       ]
     ]
 
-pub closed_sound : (edges : Edges) (marks new : List Mark) (looked path starts work : List ℕ) (start number : ℕ) → IsSound edges marks looked path starts work → IsLast starts start → ((s x : ℕ) → At work s x → x < start) → At path start number → Numbers (drop start path) number marks new → IsSound edges new looked (take start path) (take (length starts - 1) starts) work
+pub closed_sound : (edges : Edges) (marks new : List NodeMark) (looked path starts work : List ℕ) (start number : ℕ) → IsSound edges marks looked path starts work → IsLast starts start → ((s x : ℕ) → At work s x → x < start) → At path start number → Numbers (drop start path) number marks new → IsSound edges new looked (take start path) (take (length starts - 1) starts) work
 closed_sound edges marks new looked path starts work start number sound last low first numbers =
     let closes : IsClosing start number marks new = closing path start number marks new sound.path_is numbers in
     record {

@@ -2,14 +2,14 @@
 use Rattle.std.proofs.Common.{◌≡◌, ℕ, ◌+◌, ◌-◌, ◌<◌, ◌≤◌, ◌⊎◌, List, length, take, drop, slice_get, refl, sym, ◌∙◌, ap, subst, inl, inr, arith}
 use Rattle.std.proofs.lemmas.List.{length-take}
 use Rattle.std.proofs.lemmas.Bool.{cases_lt}
-use Rattle.dj_graph.specs.declared.mark.Mark.{Mark}
-use Rattle.dj_graph.specs.declared.mark.Mark.TheVariants.{Unfound, Open, Closed}
+use Rattle.dj_graph.specs.declared.mark.NodeMark.{NodeMark}
+use Rattle.dj_graph.specs.declared.mark.NodeMark.TheVariants.{Unfound, Open, Closed}
 use Rattle.dj_graph.specs.Graphs.{Edges}
 use Rattle.dj_graph.specs.Searches.{IsClosed, Rises, IsPath, IsLinked, AreStarts, ArePlaces, Numbers, IsLast}
 use Rattle.dj_graph.proofs.Lists.{At, at_within, at_some, one_at, same_or_not, of_take, in_take, of_drop, earlier}
 
 -- what became of a node
-pub record IsClosing (start number : ℕ) (old new : List Mark) : Type 0 where
+pub record IsClosing (start number : ℕ) (old new : List NodeMark) : Type 0 where
   pub stays : (a m : ℕ) → At old a (Closed m) → At new a (Closed m)
   pub below : (a i : ℕ) → At old a (Open i) → i < start → At new a (Open i)
   pub above : (a i : ℕ) → At old a (Open i) → start ≤ i → At new a (Closed number)
@@ -18,17 +18,17 @@ pub record IsClosing (start number : ℕ) (old new : List Mark) : Type 0 where
   pub was_unfound : (a : ℕ) → At new a Unfound → At old a Unfound
 
 -- a node that isn't in the last part of the path keeps its mark
-kept_mark : (path : List ℕ) (start number a : ℕ) (old new : List Mark) → IsPath old path → Numbers (drop start path) number old new → ((i : ℕ) → At old a (Open i) → start ≤ i → ⊥) → slice_get new a ≡ slice_get old a
+kept_mark : (path : List ℕ) (start number a : ℕ) (old new : List NodeMark) → IsPath old path → Numbers (drop start path) number old new → ((i : ℕ) → At old a (Open i) → start ≤ i → ⊥) → slice_get new a ≡ slice_get old a
 kept_mark path start number a old new is numbers apart =
     numbers.others a (λ i at. apart (start + i) (is.placed (start + i) a (sym (of_drop start path i) ∙ at)) (omega arith))
 
-closing_above : (path : List ℕ) (start number a i : ℕ) (old new : List Mark) → IsPath old path → Numbers (drop start path) number old new → At old a (Open i) → start ≤ i → At new a (Closed number)
+closing_above : (path : List ℕ) (start number a i : ℕ) (old new : List NodeMark) → IsPath old path → Numbers (drop start path) number old new → At old a (Open i) → start ≤ i → At new a (Closed number)
 closing_above path start number a i old new is numbers at le =
     let split : start + (i - start) ≡ i = omega (arith, le) in
     numbers.among (i - start) a (of_drop start path (i - start) ∙ ap (slice_get path) split ∙ is.listed i a at)
 
 -- a mark that isn't of the last part of the path stayed, and is not of that part
-stayed : (path : List ℕ) (start number a : ℕ) (mark x : Mark) (old new : List Mark) → IsPath old path → Numbers (drop start path) number old new → At new a mark → At old a x → ((i : ℕ) → x ≡ Open i → i < start) → At old a mark × ((i : ℕ) → mark ≡ Open i → i < start)
+stayed : (path : List ℕ) (start number a : ℕ) (mark x : NodeMark) (old new : List NodeMark) → IsPath old path → Numbers (drop start path) number old new → At new a mark → At old a x → ((i : ℕ) → x ≡ Open i → i < start) → At old a mark × ((i : ℕ) → mark ≡ Open i → i < start)
 stayed path start number a mark x old new is numbers at was low =
     let kept : slice_get new a ≡ slice_get old a =
     kept_mark path start number a old new is numbers (λ i open_ le. let e = one_at old a x (Open i) was open_ in let h = low i e in omega (arith, h, le)) in
@@ -37,7 +37,7 @@ stayed path start number a mark x old new is numbers at was low =
     (here, λ i e. low i (same ∙ e))
 
 -- the mark that a node had: not one of the last part of the path, or one of it
-had : (path : List ℕ) (start number a : ℕ) (mark x : Mark) (old new : List Mark) → IsPath old path → Numbers (drop start path) number old new → At new a mark → At old a x → (At old a mark × ((i : ℕ) → mark ≡ Open i → i < start)) ⊎ ((i : ℕ) × At old a (Open i) × (start ≤ i) × (mark ≡ Closed number))
+had : (path : List ℕ) (start number a : ℕ) (mark x : NodeMark) (old new : List NodeMark) → IsPath old path → Numbers (drop start path) number old new → At new a mark → At old a x → (At old a mark × ((i : ℕ) → mark ≡ Open i → i < start)) ⊎ ((i : ℕ) × At old a (Open i) × (start ≤ i) × (mark ≡ Closed number))
 had path start number a mark Unfound old new is numbers at was = inl (stayed path start number a mark Unfound old new is numbers at was (λ i e. absurd cc))
 had path start number a mark (Closed m) old new is numbers at was = inl (stayed path start number a mark (Closed m) old new is numbers at was (λ i e. absurd cc))
 had path start number a mark (Open j) old new is numbers at was =
@@ -46,13 +46,13 @@ had path start number a mark (Open j) old new is numbers at was =
       | inr high ↦ inr (j, was, high, one_at new a mark (Closed number) at (closing_above path start number a j old new is numbers was high))
     ]
 
-had_mark : (path : List ℕ) (start number a : ℕ) (mark : Mark) (old new : List Mark) → IsPath old path → Numbers (drop start path) number old new → At new a mark → (At old a mark × ((i : ℕ) → mark ≡ Open i → i < start)) ⊎ ((i : ℕ) × At old a (Open i) × (start ≤ i) × (mark ≡ Closed number))
+had_mark : (path : List ℕ) (start number a : ℕ) (mark : NodeMark) (old new : List NodeMark) → IsPath old path → Numbers (drop start path) number old new → At new a mark → (At old a mark × ((i : ℕ) → mark ≡ Open i → i < start)) ⊎ ((i : ℕ) × At old a (Open i) × (start ≤ i) × (mark ≡ Closed number))
 had_mark path start number a mark old new is numbers at =
     let within = at_within new a mark at in
-    let found : (x : Mark) × At old a x = at_some old a (omega (arith, within, numbers.count)) in
+    let found : (x : NodeMark) × At old a x = at_some old a (omega (arith, within, numbers.count)) in
     had path start number a mark found.0 old new is numbers at found.1
 
-pub closing : (path : List ℕ) (start number : ℕ) (old new : List Mark) → IsPath old path → Numbers (drop start path) number old new → IsClosing start number old new
+pub closing : (path : List ℕ) (start number : ℕ) (old new : List NodeMark) → IsPath old path → Numbers (drop start path) number old new → IsClosing start number old new
 closing path start number old new is numbers = record {
   stays = λ a m at. kept_mark path start number a old new is numbers (λ i open_ le. let e = one_at old a (Closed m) (Open i) at open_ in absurd cc) ∙ at;
   below = λ a i at lt. kept_mark path start number a old new is numbers (λ j open_ le. let e = one_at old a (Open i) (Open j) at open_ in let same : i ≡ j = cc in omega (arith, same, lt, le)) ∙ at;
@@ -73,10 +73,10 @@ closing path start number old new is numbers = record {
 
 -- ---- what holds after it
 
-pub closed_still : (start number a : ℕ) (old new : List Mark) → IsClosing start number old new → IsClosed old a → IsClosed new a
+pub closed_still : (start number a : ℕ) (old new : List NodeMark) → IsClosing start number old new → IsClosed old a → IsClosed new a
 closed_still start number a old new closes closed = (closed.0, closes.stays a closed.0 closed.1)
 
-pub closed_path : (path : List ℕ) (start number : ℕ) (old new : List Mark) → IsPath old path → IsClosing start number old new → IsPath new (take start path)
+pub closed_path : (path : List ℕ) (start number : ℕ) (old new : List NodeMark) → IsPath old path → IsClosing start number old new → IsPath new (take start path)
 closed_path path start number old new is closes = record {
   placed = λ i a at. let there = of_take start path i a at in closes.below a i (is.placed i a there.1) there.0;
   listed = λ i a at. let there = closes.was_open a i at in in_take start path i a there.1 (is.listed i a there.0);

@@ -2,8 +2,8 @@
 use Rattle.std.proofs.Common.{◌≡◌, ℕ, ◌<◌, List, [], map, length, replicate, slice_get, option_map, sym, ◌∙◌, ap, subst, arith}
 use Rattle.std.proofs.lemmas.Option.{none-some, slice_get-map}
 use Rattle.std.proofs.lemmas.List.{length-replicate, length-map}
-use Rattle.dj_graph.specs.declared.mark.Mark.{Mark}
-use Rattle.dj_graph.specs.declared.mark.Mark.TheVariants.{Unfound, Open, Closed}
+use Rattle.dj_graph.specs.declared.mark.NodeMark.{NodeMark}
+use Rattle.dj_graph.specs.declared.mark.NodeMark.TheVariants.{Unfound, Open, Closed}
 use Rattle.dj_graph.specs.Graphs.{Edges, Reaches, AreComponents}
 use Rattle.dj_graph.specs.Searches.{IsClosed, AllClosed, IsSound, AreWhole}
 use Rattle.dj_graph.proofs.Lists.{At, at_within, at_some, of_replicate, in_replicate}
@@ -25,26 +25,26 @@ new_sound edges n count = record {
   starts_are = record { rising = λ i j x y lt first. absurd (none-some x first); inside = λ s x at. absurd (none-some x at); first = λ some. absurd (omega (arith, some)) };
   work_is = record { rising = λ i j x y lt first. absurd (none-some x first); inside = λ s x at. absurd (none-some x at) };
   whole = new_whole edges n;
-  fresh = λ a at. in_replicate n 0 a (let within = at_within (replicate n Unfound) a Unfound at in let size = length-replicate {A = Mark} n Unfound in omega (arith, within, size));
+  fresh = λ a at. in_replicate n 0 a (let within = at_within (replicate n Unfound) a Unfound at in let size = length-replicate {A = NodeMark} n Unfound in omega (arith, within, size));
   settled = λ i a e b targets at. absurd (none-some a at);
 }
 
-found_closed : (edges : Edges) (marks : List Mark) (looked starts work : List ℕ) (a : ℕ) (mark : Mark) → IsSound edges marks looked [] starts work → (At marks a Unfound → ⊥) → At marks a mark → IsClosed marks a
+found_closed : (edges : Edges) (marks : List NodeMark) (looked starts work : List ℕ) (a : ℕ) (mark : NodeMark) → IsSound edges marks looked [] starts work → (At marks a Unfound → ⊥) → At marks a mark → IsClosed marks a
 found_closed edges marks looked starts work a Unfound sound found at = absurd (found at)
 found_closed edges marks looked starts work a (Open i) sound found at = absurd (none-some a (sound.path_is.listed i a at))
 found_closed edges marks looked starts work a (Closed m) sound found at = (m, at)
 
 -- where no node is open and each was found, each is closed
-pub all_closed : (edges : Edges) (marks : List Mark) (looked starts work : List ℕ) → IsSound edges marks looked [] starts work → ((a : ℕ) → a < length marks → At marks a Unfound → ⊥) → AllClosed marks
+pub all_closed : (edges : Edges) (marks : List NodeMark) (looked starts work : List ℕ) → IsSound edges marks looked [] starts work → ((a : ℕ) → a < length marks → At marks a Unfound → ⊥) → AllClosed marks
 all_closed edges marks looked starts work sound found a lt =
     let mark = at_some marks a lt in
     found_closed edges marks looked starts work a mark.0 sound (found a lt) mark.1
 
-marked : (numbers : List ℕ) (marks : List Mark) (a m : ℕ) → map (λ (n : ℕ). Closed n) numbers ≡ marks → At numbers a m → At marks a (Closed m)
+marked : (numbers : List ℕ) (marks : List NodeMark) (a m : ℕ) → map (λ (n : ℕ). Closed n) numbers ≡ marks → At numbers a m → At marks a (Closed m)
 marked numbers marks a m are at = ap (λ ms. slice_get ms a) (sym are) ∙ slice_get-map (λ (n : ℕ). Closed n) numbers a ∙ ap (λ found. option_map (λ (n : ℕ). Closed n) found) at
 
 -- the numbers of the closed nodes are those of the components
-pub are_components : (edges : Edges) (marks : List Mark) (numbers : List ℕ) → length marks ≡ length edges → AreWhole edges marks → map (λ (n : ℕ). Closed n) numbers ≡ marks → AreComponents edges numbers
+pub are_components : (edges : Edges) (marks : List NodeMark) (numbers : List ℕ) → length marks ≡ length edges → AreWhole edges marks → map (λ (n : ℕ). Closed n) numbers ≡ marks → AreComponents edges numbers
 are_components edges marks numbers count whole are = record {
   all = sym (length-map numbers (λ (n : ℕ). Closed n)) ∙ ap length are ∙ count;
   each = λ a b m n at_a at_b.

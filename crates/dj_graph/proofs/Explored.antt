@@ -1,7 +1,7 @@
 -- All that a node reaches is explored.
 use Rattle.std.proofs.Common.{◌≡◌, ℕ, ◌+◌, ◌<◌, ◌≤◌, List, [], ◌∷◌, length, replicate, refl, subst, inl, inr, arith}
 use Rattle.std.proofs.lemmas.Option.{none-some}
-use Rattle.dj_graph.specs.declared.mark.Mark.TheVariants.{Unfound}
+use Rattle.dj_graph.specs.declared.mark.NodeMark.TheVariants.{Unfound}
 use Rattle.dj_graph.specs.declared.search.Search.{Search}
 use Rattle.dj_graph.specs.Graphs.{Edges}
 use Rattle.dj_graph.specs.Searches.{IsSound, IsSearch, IsNew, AllClosed, AreStarts, AllReach, KeepsFound, Follows, Steps, Explores}

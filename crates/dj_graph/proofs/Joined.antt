@@ -1,8 +1,8 @@
 -- The last components become one with that of an open node which they all reach: what held holds still.
 use Rattle.std.proofs.Common.{ℕ, List, inl, inr, arith}
 use Rattle.std.proofs.lemmas.Bool.{cases_lt}
-use Rattle.dj_graph.specs.declared.mark.Mark.{Mark}
-use Rattle.dj_graph.specs.declared.mark.Mark.TheVariants.{Open}
+use Rattle.dj_graph.specs.declared.mark.NodeMark.{NodeMark}
+use Rattle.dj_graph.specs.declared.mark.NodeMark.TheVariants.{Open}
 use Rattle.dj_graph.specs.Graphs.{Edges, Reaches}
 use Rattle.dj_graph.specs.Searches.{NoStart, IsSettled, IsLinked, AreStarts, IsSound, AllReach, Joins}
 use Rattle.dj_graph.proofs.Lists.{At}
@@ -33,14 +33,14 @@ joined_starts path old new place are joins = record {
   first = λ some. joins.kept 0 0 (are.first some) (omega arith);
 }
 
-pub still_settled : (marks : List Mark) (old new : List ℕ) (i b : ℕ) → ((s x : ℕ) → At new s x → At old s x) → IsSettled marks old i b → IsSettled marks new i b
+pub still_settled : (marks : List NodeMark) (old new : List ℕ) (i b : ℕ) → ((s x : ℕ) → At new s x → At old s x) → IsSettled marks old i b → IsSettled marks new i b
 still_settled marks old new i b before settled =
     elim settled [
       | inl closed ↦ inl closed
       | inr open_ ↦ inr (open_.0, open_.1, fewer_starts old new open_.0 i before open_.2)
     ]
 
-pub joined_sound : (edges : Edges) (marks : List Mark) (looked path old new work : List ℕ) (node place : ℕ) → IsSound edges marks looked path old work → At marks node (Open place) → AllReach edges path node → Joins place old new → IsSound edges marks looked path new work
+pub joined_sound : (edges : Edges) (marks : List NodeMark) (looked path old new work : List ℕ) (node place : ℕ) → IsSound edges marks looked path old work → At marks node (Open place) → AllReach edges path node → Joins place old new → IsSound edges marks looked path new work
 joined_sound edges marks looked path old new work node place sound here reached joins = record {
   marks_count = sound.marks_count;
   looked_count = sound.looked_count;
@@ -57,5 +57,5 @@ joined_sound edges marks looked path old new work node place sound here reached 
 }
 
 -- from any place the node is now in the same component or in a later one
-pub joined_settled : (marks : List Mark) (old new : List ℕ) (node place i : ℕ) → At marks node (Open place) → Joins place old new → IsSettled marks new i node
+pub joined_settled : (marks : List NodeMark) (old new : List ℕ) (node place i : ℕ) → At marks node (Open place) → Joins place old new → IsSettled marks new i node
 joined_settled marks old new node place i here joins = inr (place, here, λ s x at above most. let h = joins.below s x at in omega (arith, h, above))

@@ -1,13 +1,13 @@
 -- An edge was looked at, or a node has none left: what held holds still.
 use Rattle.std.proofs.Common.{◌≡◌, ℕ, ◌+◌, ◌-◌, ◌<◌, ◌≤◌, ◌⊎◌, List, length, take, set, sym, ◌∙◌, subst, inl, inr, arith}
 use Rattle.std.proofs.Math.ListN.{length-set}
-use Rattle.dj_graph.specs.declared.mark.Mark.{Mark}
-use Rattle.dj_graph.specs.declared.mark.Mark.TheVariants.{Unfound, Open}
+use Rattle.dj_graph.specs.declared.mark.NodeMark.{NodeMark}
+use Rattle.dj_graph.specs.declared.mark.NodeMark.TheVariants.{Unfound, Open}
 use Rattle.dj_graph.specs.Graphs.{Edges}
 use Rattle.dj_graph.specs.Searches.{IsSettled, IsLeft, IsSound, IsPath, IsLast}
 use Rattle.dj_graph.proofs.Lists.{At, at_within, one_at, set_same, set_other, same_or_not, of_take, in_take, earlier}
 
-same_place : (marks : List Mark) (path : List ℕ) (i j a b : ℕ) → IsPath marks path → At path i a → At path j b → a ≡ b → i ≡ j
+same_place : (marks : List NodeMark) (path : List ℕ) (i j a b : ℕ) → IsPath marks path → At path i a → At path j b → a ≡ b → i ≡ j
 same_place marks path i j a b is first second same =
     let e : Open i ≡ Open j = one_at marks b (Open i) (Open j) (subst (λ x. At marks x (Open i)) same (is.placed i a first)) (is.placed j b second) in
     cc
@@ -23,7 +23,7 @@ looked_left looked work node e i a k now apart left =
       | inr other ↦ (left.0, left.1, left.2, set_other looked node a (e + 1) left.1 other left.3, left.4)
     ]
 
-looked_settled : (edges : Edges) (marks : List Mark) (looked path starts work : List ℕ) (place node e target : ℕ) (targets : List ℕ) → IsSound edges marks looked path starts work → At path place node → At edges node targets → At targets e target → At looked node e → IsSettled marks starts place target → (i a k b : ℕ) (others : List ℕ) → At path i a → At edges a others → At others k b → IsSettled marks starts i b ⊎ IsLeft (set looked node (e + 1)) work i a k
+looked_settled : (edges : Edges) (marks : List NodeMark) (looked path starts work : List ℕ) (place node e target : ℕ) (targets : List ℕ) → IsSound edges marks looked path starts work → At path place node → At edges node targets → At targets e target → At looked node e → IsSettled marks starts place target → (i a k b : ℕ) (others : List ℕ) → At path i a → At edges a others → At others k b → IsSettled marks starts i b ⊎ IsLeft (set looked node (e + 1)) work i a k
 looked_settled edges marks looked path starts work place node e target targets sound here node_edges edge now done i a k b others at other_edges other =
     elim (sound.settled i a k b others at other_edges other) [
       | inl settled ↦ inl settled
@@ -41,7 +41,7 @@ looked_settled edges marks looked path starts work place node e target targets s
       ]
     ]
 
-pub looked_sound : (edges : Edges) (marks : List Mark) (looked path starts work : List ℕ) (place node e target : ℕ) (targets : List ℕ) → IsSound edges marks looked path starts work → At path place node → At edges node targets → At targets e target → At looked node e → IsSettled marks starts place target → IsSound edges marks (set looked node (e + 1)) path starts work
+pub looked_sound : (edges : Edges) (marks : List NodeMark) (looked path starts work : List ℕ) (place node e target : ℕ) (targets : List ℕ) → IsSound edges marks looked path starts work → At path place node → At edges node targets → At targets e target → At looked node e → IsSettled marks starts place target → IsSound edges marks (set looked node (e + 1)) path starts work
 looked_sound edges marks looked path starts work place node e target targets sound here node_edges edge now done = record {
   marks_count = sound.marks_count;
   looked_count = length-set looked node (e + 1) ∙ sound.looked_count;
@@ -57,7 +57,7 @@ looked_sound edges marks looked path starts work place node e target targets sou
 }
 
 -- the last place of the work has no edge left
-pub done_sound : (edges : Edges) (marks : List Mark) (looked path starts work : List ℕ) (place node e : ℕ) (targets : List ℕ) → IsSound edges marks looked path starts work → IsLast work place → At path place node → At edges node targets → At looked node e → length targets ≤ e → IsSound edges marks looked path starts (take (length work - 1) work)
+pub done_sound : (edges : Edges) (marks : List NodeMark) (looked path starts work : List ℕ) (place node e : ℕ) (targets : List ℕ) → IsSound edges marks looked path starts work → IsLast work place → At path place node → At edges node targets → At looked node e → length targets ≤ e → IsSound edges marks looked path starts (take (length work - 1) work)
 done_sound edges marks looked path starts work place node e targets sound last here node_edges now none = record {
   marks_count = sound.marks_count;
   looked_count = sound.looked_count;

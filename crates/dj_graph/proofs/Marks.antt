@@ -2,16 +2,16 @@
 use Rattle.std.proofs.Common.{◌≡◌, ℕ, ◌+◌, ◌<◌, List, [], length, take, set, Some, refl, sym, ◌∙◌, ap, subst, inl, inr, arith}
 use Rattle.std.proofs.lemmas.Option.{none-some}
 use Rattle.std.proofs.Math.ListN.{length-set}
-use Rattle.dj_graph.specs.declared.mark.Mark.{Mark}
-use Rattle.dj_graph.specs.declared.mark.Mark.TheVariants.{Closed}
+use Rattle.dj_graph.specs.declared.mark.NodeMark.{NodeMark}
+use Rattle.dj_graph.specs.declared.mark.NodeMark.TheVariants.{Closed}
 use Rattle.dj_graph.specs.Searches.{Numbers}
 use Rattle.dj_graph.proofs.Lists.{At, of_take, in_take, set_same, set_elsewhere, same_or_not, earlier}
 
-pub numbers_none : (number : ℕ) (marks : List Mark) → Numbers [] number marks marks
+pub numbers_none : (number : ℕ) (marks : List NodeMark) → Numbers [] number marks marks
 numbers_none number marks = record { count = refl; among = λ i a at. absurd (none-some a at); others = λ a apart. refl }
 
 -- the first k nodes have the number, and now the next one too
-pub numbers_more : (nodes : List ℕ) (k a number : ℕ) (old now : List Mark) → Numbers (take k nodes) number old now → At nodes k a → a < length old → Numbers (take (k + 1) nodes) number old (set now a (Closed number))
+pub numbers_more : (nodes : List ℕ) (k a number : ℕ) (old now : List NodeMark) → Numbers (take k nodes) number old now → At nodes k a → a < length old → Numbers (take (k + 1) nodes) number old (set now a (Closed number))
 numbers_more nodes k a number old now so_far here within = record {
   count = length-set now a (Closed number) ∙ so_far.count;
   among = λ i b at.

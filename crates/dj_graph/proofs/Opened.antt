@@ -1,8 +1,8 @@
 -- A node is opened at the end of the path: what held holds still.
 use Rattle.std.proofs.Common.{◌≡◌, ℕ, suc, ◌+◌, ◌<◌, List, [], ◌∷◌, ◌++◌, length, set, refl, sym, ◌∙◌, subst, inl, inr, arith, length-append}
 use Rattle.std.proofs.Math.ListN.{length-set}
-use Rattle.dj_graph.specs.declared.mark.Mark.{Mark}
-use Rattle.dj_graph.specs.declared.mark.Mark.TheVariants.{Unfound, Open, Closed}
+use Rattle.dj_graph.specs.declared.mark.NodeMark.{NodeMark}
+use Rattle.dj_graph.specs.declared.mark.NodeMark.TheVariants.{Unfound, Open, Closed}
 use Rattle.dj_graph.specs.Graphs.{Edges, Reaches, Here}
 use Rattle.dj_graph.specs.Searches.{Rises, IsSettled, IsPath, IsLinked, AreStarts, ArePlaces, AreWhole, IsSound, AllReach}
 use Rattle.dj_graph.proofs.Lists.{At, at_within, push_cases, push_old, push_new, set_same, set_other, set_cases, one_at}
@@ -46,7 +46,7 @@ opened_work path work node are = record {
   inside = push_inside path work node are.inside;
 }
 
-opened_path : (marks : List Mark) (path : List ℕ) (node : ℕ) → IsPath marks path → At marks node Unfound → IsPath (set marks node (Open (length path))) (path ++ node ∷ [])
+opened_path : (marks : List NodeMark) (path : List ℕ) (node : ℕ) → IsPath marks path → At marks node Unfound → IsPath (set marks node (Open (length path))) (path ++ node ∷ [])
 opened_path marks path node is unfound = record {
   placed = λ i a at. elim (push_cases path node i a at) [
     | inl old ↦
@@ -89,25 +89,25 @@ opened_linked edges path starts node linked reached = record {
 }
 
 -- closed nodes that stay so, with no new one
-pub same_whole : (edges : Edges) (old new : List Mark) → ((a m : ℕ) → At old a (Closed m) → At new a (Closed m)) → ((a m : ℕ) → At new a (Closed m) → At old a (Closed m)) → AreWhole edges old → AreWhole edges new
+pub same_whole : (edges : Edges) (old new : List NodeMark) → ((a m : ℕ) → At old a (Closed m) → At new a (Closed m)) → ((a m : ℕ) → At new a (Closed m) → At old a (Closed m)) → AreWhole edges old → AreWhole edges new
 same_whole edges old new kept none whole = record {
   onward = λ a b m at edge. let there = whole.onward a b m (none a m at) edge in (there.0, kept b there.0 there.1);
   named = λ a m at. whole.named a m (none a m at);
   same = λ a b m n first second. whole.same a b m n (none a m first) (none b n second);
 }
 
-opened_kept : (marks : List Mark) (node place a : ℕ) (mark : Mark) → At marks node Unfound → At marks a mark → (mark ≡ Unfound → ⊥) → At (set marks node (Open place)) a mark
+opened_kept : (marks : List NodeMark) (node place a : ℕ) (mark : NodeMark) → At marks node Unfound → At marks a mark → (mark ≡ Unfound → ⊥) → At (set marks node (Open place)) a mark
 opened_kept marks node place a mark unfound at found =
     set_other marks node a (Open place) mark (λ same. found (one_at marks node mark Unfound (subst (λ x. At marks x mark) same at) unfound)) at
 
-opened_whole : (edges : Edges) (marks : List Mark) (node place : ℕ) → At marks node Unfound → AreWhole edges marks → AreWhole edges (set marks node (Open place))
+opened_whole : (edges : Edges) (marks : List NodeMark) (node place : ℕ) → At marks node Unfound → AreWhole edges marks → AreWhole edges (set marks node (Open place))
 opened_whole edges marks node place unfound whole =
     same_whole edges marks (set marks node (Open place)) (λ a m at. opened_kept marks node place a (Closed m) unfound at (λ e. absurd cc)) (λ a m at. elim (set_cases marks node a (Open place) (Closed m) at) [
       | inl same ↦ let e = same.1 in absurd cc
       | inr other ↦ other.1
     ]) whole
 
-opened_settled : (marks : List Mark) (path starts : List ℕ) (node i b : ℕ) → At marks node Unfound → i < length path → IsSettled marks starts i b → IsSettled (set marks node (Open (length path))) (starts ++ length path ∷ []) i b
+opened_settled : (marks : List NodeMark) (path starts : List ℕ) (node i b : ℕ) → At marks node Unfound → i < length path → IsSettled marks starts i b → IsSettled (set marks node (Open (length path))) (starts ++ length path ∷ []) i b
 opened_settled marks path starts node i b unfound within settled =
     elim settled [
       | inl closed ↦ inl (closed.0, opened_kept marks node (length path) b (Closed closed.0) unfound closed.1 (λ e. absurd cc))
@@ -121,7 +121,7 @@ opened_settled marks path starts node i b unfound within settled =
       )
     ]
 
-pub opened : (edges : Edges) (marks : List Mark) (looked path starts work : List ℕ) (node : ℕ) → IsSound edges marks looked path starts work → At marks node Unfound → AllReach edges path node → IsSound edges (set marks node (Open (length path))) looked (path ++ node ∷ []) (starts ++ length path ∷ []) (work ++ length path ∷ [])
+pub opened : (edges : Edges) (marks : List NodeMark) (looked path starts work : List ℕ) (node : ℕ) → IsSound edges marks looked path starts work → At marks node Unfound → AllReach edges path node → IsSound edges (set marks node (Open (length path))) looked (path ++ node ∷ []) (starts ++ length path ∷ []) (work ++ length path ∷ [])
 opened edges marks looked path starts work node sound unfound reached = record {
   marks_count = length-set marks node (Open (length path)) ∙ sound.marks_count;
   looked_count = sound.looked_count;

@@ -1,15 +1,15 @@
 -- The state of a search at plain values: two nodes that lead to each other were found and are open, the third isn't found.
 use Rattle.std.proofs.Common.{◌≡◌, ℕ, zero, suc, ◌<◌, ◌≤◌, List, [], ◌∷◌, length, refl, ap, inl, inr, lit<, lit≤, arith}
 use Rattle.std.proofs.lemmas.Option.{none-some, same_Some}
-use Rattle.dj_graph.specs.declared.mark.Mark.{Mark}
-use Rattle.dj_graph.specs.declared.mark.Mark.TheVariants.{Unfound, Open, Closed}
+use Rattle.dj_graph.specs.declared.mark.NodeMark.{NodeMark}
+use Rattle.dj_graph.specs.declared.mark.NodeMark.TheVariants.{Unfound, Open, Closed}
 use Rattle.dj_graph.specs.declared.search.Search.{Search}
 use Rattle.dj_graph.specs.Graphs.{Edges, HasEdge, Here, Along}
 use Rattle.dj_graph.specs.Searches.{IsClosed, AllClosed, Rises, NoStart, IsSettled, IsLeft, IsPath, IsLinked, AreStarts, ArePlaces, AreWhole, KeepsFound, edges_left, Numbers, IsNew, Opens, Joins, Closes, Follows, Steps, IsLast, Explores}
 use Rattle.dj_graph.proofs.Lists.{At}
 use Rattle.dj_graph.proofs.Reaching.{stays_within}
 
-abbrev marks : List Mark
+abbrev marks : List NodeMark
 marks = Open 0 ∷ Open 1 ∷ Unfound ∷ Closed 3 ∷ []
 
 abbrev edges : Edges

@@ -3,8 +3,8 @@ use Rattle.std.proofs.Common.{◌≡◌, ℕ, ◌+◌, ◌-◌, ◌<◌, ◌≤�
 use Rattle.std.specs.Global.{Vec}
 use Rattle.std.proofs.lemmas.List.{length-take}
 use Rattle.std.proofs.lemmas.Bool.{cases_lt}
-use Rattle.dj_graph.specs.declared.mark.Mark.{Mark}
-use Rattle.dj_graph.specs.declared.mark.Mark.TheVariants.{Unfound, Open, Closed}
+use Rattle.dj_graph.specs.declared.mark.NodeMark.{NodeMark}
+use Rattle.dj_graph.specs.declared.mark.NodeMark.TheVariants.{Unfound, Open, Closed}
 use Rattle.dj_graph.specs.declared.search.Search.{Search}
 use Rattle.dj_graph.specs.Graphs.{Edges, HasEdge}
 use Rattle.dj_graph.specs.Searches.{IsSound, IsSearch, AllReach, Opens, Joins, Closes, Follows, Steps, IsLast, Rises, Numbers, edges_left}
@@ -18,7 +18,7 @@ use Rattle.dj_graph.proofs.Closed.{closed_sound}
 use Rattle.dj_graph.proofs.Effort.{one_less}
 use Rattle.dj_graph.proofs.EdgeLists.{read_at}
 
-pub replaced : (edges : Edges) (m m' : List Mark) (l l' p p' s s' w w' : List ℕ) → m' ≡ m → l' ≡ l → p' ≡ p → s' ≡ s → w' ≡ w → IsSound edges m l p s w → IsSound edges m' l' p' s' w'
+pub replaced : (edges : Edges) (m m' : List NodeMark) (l l' p p' s s' w w' : List ℕ) → m' ≡ m → l' ≡ l → p' ≡ p → s' ≡ s → w' ≡ w → IsSound edges m l p s w → IsSound edges m' l' p' s' w'
 replaced edges m m' l l' p p' s s' w w' em el ep es ew sound =
     subst (λ x. IsSound edges x l' p' s' w') (sym em) (subst (λ x. IsSound edges m x p' s' w') (sym el) (subst (λ x. IsSound edges m l x s' w') (sym ep) (subst (λ x. IsSound edges m l p x w') (sym es) (subst (λ x. IsSound edges m l p s x) (sym ew) sound))))
 
@@ -142,6 +142,6 @@ all_low work place start rises last low s x at = let h = before_last work place 
 pub none_low : (work : List ℕ) (start : ℕ) → length work ≡ 0 → (s x : ℕ) → At work s x → x < start
 none_low work start none s x at = let h = at_within work s x at in absurd (omega (arith, h, none))
 
-pub numbers_as : (number : ℕ) (nodes nodes' : List ℕ) (old old' new new' : List Mark) → nodes ≡ nodes' → old ≡ old' → new ≡ new' → Numbers nodes number old new → Numbers nodes' number old' new'
+pub numbers_as : (number : ℕ) (nodes nodes' : List ℕ) (old old' new new' : List NodeMark) → nodes ≡ nodes' → old ≡ old' → new ≡ new' → Numbers nodes number old new → Numbers nodes' number old' new'
 numbers_as number nodes nodes' old old' new new' en eo ew numbers =
     subst (λ x. Numbers x number old' new') en (subst (λ x. Numbers nodes number x new') eo (subst (λ x. Numbers nodes number old x) ew numbers))

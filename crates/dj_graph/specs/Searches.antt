@@ -1,16 +1,16 @@
 -- What a search through a graph knows at each step.
 use Rattle.std.specs.Prelude.{◌≡◌, ℕ, ◌+◌, ◌-◌, ◌*◌, ◌<◌, ◌≤◌, ◌⊎◌, List, [], ◌∷◌, ◌++◌, length, take, drop, set, replicate, Some, slice_get}
-use Rattle.dj_graph.specs.declared.mark.Mark.{Mark}
-use Rattle.dj_graph.specs.declared.mark.Mark.TheVariants.{Unfound, Open, Closed}
+use Rattle.dj_graph.specs.declared.mark.NodeMark.{NodeMark}
+use Rattle.dj_graph.specs.declared.mark.NodeMark.TheVariants.{Unfound, Open, Closed}
 use Rattle.dj_graph.specs.declared.search.Search.{Search}
 use Rattle.dj_graph.specs.Graphs.{Edges, HasEdge, Reaches}
 
 -- a's component is known
-abbrev pub IsClosed : List Mark → ℕ → Type 0
+abbrev pub IsClosed : List NodeMark → ℕ → Type 0
 IsClosed marks a = (n : ℕ) × (slice_get marks a ≡ Some (Closed n))
 
 -- each node's component is known
-abbrev pub AllClosed : List Mark → Type 0
+abbrev pub AllClosed : List NodeMark → Type 0
 AllClosed marks = (a : ℕ) → a < length marks → IsClosed marks a
 
 -- each number is above those before it
@@ -22,7 +22,7 @@ abbrev pub NoStart : List ℕ → ℕ → ℕ → Type 0
 NoStart starts i j = (s x : ℕ) → slice_get starts s ≡ Some x → i < x → x ≤ j → ⊥
 
 -- an edge from place i of the path to b: b's component is known, or b is open, in the component of place i or in one after it
-abbrev pub IsSettled : List Mark → List ℕ → ℕ → ℕ → Type 0
+abbrev pub IsSettled : List NodeMark → List ℕ → ℕ → ℕ → Type 0
 IsSettled marks starts i b = IsClosed marks b ⊎ ((j : ℕ) × (slice_get marks b ≡ Some (Open j)) × NoStart starts j i)
 
 -- edge e of node a, at place i of the path, is still to be looked at
@@ -30,7 +30,7 @@ abbrev pub IsLeft : List ℕ → List ℕ → ℕ → ℕ → ℕ → Type 0
 IsLeft looked work i a e = (s x : ℕ) × (slice_get work s ≡ Some i) × (slice_get looked a ≡ Some x) × (x ≤ e)
 
 -- the path has the open nodes, each at its place
-pub record IsPath (marks : List Mark) (path : List ℕ) : Type 0 where
+pub record IsPath (marks : List NodeMark) (path : List ℕ) : Type 0 where
   pub placed : (i a : ℕ) → slice_get path i ≡ Some a → slice_get marks a ≡ Some (Open i)
   pub listed : (i a : ℕ) → slice_get marks a ≡ Some (Open i) → slice_get path i ≡ Some a
 
@@ -51,13 +51,13 @@ pub record ArePlaces (path work : List ℕ) : Type 0 where
   pub inside : (s x : ℕ) → slice_get work s ≡ Some x → x < length path
 
 -- the closed nodes: no edge leads out of them, each is in one component with the node that is its number, and one component has one number
-pub record AreWhole (edges : Edges) (marks : List Mark) : Type 0 where
+pub record AreWhole (edges : Edges) (marks : List NodeMark) : Type 0 where
   pub onward : (a b m : ℕ) → slice_get marks a ≡ Some (Closed m) → HasEdge edges a b → IsClosed marks b
   pub named : (a m : ℕ) → slice_get marks a ≡ Some (Closed m) → Reaches edges a m × Reaches edges m a
   pub same : (a b m n : ℕ) → slice_get marks a ≡ Some (Closed m) → slice_get marks b ≡ Some (Closed n) → Reaches edges a b → Reaches edges b a → m ≡ n
 
 -- what holds between two steps
-pub record IsSound (edges : Edges) (marks : List Mark) (looked path starts work : List ℕ) : Type 0 where
+pub record IsSound (edges : Edges) (marks : List NodeMark) (looked path starts work : List ℕ) : Type 0 where
   pub marks_count : length marks ≡ length edges
   pub looked_count : length looked ≡ length edges
   pub path_is : IsPath marks path
@@ -72,7 +72,7 @@ abbrev pub IsSearch : Edges → Search → Type 0
 IsSearch edges search = IsSound edges search.marks.items search.looked.items search.path.items search.starts.items search.work.items
 
 -- a node that was found stays found
-abbrev pub KeepsFound : List Mark → List Mark → Type 0
+abbrev pub KeepsFound : List NodeMark → List NodeMark → Type 0
 KeepsFound old new = (a : ℕ) → slice_get new a ≡ Some Unfound → slice_get old a ≡ Some Unfound
 
 -- how many edges weren't looked at
@@ -88,7 +88,7 @@ effort edges search = 3 * edges_left edges search.looked.items + (length search.
 -- ---- what the parts of a step do
 
 -- these nodes are closed with one number, and no other mark changed
-pub record Numbers (nodes : List ℕ) (number : ℕ) (old new : List Mark) : Type 0 where
+pub record Numbers (nodes : List ℕ) (number : ℕ) (old new : List NodeMark) : Type 0 where
   pub count : length new ≡ length old
   pub among : (i a : ℕ) → slice_get nodes i ≡ Some a → slice_get new a ≡ Some (Closed number)
   pub others : (a : ℕ) → ((i : ℕ) → slice_get nodes i ≡ Some a → ⊥) → slice_get new a ≡ slice_get old a

@@ -2,14 +2,14 @@ ghost use Rattle.std.specs.Prelude.{◌≡◌, ◌<◌, ℕ, length, Some, slice
 ghost use Rattle.dj_graph.specs.Searches.{IsNew, Opens, Rises, Joins, Closes, IsLast};
 
 use crate::errors::GraphError;
-use crate::mark::{Mark, number_nodes};
+use crate::mark::{NodeMark, number_nodes};
 use std::alloc::Global;
 
 /// A search through a graph.
 #[derive(Drop)]
 pub struct Search {
     /// What is known of each node.
-    pub marks: Vec<Mark>,
+    pub marks: Vec<NodeMark>,
     /// How many edges of each node were looked at.
     pub looked: Vec<usize>,
     /// The open nodes, in the order in which they were found.
@@ -25,7 +25,7 @@ impl Search {
     pub fn new(alloc: Global, count: usize) -> Result<Search, GraphError>
         ensures { IfOk result (IsNew count) }
     {
-        let marks = vec![in alloc; Mark::Unfound; count]?;
+        let marks = vec![in alloc; NodeMark::Unfound; count]?;
         let looked = vec![in alloc; 0; count]?;
         Ok(Search {
             marks,
@@ -45,7 +45,7 @@ impl Search {
         self.path.push(node)?;
         self.starts.push(place)?;
         self.work.push(place)?;
-        self.marks[node as usize] = Mark::Open(place);
+        self.marks[node as usize] = NodeMark::Open(place);
         Ok(())
     }
 

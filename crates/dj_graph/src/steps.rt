@@ -3,7 +3,7 @@ ghost use Rattle.dj_graph.specs.Graphs.{IsInside, edges_of};
 ghost use Rattle.dj_graph.specs.Searches.{IsSearch, IsClosed, AllReach, Follows, Steps, KeepsFound, Explores, IsLast};
 
 use crate::errors::GraphError;
-use crate::mark::Mark;
+use crate::mark::NodeMark;
 use crate::search::{Search, join, last_of};
 
 /// Follows an edge to this node, from a node of the last open component, or from none.
@@ -14,12 +14,12 @@ fn follow(edges: &[Vec<u32>], search: &mut Search, target: u32) -> Result<(), Gr
     ensures { OnOk result (Follows (edges_of edges.now) target search.old search.new) }
 {
     match search.marks[target as usize] {
-        Mark::Unfound => search.open(target),
-        Mark::Open(place) => {
+        NodeMark::Unfound => search.open(target),
+        NodeMark::Open(place) => {
             join(&mut search.starts, place);
             Ok(())
         }
-        Mark::Closed(_) => Ok(()),
+        NodeMark::Closed(_) => Ok(()),
     }
 }
 

@@ -46,7 +46,7 @@ module _ {X Y : Type 0} (f : X → Y) (P : Y → Type 0) where
       ]
 
   pub found_at : (xs : List X) (i : ℕ) (d : X) (b : Bool) → i < length xs → IsTrue b → P (f (get_or xs i d)) → IsTrue b ↔ IsAny xs
-  found_at xs i d b lt told is = (λ t. (f (get_or xs i d), contains_seen f xs i d lt, is), λ any. told)
+  found_at xs i d b lt reported is = (λ t. (f (get_or xs i d), contains_seen f xs i d lt, is), λ any. reported)
 
   pub none_at_all : (xs : List X) (i : ℕ) → length xs ≤ i → (IsAny (take i xs) → ⊥) → IsTrue false ↔ IsAny xs
   none_at_all xs i le none = (λ t. absurd cc, λ any. absurd (none (any.0, subst (λ (ys : List Y). Contains ys any.0) (sym (seen_all f xs i le)) any.1, any.2)))
@@ -65,7 +65,7 @@ length_push (y ∷ xs) x = let e = length_push xs x in omega arith
 
 pub marks_more : (heads : List Head) (place : ℕ) (head : Head) (mark : Bool) (old new : List Bool) → slice_get heads place ≡ Some head → new ≡ old ++ mark ∷ []
     → (IsTrue mark ↔ ViolatesHierarchy (Contains heads) head) → AreMarks heads place old → AreMarks heads (place + 1) new
-marks_more heads place head mark old new at is told marks =
+marks_more heads place head mark old new at is reported marks =
     subst (AreMarks heads (place + 1)) (sym is)
     (record {
       all = length_push old mark ∙ ap (λ (n : ℕ). n + 1) marks.all;
@@ -73,7 +73,7 @@ marks_more heads place head mark old new at is told marks =
         | inl had ↦ marks.each k h m there had
         | inr (last, same) ↦
             let same_head : h ≡ head = same_Some h head (sym there ∙ ap (slice_get heads) (last ∙ marks.all) ∙ at) in
-            let told_m : IsTrue m ↔ ViolatesHierarchy (Contains heads) head = subst (λ (b : Bool). IsTrue b ↔ ViolatesHierarchy (Contains heads) head) same told in
-            subst (λ (x : Head). IsTrue m ↔ ViolatesHierarchy (Contains heads) x) (sym same_head) told_m
+            let reported_m : IsTrue m ↔ ViolatesHierarchy (Contains heads) head = subst (λ (b : Bool). IsTrue b ↔ ViolatesHierarchy (Contains heads) head) same reported in
+            subst (λ (x : Head). IsTrue m ↔ ViolatesHierarchy (Contains heads) x) (sym same_head) reported_m
       ];
     })

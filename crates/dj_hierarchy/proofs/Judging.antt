@@ -95,11 +95,11 @@ module _ (hierarchy : Hierarchy) (is : IsHierarchy hierarchy) where
         let same : above ≡ head.name = stays_missing (IsIn hierarchy) above head.name missing back in
         missing (head, there, sym same, tt)
 
-pub eq_told : {P : Type 0} (m n : ℕ) → ((m ≡ n) ↔ P) → IsTrue (nat_eq m n) ↔ P
-eq_told m n is = (λ t. is.0 (eqb-true m n t), λ p. eq-eqb m n (is.1 p))
+pub eq_reported : {P : Type 0} (m n : ℕ) → ((m ≡ n) ↔ P) → IsTrue (nat_eq m n) ↔ P
+eq_reported m n is = (λ t. is.0 (eqb-true m n t), λ p. eq-eqb m n (is.1 p))
 
-pub false_told : {P : Type 0} → (P → ⊥) → IsTrue false ↔ P
-false_told none = (λ t. absurd cc, λ p. absurd (none p))
+pub false_reported : {P : Type 0} → (P → ⊥) → IsTrue false ↔ P
+false_reported none = (λ t. absurd cc, λ p. absurd (none p))
 
 -- ---- the answer
 
@@ -113,18 +113,18 @@ stands heads head = (
   λ either. elim either [ inl m ↦ Contains-append_left heads library_heads head m | inr m ↦ Contains-append_right heads library_heads head m ],
 )
 
-kept_in_front : {X : Type 0} (xs ys : List X) (i : ℕ) (x : X) → slice_get xs i ≡ Some x → slice_get (xs ++ ys) i ≡ Some x
-kept_in_front [] ys i x e = absurd cc
-kept_in_front (z ∷ xs) ys zero x e = e
-kept_in_front (z ∷ xs) ys (suc i) x e = kept_in_front xs ys i x e
+kept_in_prefix : {X : Type 0} (xs ys : List X) (i : ℕ) (x : X) → slice_get xs i ≡ Some x → slice_get (xs ++ ys) i ≡ Some x
+kept_in_prefix [] ys i x e = absurd cc
+kept_in_prefix (z ∷ xs) ys zero x e = e
+kept_in_prefix (z ∷ xs) ys (suc i) x e = kept_in_prefix xs ys i x e
 
 pub judged : (heads all : List Head) (count : ℕ) (marks : List Bool) → all ≡ heads ++ library_heads → count ≡ length heads → AreMarks all count marks → AreJudged heads marks
 judged heads all count marks is same marked =
-    let told : AreMarks (heads ++ library_heads) count marks = subst (λ (hs : List Head). AreMarks hs count marks) is marked in
+    let reported : AreMarks (heads ++ library_heads) count marks = subst (λ (hs : List Head). AreMarks hs count marks) is marked in
     record {
-      all = told.all ∙ same;
+      all = reported.all ∙ same;
       each = λ place head mark at there.
-          let here = told.each place head mark (kept_in_front heads library_heads place head at) there in
+          let here = reported.each place head mark (kept_in_prefix heads library_heads place head at) there in
           let both = same_violate (Contains (heads ++ library_heads)) (Stands heads) (stands heads) head in
           (λ t. both.0 (here.0 t), λ bad. here.1 (both.1 bad));
     }

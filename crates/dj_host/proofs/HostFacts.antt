@@ -17,7 +17,7 @@ use Rattle.dj_model.specs.trusted.State.{Part, Effect, Goes, Next}
 use Rattle.dj_model.specs.trusted.Charging.{new_account}
 use Rattle.dj_model.specs.trusted.Natives.{Word, Nanos, Millis, answer, host_answer}
 use Rattle.dj_model.specs.trusted.Performing.{native, perform}
-use Rattle.dj_calls.specs.declared.answer.NativeAnswer.TheVariants as told
+use Rattle.dj_calls.specs.declared.answer.NativeAnswer.TheVariants as reported
 use Rattle.dj_calls.specs.Known.{AreKnown, IsKnown}
 use Rattle.dj_host.specs.trusted.Hosted.{given_since}
 use Rattle.dj_host.specs.Hosted.{is_hosted, AreOfKind, with_answers, Takes, CallsHost, Passes}
@@ -81,25 +81,25 @@ left_of (Some e) = e.part.answers
 left : (with_answers before part).answers ≡ before
 left = refl
 
-nanos_taken : Takes [] [] types heap heap (host.Nanos (negsuc 4) ∷ []) natives.NanoTime [] (told.Gives (values.Long (negsuc 4))) (Some (Goes Next))
+nanos_taken : Takes [] [] types heap heap (host.Nanos (negsuc 4) ∷ []) natives.NanoTime [] (reported.Gives (values.Long (negsuc 4))) (Some (Goes Next))
 unfolding native host_answer perform
 nanos_taken p rest = refl
 
 -- a word as an unsigned number of 32 bits
-text_taken : Takes [] [] types heap (with_text (codes "p.q.R@ffffffff")) (host.Word (negsuc 0) ∷ []) natives.HostToString (values.Ref 1 ∷ []) (told.Gives (values.Ref 2)) (Some (Goes Next))
+text_taken : Takes [] [] types heap (with_text (codes "p.q.R@ffffffff")) (host.Word (negsuc 0) ∷ []) natives.HostToString (values.Ref 1 ∷ []) (reported.Gives (values.Ref 2)) (Some (Goes Next))
 unfolding native host_answer perform digits units_read unit_read long_read two_read three_read
 text_taken p rest = refl
 
-not_millis : Takes [] [] types heap heap (host.Millis (pos 5) ∷ []) natives.NanoTime [] (told.Gives (values.Long (pos 5))) (Some (Goes Next)) → ⊥
+not_millis : Takes [] [] types heap heap (host.Millis (pos 5) ∷ []) natives.NanoTime [] (reported.Gives (values.Long (pos 5))) (Some (Goes Next)) → ⊥
 unfolding native host_answer perform
 not_millis takes = let none = takes part [] in absurd cc
 
-not_untaken : Takes [] [] types heap heap [] natives.NanoTime [] (told.Gives (values.Long (pos 5))) (Some (Goes Next)) → ⊥
+not_untaken : Takes [] [] types heap heap [] natives.NanoTime [] (reported.Gives (values.Long (pos 5))) (Some (Goes Next)) → ⊥
 unfolding native host_answer perform
 not_untaken takes = let none = takes part [] in absurd cc
 
 -- of two words the second would be left
-not_both : Takes [] [] types heap heap (host.Word (pos 5) ∷ host.Word (pos 6) ∷ []) natives.HostHashCode (values.Ref 1 ∷ []) (told.Gives (values.Int (pos 5))) (Some (Goes Next)) → ⊥
+not_both : Takes [] [] types heap heap (host.Word (pos 5) ∷ host.Word (pos 6) ∷ []) natives.HostHashCode (values.Ref 1 ∷ []) (reported.Gives (values.Int (pos 5))) (Some (Goes Next)) → ⊥
 unfolding native host_answer perform
 not_both takes = let rest : host.Word (pos 6) ∷ [] ≡ [] = ap left_of (takes part []) in absurd cc
 
@@ -108,32 +108,32 @@ not_both takes = let rest : host.Word (pos 6) ∷ [] ≡ [] = ap left_of (takes 
 known : AreKnown types heap
 known = All-push (IsKnown types) [] (Instance 0 []) (All-nil (IsKnown types)) (record { class = omega arith; holds = (codes "p/q/R", refl) })
 
-null_called : CallsHost [] [] types heap heap before before natives.HostIdentityHashCode (values.Ref 0 ∷ []) (told.Gives (values.Int (pos 0)))
+null_called : CallsHost [] [] types heap heap before before natives.HostIdentityHashCode (values.Ref 0 ∷ []) (reported.Gives (values.Int (pos 0)))
 unfolding native answer perform
 null_called = record { does = λ p rest. refl; heap = refl; known = known; given = refl; kind = tt }
 
-hash_called : CallsHost [] [] types heap heap before (before ++ host.Word (pos 7) ∷ []) natives.HostIdentityHashCode (values.Ref 1 ∷ []) (told.Gives (values.Int (pos 7)))
+hash_called : CallsHost [] [] types heap heap before (before ++ host.Word (pos 7) ∷ []) natives.HostIdentityHashCode (values.Ref 1 ∷ []) (reported.Gives (values.Int (pos 7)))
 unfolding native host_answer perform
 hash_called = record { does = λ p rest. refl; heap = refl; known = known; given = refl; kind = (refl, refl) }
 
 -- null isn't asked for
-not_asked_of_null : CallsHost [] [] types heap heap before (before ++ host.Word (pos 0) ∷ []) natives.HostIdentityHashCode (values.Ref 0 ∷ []) (told.Gives (values.Int (pos 0))) → ⊥
+not_asked_of_null : CallsHost [] [] types heap heap before (before ++ host.Word (pos 0) ∷ []) natives.HostIdentityHashCode (values.Ref 0 ∷ []) (reported.Gives (values.Int (pos 0))) → ⊥
 not_asked_of_null calls = calls.kind
 
 -- nothing that was given before is taken back
-not_taken_back : CallsHost [] [] types heap heap before [] natives.NanoTime [] told.Memory → ⊥
+not_taken_back : CallsHost [] [] types heap heap before [] natives.NanoTime [] reported.Memory → ⊥
 not_taken_back calls = let given = calls.given in absurd cc
 
 -- ---- parts
 
-word_passes : Passes host.Word values.Int before (before ++ host.Word (pos 9) ∷ []) (told.Gives (values.Int (pos 9)))
+word_passes : Passes host.Word values.Int before (before ++ host.Word (pos 9) ∷ []) (reported.Gives (values.Int (pos 9)))
 word_passes = (pos 9, refl, refl)
 
-none_passes : Passes host.Word values.Int before before told.Memory
+none_passes : Passes host.Word values.Int before before reported.Memory
 none_passes = refl
 
-not_other_kind : Passes host.Nanos values.Long [] (host.Millis (pos 9) ∷ []) (told.Gives (values.Long (pos 9))) → ⊥
+not_other_kind : Passes host.Nanos values.Long [] (host.Millis (pos 9) ∷ []) (reported.Gives (values.Long (pos 9))) → ⊥
 not_other_kind passes = let given = passes.1 in absurd cc
 
-not_nothing : Passes host.Word values.Int before before told.Nothing → ⊥
+not_nothing : Passes host.Word values.Int before before reported.Nothing → ⊥
 not_nothing passes = passes

@@ -18,8 +18,8 @@ use Rattle.dj_model.specs.trusted.State.{Terms, Part, Flow}
 use Rattle.dj_model.specs.trusted.Natives.{Answer, Returns, MakesText, Question, Word, Nanos, Millis, object_text, reference, asks, answered, answer, host_answer}
 use Rattle.dj_model.specs.trusted.Performing.{seen, native, native_asked, with_answer, perform}
 use Rattle.dj_calls.specs.declared.answer.NativeAnswer.{NativeAnswer}
-use Rattle.dj_calls.specs.declared.answer.NativeAnswer.TheVariants as told
-use Rattle.dj_calls.specs.Calls.{seen_of, terms_of, part_with, flow_of, flow_told, Performs, Done}
+use Rattle.dj_calls.specs.declared.answer.NativeAnswer.TheVariants as reported
+use Rattle.dj_calls.specs.Calls.{seen_of, terms_of, part_with, flow_of, flow_reported, Performs, Done}
 use Rattle.dj_calls.specs.Known.{AreKnown}
 use Rattle.dj_calls.specs.Names.{shown_at}
 use Rattle.dj_calls.proofs.SeenFacts.{shown_alike}
@@ -63,13 +63,13 @@ module _ (program : Program) (prefix : Prefix) (types : List Ty) (old new : Limi
         ∙ ap (λ x. Some (perform prefix (terms_of old None) (part_with types old None (with_answers rest p)) x)) same
         ∙ ap Some (does (with_answers rest p))
 
-    takes_done : (result : NativeAnswer) → Performs prefix types old new a result → Takes program prefix types old new (first ∷ []) id args result (flow_told id args result)
-    takes_done told.Nothing does = takes_with told.Nothing (flow_of told.Nothing) does
-    takes_done (told.Gives v) does = takes_with (told.Gives v) (flow_of (told.Gives v)) does
-    takes_done (told.Raise raised) does = takes_with (told.Raise raised) (flow_of (told.Raise raised)) does
-    takes_done told.Stop does = absurd does
-    takes_done (told.Full used size) does = takes_with (told.Full used size) (flow_of (told.Full used size)) does
-    takes_done told.Memory does = tt
+    takes_done : (result : NativeAnswer) → Performs prefix types old new a result → Takes program prefix types old new (first ∷ []) id args result (flow_reported id args result)
+    takes_done reported.Nothing does = takes_with reported.Nothing (flow_of reported.Nothing) does
+    takes_done (reported.Gives v) does = takes_with (reported.Gives v) (flow_of (reported.Gives v)) does
+    takes_done (reported.Raise raised) does = takes_with (reported.Raise raised) (flow_of (reported.Raise raised)) does
+    takes_done reported.Stop does = absurd does
+    takes_done (reported.Full used size) does = takes_with (reported.Full used size) (flow_of (reported.Full used size)) does
+    takes_done reported.Memory does = tt
 
     pub calls_asked : (before after : List HostAnswer) (result : NativeAnswer) → after ≡ before ++ first ∷ [] → Done prefix types old new a result
         → CallsHost program prefix types old new before after id args result
@@ -77,7 +77,7 @@ module _ (program : Program) (prefix : Prefix) (types : List Ty) (old new : Limi
         let one : given_since before after ≡ first ∷ [] = since_is before after (first ∷ []) e in
         let kinds : AreOfKind (Some question) (first ∷ []) = (some_is (answered question first) z is, refl) in
         record {
-          does = subst (λ l. Takes program prefix types old new l id args result (flow_told id args result)) (sym one) (takes_done result done.does);
+          does = subst (λ l. Takes program prefix types old new l id args result (flow_reported id args result)) (sym one) (takes_done result done.does);
           heap = done.heap;
           known = done.known;
           given = since_all before after (first ∷ []) e;
@@ -94,13 +94,13 @@ module _ (program : Program) (prefix : Prefix) (types : List Ty) (h : LimitedHea
   kind_none : AreOfKind (asks id args) (given_since before after)
   kind_none = subst (AreOfKind (asks id args)) (sym (none_given before after same)) tt
 
-  pub calls_without : CallsHost program prefix types h h before after id args told.Memory
+  pub calls_without : CallsHost program prefix types h h before after id args reported.Memory
   calls_without = record { does = tt; heap = refl; known = known; given = since_all before after [] (same ∙ and_none before); kind = kind_none }
 
   pub calls_silent : (v : Value) → asks id args ≡ None → answer id (seen_of program prefix types h) args ≡ Returns (Some v)
-      → CallsHost program prefix types h h before after id args (told.Gives v)
+      → CallsHost program prefix types h h before after id args (reported.Gives v)
   calls_silent v silent is = record {
-    does = subst (λ l. Takes program prefix types h h l id args (told.Gives v) (Some (flow_of (told.Gives v)))) (sym (none_given before after same))
+    does = subst (λ l. Takes program prefix types h h l id args (reported.Gives v) (Some (flow_of (reported.Gives v)))) (sym (none_given before after same))
         (λ p rest. native_does program prefix types h None (with_answers rest p) id args (Returns (Some v)) silent is
         ∙ ap Some ((returns_done prefix types h (Some v) known).does (with_answers rest p)));
     heap = refl;
@@ -116,15 +116,15 @@ module _ (program : Program) (prefix : Prefix) (types : List Ty) (h : LimitedHea
   passed : (id : NativeId) (question : Question) (kind : ℤ → HostAnswer) (value : ℤ → Value) (r : NativeAnswer) → asks id args ≡ Some question
       → ((z : ℤ) → answered question (kind z) ≡ Some z) → ((z : ℤ) → host_answer id (seen_of program prefix types h) z args ≡ Returns (Some (value z)))
       → Passes kind value before after r → CallsHost program prefix types h h before after id args r
-  passed id question kind value (told.Gives v) asked is same passes =
-      subst (λ x. CallsHost program prefix types h h before after id args (told.Gives x)) (sym passes.2)
+  passed id question kind value (reported.Gives v) asked is same passes =
+      subst (λ x. CallsHost program prefix types h h before after id args (reported.Gives x)) (sym passes.2)
       (calls_asked program prefix types h h id args question (kind passes.0) passes.0 asked (is passes.0) (Returns (Some (value passes.0))) (same passes.0) before after
-      (told.Gives (value passes.0)) passes.1 (returns_done prefix types h (Some (value passes.0)) known))
-  passed id question kind value told.Memory asked is same passes = calls_without program prefix types h before after id args passes known
-  passed id question kind value told.Nothing asked is same passes = absurd passes
-  passed id question kind value (told.Raise raised) asked is same passes = absurd passes
-  passed id question kind value told.Stop asked is same passes = absurd passes
-  passed id question kind value (told.Full used size) asked is same passes = absurd passes
+      (reported.Gives (value passes.0)) passes.1 (returns_done prefix types h (Some (value passes.0)) known))
+  passed id question kind value reported.Memory asked is same passes = calls_without program prefix types h before after id args passes known
+  passed id question kind value reported.Nothing asked is same passes = absurd passes
+  passed id question kind value (reported.Raise raised) asked is same passes = absurd passes
+  passed id question kind value reported.Stop asked is same passes = absurd passes
+  passed id question kind value (reported.Full used size) asked is same passes = absurd passes
 
   pub hash_passed : Passes host.Word values.Int before after result → CallsHost program prefix types h h before after natives.HostHashCode args result
   unfolding host_answer
@@ -148,7 +148,7 @@ module _ (program : Program) (prefix : Prefix) (types : List Ty) (h : LimitedHea
       passed natives.HostIdentityHashCode Word host.Word values.Int result (word_asked (reference 0 args) apart) (λ z. refl) (λ z. refl) passes
 
 pub identity_of_null : (program : Program) (prefix : Prefix) (types : List Ty) (h : LimitedHeap) (given : List HostAnswer) (args : List Value) → AreKnown types h
-    → reference 0 args ≡ 0 → CallsHost program prefix types h h given given natives.HostIdentityHashCode args (told.Gives (values.Int (pos 0)))
+    → reference 0 args ≡ 0 → CallsHost program prefix types h h given given natives.HostIdentityHashCode args (reported.Gives (values.Int (pos 0)))
 unfolding answer
 identity_of_null program prefix types h given args known null =
     calls_silent program prefix types h given given natives.HostIdentityHashCode args refl known (values.Int (pos 0)) (ap (λ r. if nat_eq r 0 then None else Some Word) null) refl

@@ -12,8 +12,8 @@ use Rattle.dj_model.specs.trusted.State.{Part, Flow}
 use Rattle.dj_model.specs.trusted.Natives.{Question, asks, answered}
 use Rattle.dj_model.specs.trusted.Performing.{native}
 use Rattle.dj_calls.specs.declared.answer.NativeAnswer.{NativeAnswer}
-use Rattle.dj_calls.specs.declared.answer.NativeAnswer.TheVariants as told
-use Rattle.dj_calls.specs.Calls.{terms_of, part_with, effect_with, flow_told, KeepsHeap}
+use Rattle.dj_calls.specs.declared.answer.NativeAnswer.TheVariants as reported
+use Rattle.dj_calls.specs.Calls.{terms_of, part_with, effect_with, flow_reported, KeepsHeap}
 use Rattle.dj_calls.specs.Known.{AreKnown}
 use Rattle.dj_host.specs.trusted.Hosted.{given_since}
 
@@ -50,7 +50,7 @@ Takes program prefix types old new taken id args result (Some flow) = (p : Part)
 -- before and after are all answers that the host had given before and after the call
 pub record CallsHost (program : Program) (prefix : Prefix) (types : List Ty) (old new : LimitedHeap) (before after : List HostAnswer) (id : NativeId) (args : List Value)
     (result : NativeAnswer) : Type 0 where
-  pub does : Takes program prefix types old new (given_since before after) id args result (flow_told id args result)
+  pub does : Takes program prefix types old new (given_since before after) id args result (flow_reported id args result)
   pub heap : KeepsHeap old new result
   pub known : AreKnown types new
   pub given : after ≡ before ++ given_since before after
@@ -60,6 +60,6 @@ pub record CallsHost (program : Program) (prefix : Prefix) (types : List Ty) (ol
 
 -- the host's answer is of this kind, and the method returns it; where there was no memory the host gave none
 abbrev pub Passes : (ℤ → HostAnswer) → (ℤ → Value) → List HostAnswer → List HostAnswer → NativeAnswer → Type 0
-Passes kind value before after (told.Gives v) = (z : ℤ) × (after ≡ before ++ kind z ∷ []) × (v ≡ value z)
-Passes kind value before after told.Memory = after ≡ before
+Passes kind value before after (reported.Gives v) = (z : ℤ) × (after ≡ before ++ kind z ∷ []) × (v ≡ value z)
+Passes kind value before after reported.Memory = after ≡ before
 Passes kind value before after _ = ⊥

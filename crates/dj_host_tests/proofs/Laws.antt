@@ -5,7 +5,7 @@ use Rattle.dj_names.specs.trusted.Types.{component_type}
 use Rattle.dj_model.specs.trusted.Linking.{is_subtype, is_subclass, chain_of, interfaces_from, interfaces_above, most_classes}
 use Rattle.dj_model.specs.trusted.Natives.{class_name}
 use Rattle.dj_model.specs.trusted.Types.{is_stop}
-use Rattle.dj_natives.specs.Numbered.{type_at, holds_references, begins_array, ArePlain, HasNumber, HaveComponents, TellsStop}
+use Rattle.dj_natives.specs.Numbered.{type_at, holds_references, begins_array, ArePlain, HasNumber, HaveComponents, SaysStop}
 use Rattle.dj_host_tests.specs.Three.{three_types, three_program}
 
 -- of five numbers
@@ -31,8 +31,8 @@ below_is a b first second =
     (each_of_five (IsBelow 4) refl refl refl refl refl b second)
     a first
 
-pub tells_stop : TellsStop three_types [] None
-tells_stop = each_of_five (λ k. is_stop [] (type_at three_types k) ≡ false) refl refl refl refl refl
+pub says_stop : SaysStop three_types [] None
+says_stop = each_of_five (λ k. is_stop [] (type_at three_types k) ≡ false) refl refl refl refl refl
 
 abbrev IsPlain : ℕ → Type 0
 IsPlain k = (type_at three_types k).dims ≡ 0 → begins_array (class_name (type_at three_types k)) ≡ false

@@ -26,7 +26,7 @@ enum Thing {
 
 /// What a call answers.
 #[derive(Clone, Copy)]
-enum Told {
+enum Reported {
     Gives(i32),
     /// The text is the second object.
     GivesText(&'static [u8]),
@@ -35,26 +35,40 @@ enum Told {
 }
 
 /// A method, what it is called on, the limit of the heap, the host's word, the answer, and how many answers the host gave.
-type Row = (NativeId, Thing, u64, i32, Told, u32);
+type Row = (NativeId, Thing, u64, i32, Reported, u32);
 
 const ROWS: [Row; 10] = [
-    (HostIdentityHashCode, Thing::Null, 999, 7, Told::Gives(0), 0),
-    (HostIdentityHashCode, Thing::Own, 999, 1, Told::Gives(1), 1),
+    (
+        HostIdentityHashCode,
+        Thing::Null,
+        999,
+        7,
+        Reported::Gives(0),
+        0,
+    ),
+    (
+        HostIdentityHashCode,
+        Thing::Own,
+        999,
+        1,
+        Reported::Gives(1),
+        1,
+    ),
     (
         HostIdentityHashCode,
         Thing::Ints,
         999,
         -5,
-        Told::Gives(-5),
+        Reported::Gives(-5),
         1,
     ),
-    (HostHashCode, Thing::Own, 999, 9, Told::Gives(9), 1),
+    (HostHashCode, Thing::Own, 999, 9, Reported::Gives(9), 1),
     (
         HostToString,
         Thing::Own,
         999,
         -1,
-        Told::GivesText(b"p.q.R@ffffffff"),
+        Reported::GivesText(b"p.q.R@ffffffff"),
         1,
     ),
     (
@@ -62,7 +76,7 @@ const ROWS: [Row; 10] = [
         Thing::Own,
         999,
         10,
-        Told::GivesText(b"p.q.R@a"),
+        Reported::GivesText(b"p.q.R@a"),
         1,
     ),
     (
@@ -70,7 +84,7 @@ const ROWS: [Row; 10] = [
         Thing::Ints,
         999,
         0,
-        Told::GivesText(b"[I@0"),
+        Reported::GivesText(b"[I@0"),
         1,
     ),
     (
@@ -78,7 +92,7 @@ const ROWS: [Row; 10] = [
         Thing::Ints,
         999,
         i32::MIN,
-        Told::GivesText(b"[I@80000000"),
+        Reported::GivesText(b"[I@80000000"),
         1,
     ),
     (
@@ -86,10 +100,10 @@ const ROWS: [Row; 10] = [
         Thing::Own,
         64,
         -1,
-        Told::GivesText(b"p.q.R@ffffffff"),
+        Reported::GivesText(b"p.q.R@ffffffff"),
         1,
     ),
-    (HostToString, Thing::Own, 63, -1, Told::Full(16, 48), 1),
+    (HostToString, Thing::Own, 63, -1, Reported::Full(16, 48), 1),
 ];
 
 // The object, or 0 for null.
@@ -142,13 +156,13 @@ fn called(
     }
 }
 
-fn is_told(heap: &Heap, answer: NativeAnswer, told: &Told) -> bool {
-    match (answer, told) {
-        (NativeAnswer::Gives(Value::Int(z)), Told::Gives(int)) => z == *int,
-        (NativeAnswer::Gives(Value::Ref(r)), Told::GivesText(text)) => {
+fn is_reported(heap: &Heap, answer: NativeAnswer, reported: &Reported) -> bool {
+    match (answer, reported) {
+        (NativeAnswer::Gives(Value::Int(z)), Reported::Gives(int)) => z == *int,
+        (NativeAnswer::Gives(Value::Ref(r)), Reported::GivesText(text)) => {
             r == 2 && is_text(heap, r, text)
         }
-        (NativeAnswer::Full { used, size }, Told::Full(bytes, wanted)) => {
+        (NativeAnswer::Full { used, size }, Reported::Full(bytes, wanted)) => {
             used == *bytes && size == *wanted
         }
         _ => false,
@@ -161,7 +175,7 @@ fn does(alloc: Global, row: &Row) -> Option<bool> {
     let mut host = Counted::new(alloc, row.3, 0);
     let r = number_of(&mut heap, row.1)?;
     let answer = called(alloc, &mut heap, &mut host, row.0, &[Value::Ref(r)])?;
-    Some(is_told(&heap, answer, &row.4) && host.count() == row.5)
+    Some(is_reported(&heap, answer, &row.4) && host.count() == row.5)
 }
 
 // What two calls of a method without arguments answer, and how many answers the host gave.

@@ -26,7 +26,7 @@ use Rattle.dj_image.specs.declared.image.Body.TheVariants as variants
 use Rattle.dj_image.specs.Sources.{class_of_source}
 use Rattle.dj_image.specs.Imaged.{Imaged}
 use Rattle.dj_image.specs.Operands.{named_operand, named_class}
-use Rattle.dj_image.specs.Codes.{PooledCode, all_codes, IsNamedAt, HasRange, TellsBody, IsBodyAt}
+use Rattle.dj_image.specs.Codes.{PooledCode, all_codes, IsNamedAt, HasRange, SaysBody, IsBodyAt}
 use Rattle.dj_image.specs.Shaped.{HasNoCode}
 use Rattle.dj_image.specs.Parts.{FitMethods, HasString}
 use Rattle.dj_image.specs.Tables.{IsOperandTable}
@@ -98,14 +98,14 @@ nothing_named = record { code = pooled_code; own = refl; instr = instrs.Simple 1
 -- what is named at the first instruction is the class
 first_named : (class : Option ℕ) → IsNamedAt image 2 0 class → class ≡ Some 0
 unfolding all_codes class_of_source named_by desc_in type_in dims_read name_read class_read of_read type_read params_read field_read return_read method_read desc_read reads_class_name
-first_named class told =
-    let same : pooled_code ≡ told.code = same_Some pooled_code told.code told.own in
-    let stands : Some (instrs.Class 187 2) ≡ Some told.instr = subst (λ (c : PooledCode). slice_get c.parts.labelled.code 0 ≡ Some told.instr) (sym same) told.stands in
-    let one : instrs.Class 187 2 ≡ told.instr = same_Some (instrs.Class 187 2) told.instr stands in
-    told.is ∙ sym (λ i. named_class image (named_if (same i).pool (index_of (one i))))
+first_named class reported =
+    let same : pooled_code ≡ reported.code = same_Some pooled_code reported.code reported.own in
+    let stands : Some (instrs.Class 187 2) ≡ Some reported.instr = subst (λ (c : PooledCode). slice_get c.parts.labelled.code 0 ≡ Some reported.instr) (sym same) reported.stands in
+    let one : instrs.Class 187 2 ≡ reported.instr = same_Some (instrs.Class 187 2) reported.instr stands in
+    reported.is ∙ sym (λ i. named_class image (named_if (same i).pool (index_of (one i))))
 
 class_not_left_out : IsNamedAt image 2 0 None → ⊥
-class_not_left_out told = none-some 0 (first_named None told)
+class_not_left_out reported = none-some 0 (first_named None reported)
 
 -- ---- bodies
 
@@ -113,35 +113,35 @@ abbrev found_body : Option FoundMethod → programs.Body
 found_body None = Abstract
 found_body (Some found) = found.method.body
 
-abstract_told : IsBodyAt image 0 variants.Abstract
+abstract_reported : IsBodyAt image 0 variants.Abstract
 unfolding class_of_source all_methods
-abstract_told = record { found = record { class = codes "A"; method = method (codes "a") Abstract }; there = refl; tells = tt }
+abstract_reported = record { found = record { class = codes "A"; method = method (codes "a") Abstract }; there = refl; says = tt }
 
-native_told : IsBodyAt image 1 (variants.Native natives.ObjectHashCode)
+native_reported : IsBodyAt image 1 (variants.Native natives.ObjectHashCode)
 unfolding class_of_source all_methods
-native_told = record { found = record { class = codes "A"; method = method (codes "n") (Native natives.ObjectHashCode) }; there = refl; tells = refl }
+native_reported = record { found = record { class = codes "A"; method = method (codes "n") (Native natives.ObjectHashCode) }; there = refl; says = refl }
 
-code_told : (told : Bor MethodCode) → parts_of told.now ≡ parts → IsBodyAt image 2 (variants.Code told)
+code_reported : (reported : Bor MethodCode) → parts_of reported.now ≡ parts → IsBodyAt image 2 (variants.Code reported)
 unfolding class_of_source all_codes all_methods
-code_told told is = record {
+code_reported reported is = record {
   found = record { class = codes "A"; method = method (codes "r") (Runs (code_in pool parts)) };
   there = refl;
-  tells = (pool, ap (λ (p : CodeParts). Some (record { pool = pool; parts = p })) (sym is), ap (code_in pool) (sym is));
+  says = (pool, ap (λ (p : CodeParts). Some (record { pool = pool; parts = p })) (sym is), ap (code_in pool) (sym is));
 }
 
 -- neither another native nor abstract, nor code
-native_is : (body : Body) → IsBodyAt image 1 body → TellsBody image 1 (Native natives.ObjectHashCode) body
+native_is : (body : Body) → IsBodyAt image 1 body → SaysBody image 1 (Native natives.ObjectHashCode) body
 unfolding class_of_source all_methods
-native_is body told = subst (λ (b : programs.Body). TellsBody image 1 b body) (sym (ap found_body told.there)) told.tells
+native_is body reported = subst (λ (b : programs.Body). SaysBody image 1 b body) (sym (ap found_body reported.there)) reported.says
 
 not_other_native : IsBodyAt image 1 (variants.Native natives.ObjectToString) → ⊥
-not_other_native told = let e : natives.ObjectToString ≡ natives.ObjectHashCode = native_is (variants.Native natives.ObjectToString) told in absurd cc
+not_other_native reported = let e : natives.ObjectToString ≡ natives.ObjectHashCode = native_is (variants.Native natives.ObjectToString) reported in absurd cc
 
 native_not_abstract : IsBodyAt image 1 variants.Abstract → ⊥
-native_not_abstract told = native_is variants.Abstract told
+native_not_abstract reported = native_is variants.Abstract reported
 
 native_not_code : (code : Bor MethodCode) → IsBodyAt image 1 (variants.Code code) → ⊥
-native_not_code code told = native_is (variants.Code code) told
+native_not_code code reported = native_is (variants.Code code) reported
 
 -- the native one has no code, and the last one has
 native_has_none : HasNoCode image 1
@@ -155,7 +155,7 @@ last_has_some none = none (record { class = codes "A"; method = method (codes "r
 -- ---- parts that fit
 
 abbrev FitBodies : List (Option ℕ) → Type 0
-FitBodies told = FitMethods class_a.methods told
+FitBodies reported = FitMethods class_a.methods reported
 
 methods_fit : FitBodies (None ∷ None ∷ Some 5 ∷ [])
 methods_fit = (λ e. false≢true e, (λ e. false≢true e, (refl, tt)))

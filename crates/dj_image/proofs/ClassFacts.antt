@@ -9,7 +9,7 @@ use Rattle.dj_names.specs.Types.{sandbox_prefix}
 use Rattle.dj_names.specs.trusted.Library.{object, object_class}
 use Rattle.dj_model.specs.trusted.Types.{is_stop}
 use Rattle.dj_model.specs.trusted.Program.{Program, Class}
-use Rattle.dj_natives.specs.Numbered.{type_at, IsNumberOf, superclass_type, component_of, holds_references, is_number, TellsStop}
+use Rattle.dj_natives.specs.Numbered.{type_at, IsNumberOf, superclass_type, component_of, holds_references, is_number, SaysStop}
 use Rattle.dj_image.proofs.TypeFacts.{other_type, a, b, ints, longs, a_arrays}
 
 -- ---- numbers
@@ -21,22 +21,22 @@ abbrev types : List Ty
 types = stop_type ∷ a ∷ ints ∷ []
 
 -- past the last there is no name
-types_told : map (type_at types) (0 ∷ 1 ∷ 2 ∷ 3 ∷ []) ≡ stop_type ∷ a ∷ ints ∷ class_type [] ∷ []
-types_told = refl
+types_reported : map (type_at types) (0 ∷ 1 ∷ 2 ∷ 3 ∷ []) ≡ stop_type ∷ a ∷ ints ∷ class_type [] ∷ []
+types_reported = refl
 
 -- no type has no number, and a type its own
 numbers : IsNumberOf types None None × IsNumberOf types (Some a) (Some 1) × IsNumberOf types (Some ints) (Some 2)
 numbers = (tt, refl, refl)
 
 number_of_nothing : IsNumberOf types None (Some 1) → ⊥
-number_of_nothing told = told
+number_of_nothing reported = reported
 
 -- not that of another type, and none past the end
 other_number : IsNumberOf types (Some a) (Some 2) → ⊥
-other_number told = other_type ints a refl refl (same_Some ints a told)
+other_number reported = other_type ints a refl refl (same_Some ints a reported)
 
 number_past_end : IsNumberOf types (Some a) (Some 3) → ⊥
-number_past_end told = none-some a told
+number_past_end reported = none-some a reported
 
 -- without a number only where the type has none
 none_of_longs : (k : ℕ) → slice_get (ints ∷ []) k ≡ Some longs → ⊥
@@ -47,7 +47,7 @@ no_number : IsNumberOf (ints ∷ []) (Some longs) None
 no_number = none_of_longs
 
 number_left_out : IsNumberOf types (Some ints) None → ⊥
-number_left_out told = told 2 refl
+number_left_out reported = reported 2 refl
 
 -- ---- superclasses and components
 
@@ -93,18 +93,18 @@ stop_at (suc zero) h = refl
 stop_at (suc (suc zero)) h = refl
 stop_at (suc (suc (suc k))) h = absurd (omega (arith, h))
 
-stop : TellsStop types sandbox_prefix (Some 0)
+stop : SaysStop types sandbox_prefix (Some 0)
 stop = stop_at
 
 -- under no prefix no class is it
-no_stop : TellsStop types [] None
+no_stop : SaysStop types [] None
 no_stop k h = refl
 
 none_at : (k : ℕ) → k < 1 → is_stop sandbox_prefix (type_at (ints ∷ []) k) ≡ is_number None k
 none_at zero h = refl
 none_at (suc k) h = absurd (omega (arith, h))
 
-none_there : TellsStop (ints ∷ []) sandbox_prefix None
+none_there : SaysStop (ints ∷ []) sandbox_prefix None
 none_there = none_at
 
 -- an array of it is another type
@@ -112,14 +112,14 @@ arrays_at : (k : ℕ) → k < 1 → is_stop sandbox_prefix (type_at (array_type 
 arrays_at zero h = refl
 arrays_at (suc k) h = absurd (omega (arith, h))
 
-no_array_of_stop : TellsStop (array_type stop_type ∷ []) sandbox_prefix None
+no_array_of_stop : SaysStop (array_type stop_type ∷ []) sandbox_prefix None
 no_array_of_stop = arrays_at
 
-stop_left_out : TellsStop types sandbox_prefix None → ⊥
-stop_left_out told = true≢false (told 0 (omega arith))
+stop_left_out : SaysStop types sandbox_prefix None → ⊥
+stop_left_out reported = true≢false (reported 0 (omega arith))
 
-other_stop : TellsStop types sandbox_prefix (Some 1) → ⊥
-other_stop told = true≢false (told 0 (omega arith))
+other_stop : SaysStop types sandbox_prefix (Some 1) → ⊥
+other_stop reported = true≢false (reported 0 (omega arith))
 
-plain_stop : TellsStop types [] (Some 0) → ⊥
-plain_stop told = false≢true (told 0 (omega arith))
+plain_stop : SaysStop types [] (Some 0) → ⊥
+plain_stop reported = false≢true (reported 0 (omega arith))

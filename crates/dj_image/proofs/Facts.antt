@@ -28,7 +28,7 @@ use Rattle.dj_image.specs.declared.image.Body.TheVariants as variants
 use Rattle.dj_image.specs.Sources.{Source, with_codes, with_values, class_of_source}
 use Rattle.dj_image.specs.Imaged.{Imaged}
 use Rattle.dj_image.specs.Operands.{operand_of, named_class, value_operand}
-use Rattle.dj_image.specs.Codes.{PooledCode, all_codes, code_at, HasInstr, IsOperandAt, IsCaughtAt, IsConstantAt, TellsBody, IsBodyAt}
+use Rattle.dj_image.specs.Codes.{PooledCode, all_codes, code_at, HasInstr, IsOperandAt, IsCaughtAt, IsConstantAt, SaysBody, IsBodyAt}
 use Rattle.dj_image.specs.Shaped.{AreShapePartsAt}
 
 -- 2 the class A, 3 an int, 6 a field that is there, 9 one that isn't, 12 and 13 a method that is there, as one of a class and as one of an interface,
@@ -106,53 +106,53 @@ code_elsewhere e = let body : Runs (code_in pool parts) ≡ Abstract = ap first_
 
 -- ---- operands
 
-abbrev tell : Instr → Operand
-tell instr = operand_of image instr (named_if pool (index_of instr))
+abbrev say : Instr → Operand
+say instr = operand_of image instr (named_if pool (index_of instr))
 
-no_operands : map tell (instrs.Simple 0 ∷ instrs.Push 16 (pos 1) ∷ instrs.Local 21 0 false ∷ instrs.Branch 167 (pos 3) ∷ [])
+no_operands : map say (instrs.Simple 0 ∷ instrs.Push 16 (pos 1) ∷ instrs.Local 21 0 false ∷ instrs.Branch 167 (pos 3) ∷ [])
     ≡ operands.Nothing ∷ operands.Nothing ∷ operands.Nothing ∷ operands.Nothing ∷ []
 unfolding operand_of instruction_of simple
 no_operands = refl
 
 -- an int, a long and a string, each where it is taken and where it isn't
-literals : map tell (instrs.Literal 18 3 ∷ instrs.Literal 20 3 ∷ instrs.Literal 20 17 ∷ instrs.Literal 18 17 ∷ instrs.Literal 19 15 ∷ instrs.Literal 20 15 ∷ [])
+literals : map say (instrs.Literal 18 3 ∷ instrs.Literal 20 3 ∷ instrs.Literal 20 17 ∷ instrs.Literal 18 17 ∷ instrs.Literal 19 15 ∷ instrs.Literal 20 15 ∷ [])
     ≡ operands.Int (pos 7) ∷ operands.Unresolved ∷ operands.Long (pos 9) ∷ operands.Unresolved ∷ operands.Text 0 ∷ operands.Unresolved ∷ []
 unfolding image pool operand_of instruction_of named_by units_in units_read unit_read long_read two_read
 literals = refl
 
 -- of new and checkcast the class itself, of anewarray the array of it; a class that isn't there, and a field where a class is asked
-classes : map tell (instrs.Class 187 2 ∷ instrs.Class 192 2 ∷ instrs.Class 189 2 ∷ instrs.Class 187 16 ∷ instrs.Class 189 16 ∷ instrs.Class 187 6 ∷ [])
+classes : map say (instrs.Class 187 2 ∷ instrs.Class 192 2 ∷ instrs.Class 189 2 ∷ instrs.Class 187 16 ∷ instrs.Class 189 16 ∷ instrs.Class 187 6 ∷ [])
     ≡ operands.Class 0 ∷ operands.Class 0 ∷ operands.Class 2 ∷ operands.Unresolved ∷ operands.Unresolved ∷ operands.Unresolved ∷ []
 unfolding image source class_a class_of_source pool operand_of instruction_of named_by desc_in type_in dims_read name_read class_read of_read type_read params_read field_read return_read method_read desc_read reads_class_name
 classes = refl
 
 -- arrays of ints have a number, those of longs have none, and of floats no array is made
-base_arrays : map tell (instrs.Array 10 ∷ instrs.Array 11 ∷ instrs.Array 6 ∷ []) ≡ operands.Class 1 ∷ operands.Unresolved ∷ operands.Nothing ∷ []
+base_arrays : map say (instrs.Array 10 ∷ instrs.Array 11 ∷ instrs.Array 6 ∷ []) ≡ operands.Class 1 ∷ operands.Unresolved ∷ operands.Nothing ∷ []
 unfolding image source class_a class_of_source operand_of instruction_of
 base_arrays = refl
 
 -- a field that is there, one that isn't, a method, a field where a method is asked, and an int
-members : map tell (instrs.Member 180 6 ∷ instrs.Member 180 9 ∷ instrs.Member 182 12 ∷ instrs.Member 182 6 ∷ instrs.Member 182 3 ∷ [])
+members : map say (instrs.Member 180 6 ∷ instrs.Member 180 9 ∷ instrs.Member 182 12 ∷ instrs.Member 182 6 ∷ instrs.Member 182 3 ∷ [])
     ≡ operands.Field (record { number = 0 }) ∷ operands.Unresolved ∷ operands.Method (record { number = 1 }) ∷ operands.Unresolved ∷ operands.Unresolved ∷ []
 unfolding image source class_a class_of_source abstract_a bare_x field_a field_b pool operand_of instruction_of named_by all_methods all_fields resolve_method resolve_field most_classes chain_of interfaces_from interfaces_above field_order desc_in type_in dims_read name_read class_read of_read type_read params_read field_read return_read method_read desc_read reads_class_name
 members = refl
 
 -- a method of an interface by invokeinterface and invokespecial, but not by invokevirtual; one of a class not by invokeinterface
-interfaces : map tell (instrs.Interface 13 1 ∷ instrs.Member 183 13 ∷ instrs.Member 182 13 ∷ instrs.Interface 12 1 ∷ [])
+interfaces : map say (instrs.Interface 13 1 ∷ instrs.Member 183 13 ∷ instrs.Member 182 13 ∷ instrs.Interface 12 1 ∷ [])
     ≡ operands.Method (record { number = 1 }) ∷ operands.Method (record { number = 1 }) ∷ operands.Unresolved ∷ operands.Unresolved ∷ []
 unfolding image source class_a class_of_source abstract_a bare_x field_a field_b pool operand_of instruction_of named_by all_methods all_fields resolve_method resolve_field most_classes chain_of interfaces_from interfaces_above field_order desc_in type_in dims_read name_read class_read of_read type_read params_read field_read return_read method_read desc_read reads_class_name
 interfaces = refl
 
 -- no index of the pool, and one past its end
-no_constants : map tell (instrs.Class 187 0 ∷ instrs.Literal 18 99 ∷ []) ≡ operands.Unresolved ∷ operands.Unresolved ∷ []
+no_constants : map say (instrs.Class 187 0 ∷ instrs.Literal 18 99 ∷ []) ≡ operands.Unresolved ∷ operands.Unresolved ∷ []
 unfolding pool operand_of instruction_of
 no_constants = refl
 
 -- ---- by numbers of methods
 
-codes_told : map (code_at image) (0 ∷ 1 ∷ 2 ∷ []) ≡ None ∷ Some (record { pool = pool; parts = parts }) ∷ None ∷ []
+codes_reported : map (code_at image) (0 ∷ 1 ∷ 2 ∷ []) ≡ None ∷ Some (record { pool = pool; parts = parts }) ∷ None ∷ []
 unfolding image source all_codes
-codes_told = refl
+codes_reported = refl
 
 instr_there : HasInstr image 1 3
 unfolding image source all_codes parts code
@@ -172,26 +172,26 @@ unfolding image source all_codes
 no_code_there has = let e : None ≡ Some has.code = has.own in absurd cc
 
 -- what is answered for an instruction of the second method is its operand
-operand_there : (number : ℕ) (instr : Instr) (operand : Operand) → slice_get code number ≡ Some instr → IsOperandAt image 1 number operand → operand ≡ tell instr
+operand_there : (number : ℕ) (instr : Instr) (operand : Operand) → slice_get code number ≡ Some instr → IsOperandAt image 1 number operand → operand ≡ say instr
 unfolding image source all_codes parts
-operand_there number instr operand stands told =
-    let e : Some (record { pool = pool; parts = parts }) ≡ Some told.code = told.own in
-    let same : told.code ≡ record { pool = pool; parts = parts } = cc in
-    let other : slice_get code number ≡ Some told.instr = subst (λ (c : PooledCode). slice_get c.parts.labelled.code number ≡ Some told.instr) same told.stands in
-    let one : told.instr ≡ instr = cc in
-    told.is
-    ∙ ap (λ (c : PooledCode). operand_of image told.instr (named_if c.pool (index_of told.instr))) same
-    ∙ ap tell one
+operand_there number instr operand stands reported =
+    let e : Some (record { pool = pool; parts = parts }) ≡ Some reported.code = reported.own in
+    let same : reported.code ≡ record { pool = pool; parts = parts } = cc in
+    let other : slice_get code number ≡ Some reported.instr = subst (λ (c : PooledCode). slice_get c.parts.labelled.code number ≡ Some reported.instr) same reported.stands in
+    let one : reported.instr ≡ instr = cc in
+    reported.is
+    ∙ ap (λ (c : PooledCode). operand_of image reported.instr (named_if c.pool (index_of reported.instr))) same
+    ∙ ap say one
 
 -- the class of an array that is made isn't that of its elements
 not_elements : IsOperandAt image 1 1 (operands.Class 0) → ⊥
 unfolding image source class_a class_of_source pool code operand_of instruction_of named_by desc_in type_in dims_read name_read class_read of_read type_read params_read field_read return_read method_read desc_read reads_class_name
-not_elements told = let e : operands.Class 0 ≡ operands.Class 2 = operand_there 1 (instrs.Class 189 2) (operands.Class 0) refl told in absurd cc
+not_elements reported = let e : operands.Class 0 ≡ operands.Class 2 = operand_there 1 (instrs.Class 189 2) (operands.Class 0) refl reported in absurd cc
 
 -- a class that isn't there isn't reported as no operand
 not_nothing : IsOperandAt image 1 2 operands.Nothing → ⊥
 unfolding image source class_a class_of_source pool code operand_of instruction_of named_by desc_in type_in dims_read name_read class_read of_read type_read params_read field_read return_read method_read desc_read reads_class_name
-not_nothing told = let e : operands.Nothing ≡ operands.Unresolved = operand_there 2 (instrs.Class 192 16) operands.Nothing refl told in absurd cc
+not_nothing reported = let e : operands.Nothing ≡ operands.Unresolved = operand_there 2 (instrs.Class 192 16) operands.Nothing refl reported in absurd cc
 
 -- ---- named classes and handlers
 
@@ -224,7 +224,7 @@ values = refl
 
 abstract_body : IsBodyAt image 0 variants.Abstract
 unfolding image source class_a class_of_source abstract_a all_methods
-abstract_body = record { found = record { class = codes "A"; method = abstract_a }; there = refl; tells = tt }
+abstract_body = record { found = record { class = codes "A"; method = abstract_a }; there = refl; says = tt }
 
 abbrev found_body : Option FoundMethod → programs.Body
 found_body None = Abstract
@@ -233,15 +233,15 @@ found_body (Some found) = found.method.body
 -- an abstract method isn't a native one, and one with code isn't abstract
 not_native : (id : NativeId) → IsBodyAt image 0 (variants.Native id) → ⊥
 unfolding image source class_a class_of_source abstract_a all_methods
-not_native id told =
-    let same : Abstract ≡ told.found.method.body = ap found_body told.there in
-    subst (λ (body : programs.Body). TellsBody image 0 body (variants.Native id)) (sym same) told.tells
+not_native id reported =
+    let same : Abstract ≡ reported.found.method.body = ap found_body reported.there in
+    subst (λ (body : programs.Body). SaysBody image 0 body (variants.Native id)) (sym same) reported.says
 
 not_abstract : IsBodyAt image 1 variants.Abstract → ⊥
 unfolding image source class_a class_of_source bare_x all_methods
-not_abstract told =
-    let same : Runs (code_in pool parts) ≡ told.found.method.body = ap found_body told.there in
-    subst (λ (body : programs.Body). TellsBody image 1 body variants.Abstract) (sym same) told.tells
+not_abstract reported =
+    let same : Runs (code_in pool parts) ≡ reported.found.method.body = ap found_body reported.there in
+    subst (λ (body : programs.Body). SaysBody image 1 body variants.Abstract) (sym same) reported.says
 
 -- SHAPE is judged by nothing of the abstract method, and by something of the one with code
 no_shape : AreShapePartsAt image 0 None

@@ -27,7 +27,7 @@ use Rattle.dj_program.specs.Views.{parts_of}
 use Rattle.dj_program.specs.declared.code.MethodCode.{MethodCode}
 use Rattle.dj_shape.specs.declared.pool.ConstantKind.TheVariants as constants
 use Rattle.dj_shape.specs.Kept.{KeptKinds}
-use Rattle.dj_shape.specs.Pools.{call_at, TellsKind, ArePoolKinds}
+use Rattle.dj_shape.specs.Pools.{call_at, SaysKind, ArePoolKinds}
 use Rattle.dj_types.specs.Members.{all_methods, all_fields}
 use Rattle.dj_image.specs.declared.parts.ClassParts.{ClassParts}
 use Rattle.dj_image.specs.declared.parts.FieldValue.{FieldValue}
@@ -91,17 +91,17 @@ whole_pool = record {
 
 pub no_descriptor : IsDescriptor [] → ⊥
 unfolding desc_in dims_read name_read class_read of_read type_read params_read field_read return_read method_read desc_read reads_class_name
-no_descriptor told = other_text [] (desc_text (desc_in [])) refl refl told.text_is
+no_descriptor reported = other_text [] (desc_text (desc_in [])) refl refl reported.text_is
 
 s_no_descriptor : IsDescriptor (codes "s") → ⊥
 unfolding desc_in dims_read name_read class_read of_read type_read params_read field_read return_read method_read desc_read reads_class_name
-s_no_descriptor told = other_text (codes "s") (desc_text (desc_in (codes "s"))) refl refl told.text_is
+s_no_descriptor reported = other_text (codes "s") (desc_text (desc_in (codes "s"))) refl refl reported.text_is
 
 pub described : IsDescAt pool 1 (described_as.Method [] None)
 unfolding desc_in dims_read name_read class_read of_read type_read params_read field_read return_read method_read desc_read reads_class_name
 described = record { spelled = record { text_is = refl; valid = (tt, tt, omega arith) }; is = refl }
 
-kind_each : (index : ℕ) → TellsKind kinds.calls (named_at pool index) (get_or kinds.constants index constants.Other)
+kind_each : (index : ℕ) → SaysKind kinds.calls (named_at pool index) (get_or kinds.constants index constants.Other)
 unfolding named_by
 kind_each zero = tt
 kind_each (suc zero) = tt
@@ -110,10 +110,10 @@ kind_each (suc (suc (suc k))) = tt
 
 call_each : (index : ℕ) → IsDescriptor (name_in pool index) → call_signature (desc_in (name_in pool index)) ≡ call_at kinds.calls index
 unfolding desc_in dims_read name_read class_read of_read type_read params_read field_read return_read method_read desc_read reads_class_name
-call_each zero told = absurd (no_descriptor told)
-call_each (suc zero) told = refl
-call_each (suc (suc zero)) told = absurd (s_no_descriptor told)
-call_each (suc (suc (suc k))) told = absurd (no_descriptor told)
+call_each zero reported = absurd (no_descriptor reported)
+call_each (suc zero) reported = refl
+call_each (suc (suc zero)) reported = absurd (s_no_descriptor reported)
+call_each (suc (suc (suc k))) reported = absurd (no_descriptor reported)
 
 pub kinds_of_pool : ArePoolKinds pool kinds
 kinds_of_pool = record { each = kind_each; calls = call_each }
@@ -128,13 +128,13 @@ text_as_class : ArePoolKinds pool (record kinds { constants = constants.Other �
 unfolding named_by
 text_as_class are = are.each 1
 
-none_each : (index : ℕ) → TellsKind [] (named_at [] index) (get_or [] index constants.Other)
+none_each : (index : ℕ) → SaysKind [] (named_at [] index) (get_or [] index constants.Other)
 none_each zero = tt
 none_each (suc k) = tt
 
 none_called : (index : ℕ) → IsDescriptor (name_in [] index) → call_signature (desc_in (name_in [] index)) ≡ call_at [] index
-none_called zero told = absurd (no_descriptor told)
-none_called (suc k) told = absurd (no_descriptor told)
+none_called zero reported = absurd (no_descriptor reported)
+none_called (suc k) reported = absurd (no_descriptor reported)
 
 -- ---- a class and its parts
 
@@ -192,13 +192,13 @@ module _ (code : MethodCode) (codes : Codes) (descs : Vec ℕ) (values : FieldVa
   -- not where the code of a method is left out, or given to the abstract one; nor with fewer values than fields
   code_left_out : codes.items ≡ None ∷ None ∷ [] → FitClass class_a (parts_with codes descs values) → ⊥
   code_left_out are fit =
-      let told : FitMethods {A = MethodCode} class_a.methods (None ∷ None ∷ []) = subst (λ (cs : List (Option MethodCode)). FitMethods class_a.methods cs) are fit.methods in
-      told.1.0 refl
+      let reported : FitMethods {A = MethodCode} class_a.methods (None ∷ None ∷ []) = subst (λ (cs : List (Option MethodCode)). FitMethods class_a.methods cs) are fit.methods in
+      reported.1.0 refl
 
   code_of_abstract : codes.items ≡ Some code ∷ None ∷ [] → FitClass class_a (parts_with codes descs values) → ⊥
   code_of_abstract are fit =
-      let told : FitMethods {A = MethodCode} class_a.methods (Some code ∷ None ∷ []) = subst (λ (cs : List (Option MethodCode)). FitMethods class_a.methods cs) are fit.methods in
-      false≢true told.0
+      let reported : FitMethods {A = MethodCode} class_a.methods (Some code ∷ None ∷ []) = subst (λ (cs : List (Option MethodCode)). FitMethods class_a.methods cs) are fit.methods in
+      false≢true reported.0
 
   value_left_out : values.items ≡ [] → FitClass class_a (parts_with codes descs values) → ⊥
   value_left_out are fit = let e : 0 ≡ 1 = sym (ap length are) ∙ fit.fields in omega (arith, e)
@@ -242,21 +242,21 @@ unfolding units_in units_read unit_read long_read two_read
 constants_of_values = refl
 
 module _ (code : MethodCode) (p : ClassParts) (codes_are : p.codes.items ≡ None ∷ Some code ∷ []) (values_are : p.values.items ≡ Some (begins.Long (pos 6)) ∷ []) where
-  codes_told : (source_of class_a p).codes ≡ None ∷ Some (parts_of code) ∷ []
-  codes_told = ap (map (option_map parts_of)) codes_are
+  codes_reported : (source_of class_a p).codes ≡ None ∷ Some (parts_of code) ∷ []
+  codes_reported = ap (map (option_map parts_of)) codes_are
 
-  values_told : (source_of class_a p).values ≡ Some (programs.Long (pos 6)) ∷ []
-  values_told = ap (map (option_map (constant_of_value p.pool))) values_are
+  values_reported : (source_of class_a p).values ≡ Some (programs.Long (pos 6)) ∷ []
+  values_reported = ap (map (option_map (constant_of_value p.pool))) values_are
 
   code_not_left_out : (source_of class_a p).codes ≡ None ∷ None ∷ [] → ⊥
   code_not_left_out e =
-      let bad : Some (parts_of code) ≡ None = ap (λ (cs : List (Option CodeParts)). get_or cs 1 None) (sym codes_told ∙ e) in
+      let bad : Some (parts_of code) ≡ None = ap (λ (cs : List (Option CodeParts)). get_or cs 1 None) (sym codes_reported ∙ e) in
       none-some (parts_of code) (sym bad)
 
   -- each class with its own parts, in order, as long as there are both
-  sources_told : (c d : programs.Class) (q : ClassParts) → sources_of (c ∷ d ∷ []) (p ∷ q ∷ []) ≡ source_of c p ∷ source_of d q ∷ []
+  sources_reported : (c d : programs.Class) (q : ClassParts) → sources_of (c ∷ d ∷ []) (p ∷ q ∷ []) ≡ source_of c p ∷ source_of d q ∷ []
   unfolding sources_of
-  sources_told c d q = refl
+  sources_reported c d q = refl
 
   sources_end : (c d : programs.Class) → (sources_of (c ∷ d ∷ []) (p ∷ []) ≡ source_of c p ∷ []) × (sources_of [] (p ∷ []) ≡ [])
   unfolding sources_of
@@ -276,13 +276,13 @@ few : AreFew [] × AreFew (many 0 0 ∷ many 0 0 ∷ [])
 unfolding all_methods all_fields class_of_source
 few = (record { methods = omega arith; fields = omega arith }, record { methods = omega arith; fields = omega arith })
 
-no_codes_told : (ms : List programs.Method) → with_codes [] ms [] ≡ ms
-no_codes_told [] = refl
-no_codes_told (m ∷ ms) = refl
+no_codes_reported : (ms : List programs.Method) → with_codes [] ms [] ≡ ms
+no_codes_reported [] = refl
+no_codes_reported (m ∷ ms) = refl
 
-no_values_told : (fs : List programs.Field) → with_values fs [] ≡ fs
-no_values_told [] = refl
-no_values_told (f ∷ fs) = refl
+no_values_reported : (fs : List programs.Field) → with_values fs [] ≡ fs
+no_values_reported [] = refl
+no_values_reported (f ∷ fs) = refl
 
 abbrev of_b : programs.Method → FoundMethod
 of_b m = record { class = b_name; method = m }
@@ -295,7 +295,7 @@ unfolding all_methods class_of_source
 methods_counted n k =
     ap length (append-nil (map of_b (with_codes [] (replicate n abstract_a) [])))
     ∙ length-map (with_codes [] (replicate n abstract_a) []) of_b
-    ∙ ap length (no_codes_told (replicate n abstract_a))
+    ∙ ap length (no_codes_reported (replicate n abstract_a))
     ∙ length-replicate n abstract_a
 
 fields_counted : (n k : ℕ) → length (all_fields (program_of_sources (many n k ∷ []))) ≡ k
@@ -303,7 +303,7 @@ unfolding all_fields class_of_source
 fields_counted n k =
     ap length (append-nil (map field_of_b (with_values (replicate k field_x) [])))
     ∙ length-map (with_values (replicate k field_x) []) field_of_b
-    ∙ ap length (no_values_told (replicate k field_x))
+    ∙ ap length (no_values_reported (replicate k field_x))
     ∙ length-replicate k field_x
 
 too_many_methods : (n k : ℕ) → 2 ^ 32 ≤ n → AreFew (many n k ∷ []) → ⊥

@@ -18,7 +18,7 @@ use Rattle.dj_image.specs.Imaged.{Imaged}
 use Rattle.dj_image.specs.Operands.{named_operand, named_class, made_class}
 use Rattle.dj_image.specs.Sources.{Source, class_of_source}
 use Rattle.dj_image.specs.Tables.{IsOperandTable, IsNamedTable, IsMadeTable, field_operand_of, AreOperandTables, AreNamedTables, AreMadeTables, AreConstantTables}
-use Rattle.dj_image.specs.Gathered.{text_at_index, value_told, AreOfClass, AreOfClasses}
+use Rattle.dj_image.specs.Gathered.{text_at_index, value_reported, AreOfClass, AreOfClasses}
 use Rattle.dj_image.proofs.FitFacts.{bare}
 
 -- ---- texts and values
@@ -30,24 +30,24 @@ texts_pool = Utf8 (codes "s") ∷ Utf8 (codes "t") ∷ Utf8 (codes "st") ∷ Cla
 abbrev numbered : List (List ℕ)
 numbered = (115 ∷ 116 ∷ []) ∷ (115 ∷ []) ∷ []
 
-texts_told : map (text_at_index numbered texts_pool) (1 ∷ 2 ∷ 3 ∷ 4 ∷ 0 ∷ []) ≡ operands.Text 1 ∷ operands.Unresolved ∷ operands.Text 0 ∷ operands.Unresolved ∷ operands.Unresolved ∷ []
+texts_reported : map (text_at_index numbered texts_pool) (1 ∷ 2 ∷ 3 ∷ 4 ∷ 0 ∷ []) ≡ operands.Text 1 ∷ operands.Unresolved ∷ operands.Text 0 ∷ operands.Unresolved ∷ operands.Unresolved ∷ []
 unfolding units_in units_read unit_read long_read two_read
-texts_told = refl
+texts_reported = refl
 
-values_told : map (value_told numbered texts_pool) (None ∷ Some (begins.Int (pos 1)) ∷ Some (begins.Long (pos 1)) ∷ Some (begins.Text 1) ∷ Some (begins.Text 2) ∷ Some begins.Unfit ∷ [])
+values_reported : map (value_reported numbered texts_pool) (None ∷ Some (begins.Int (pos 1)) ∷ Some (begins.Long (pos 1)) ∷ Some (begins.Text 1) ∷ Some (begins.Text 2) ∷ Some begins.Unfit ∷ [])
     ≡ operands.Nothing ∷ operands.Int (pos 1) ∷ operands.Long (pos 1) ∷ operands.Text 1 ∷ operands.Unresolved ∷ operands.Unresolved ∷ []
 unfolding units_in units_read unit_read long_read two_read
-values_told = refl
+values_reported = refl
 
 -- its index is no text's number, and what sets nothing isn't as if there were none
-text_by_index : value_told numbered texts_pool (Some (begins.Text 3)) ≡ operands.Text 3 → ⊥
+text_by_index : value_reported numbered texts_pool (Some (begins.Text 3)) ≡ operands.Text 3 → ⊥
 unfolding units_in units_read unit_read long_read two_read
 text_by_index e = let same : operands.Text 0 ≡ operands.Text 3 = e in let k : 0 ≡ 3 = ap number_of same in omega (arith, k) where
   number_of : Operand → ℕ
   number_of (operands.Text n) = n
   number_of other = 9
 
-unfit_as_none : value_told numbered texts_pool (Some begins.Unfit) ≡ operands.Nothing → ⊥
+unfit_as_none : value_reported numbered texts_pool (Some begins.Unfit) ≡ operands.Nothing → ⊥
 unfit_as_none e = let same : operands.Unresolved ≡ operands.Nothing = e in absurd cc
 
 -- ---- the tables of A
@@ -130,15 +130,15 @@ module _ (p : ClassParts) (values_are : p.values.items ≡ Some (begins.Int (pos
   made_as_named : AreOfClass image own (record tables { named = m }) → ⊥
   unfolding named_by type_in class_of_source
   made_as_named are =
-      let told : Some (Some 1) ≡ Some (Some 0) = ap (λ (kept : List (Option ℕ)). slice_get kept 2) (sym m_is) ∙ are.named_are.each 2 (omega arith) in
-      let e : 1 ≡ 0 = same_Some 1 0 (same_Some (Some 1) (Some 0) told) in
+      let reported : Some (Some 1) ≡ Some (Some 0) = ap (λ (kept : List (Option ℕ)). slice_get kept 2) (sym m_is) ∙ are.named_are.each 2 (omega arith) in
+      let e : 1 ≡ 0 = same_Some 1 0 (same_Some (Some 1) (Some 0) reported) in
       omega (arith, e)
 
   named_as_made : AreOfClass image own (record tables { made = n }) → ⊥
   unfolding named_by type_in class_of_source
   named_as_made are =
-      let told : Some (Some 0) ≡ Some (Some 1) = ap (λ (kept : List (Option ℕ)). slice_get kept 2) (sym n_is) ∙ are.made_are.each 2 (omega arith) in
-      let e : 0 ≡ 1 = same_Some 0 1 (same_Some (Some 0) (Some 1) told) in
+      let reported : Some (Some 0) ≡ Some (Some 1) = ap (λ (kept : List (Option ℕ)). slice_get kept 2) (sym n_is) ∙ are.made_are.each 2 (omega arith) in
+      let e : 0 ≡ 1 = same_Some 0 1 (same_Some (Some 0) (Some 1) reported) in
       omega (arith, e)
 
   operands_as_constants : AreOfClass image own (record tables { constants = t }) → ⊥
@@ -182,10 +182,10 @@ module _ (p : ClassParts) (values_are : p.values.items ≡ Some (begins.Int (pos
 
     all_made_as_named : ns.items ≡ m ∷ [] → AreOfClasses image (own ∷ []) all → ⊥
     all_made_as_named is are =
-        let told : AreNamedTables image (own ∷ []) (m ∷ []) = subst (λ (kept : List (Vec (Option ℕ))). AreNamedTables image (own ∷ []) kept) is are.named_are in
-        made_as_named (record { operands_are = of_class.operands_are; named_are = told.0; made_are = of_class.made_are; constants_are = of_class.constants_are })
+        let reported : AreNamedTables image (own ∷ []) (m ∷ []) = subst (λ (kept : List (Vec (Option ℕ))). AreNamedTables image (own ∷ []) kept) is are.named_are in
+        made_as_named (record { operands_are = of_class.operands_are; named_are = reported.0; made_are = of_class.made_are; constants_are = of_class.constants_are })
 
     all_named_as_made : ms.items ≡ n ∷ [] → AreOfClasses image (own ∷ []) all → ⊥
     all_named_as_made is are =
-        let told : AreMadeTables image (own ∷ []) (n ∷ []) = subst (λ (kept : List (Vec (Option ℕ))). AreMadeTables image (own ∷ []) kept) is are.made_are in
-        named_as_made (record { operands_are = of_class.operands_are; named_are = of_class.named_are; made_are = told.0; constants_are = of_class.constants_are })
+        let reported : AreMadeTables image (own ∷ []) (n ∷ []) = subst (λ (kept : List (Vec (Option ℕ))). AreMadeTables image (own ∷ []) kept) is are.made_are in
+        named_as_made (record { operands_are = of_class.operands_are; named_are = of_class.named_are; made_are = reported.0; constants_are = of_class.constants_are })

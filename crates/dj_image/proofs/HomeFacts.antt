@@ -16,7 +16,7 @@ use Rattle.dj_types.specs.Typed.{Typed}
 use Rattle.dj_types.specs.Members.{all_methods, all_fields}
 use Rattle.dj_image.specs.declared.operand.Operand.{Operand}
 use Rattle.dj_image.specs.declared.operand.Operand.TheVariants as operands
-use Rattle.dj_image.specs.Homes.{AreHomes, IsDescribed, method_told, field_told, constant_operand, operand_if, operand_at}
+use Rattle.dj_image.specs.Homes.{AreHomes, IsDescribed, method_reported, field_reported, constant_operand, operand_if, operand_at}
 use Rattle.dj_image.proofs.TypeFacts.{other_text}
 
 -- A and Object have a field x and a method x each
@@ -49,28 +49,28 @@ named name desc = Some (name, desc)
 abbrev each : List (Option (Name × Name))
 each = named (codes "x") (codes "()V") ∷ named (codes "x") (codes "I") ∷ named (codes "y") (codes "()V") ∷ named (codes "()V") (codes "x") ∷ None ∷ []
 
-methods_of_a : map (method_told types (Some 0)) each ≡ Some 0 ∷ None ∷ None ∷ None ∷ None ∷ []
+methods_of_a : map (method_reported types (Some 0)) each ≡ Some 0 ∷ None ∷ None ∷ None ∷ None ∷ []
 unfolding all_methods resolve_method most_classes chain_of interfaces_from interfaces_above desc_in dims_read name_read class_read of_read type_read params_read field_read return_read method_read desc_read reads_class_name
 methods_of_a = refl
 
-fields_of_a : map (field_told types (Some 0)) each ≡ None ∷ Some 0 ∷ None ∷ None ∷ None ∷ []
+fields_of_a : map (field_reported types (Some 0)) each ≡ None ∷ Some 0 ∷ None ∷ None ∷ None ∷ []
 unfolding all_fields resolve_field most_classes chain_of interfaces_from field_order desc_in dims_read name_read class_read of_read type_read params_read field_read return_read method_read desc_read reads_class_name
 fields_of_a = refl
 
 -- those of the class that is given, and none where none is
-by_home : map (λ (home : Option ℕ). method_told types home (named (codes "x") (codes "()V"))) (Some 0 ∷ Some 1 ∷ None ∷ []) ≡ Some 0 ∷ Some 1 ∷ None ∷ []
+by_home : map (λ (home : Option ℕ). method_reported types home (named (codes "x") (codes "()V"))) (Some 0 ∷ Some 1 ∷ None ∷ []) ≡ Some 0 ∷ Some 1 ∷ None ∷ []
 unfolding all_methods resolve_method most_classes chain_of interfaces_from interfaces_above desc_in dims_read name_read class_read of_read type_read params_read field_read return_read method_read desc_read reads_class_name
 by_home = refl
 
-fields_by_home : map (λ (home : Option ℕ). field_told types home (named (codes "x") (codes "I"))) (Some 0 ∷ Some 1 ∷ None ∷ []) ≡ Some 0 ∷ Some 1 ∷ None ∷ []
+fields_by_home : map (λ (home : Option ℕ). field_reported types home (named (codes "x") (codes "I"))) (Some 0 ∷ Some 1 ∷ None ∷ []) ≡ Some 0 ∷ Some 1 ∷ None ∷ []
 unfolding all_fields resolve_field most_classes chain_of interfaces_from field_order desc_in dims_read name_read class_read of_read type_read params_read field_read return_read method_read desc_read reads_class_name
 fields_by_home = refl
 
-method_of_other : method_told types (Some 1) (named (codes "x") (codes "()V")) ≡ Some 0 → ⊥
+method_of_other : method_reported types (Some 1) (named (codes "x") (codes "()V")) ≡ Some 0 → ⊥
 unfolding all_methods resolve_method most_classes chain_of interfaces_from interfaces_above desc_in dims_read name_read class_read of_read type_read params_read field_read return_read method_read desc_read reads_class_name
 method_of_other e = let k : 1 ≡ 0 = same_Some 1 0 e in omega (arith, k)
 
-field_of_none : field_told types None (named (codes "x") (codes "I")) ≡ Some 0 → ⊥
+field_of_none : field_reported types None (named (codes "x") (codes "I")) ≡ Some 0 → ⊥
 field_of_none e = none-some 0 e
 
 -- ---- descriptors
@@ -81,7 +81,7 @@ described = record { text_is = refl; valid = (tt, tt, omega arith) }
 
 name_described : IsDescribed (named (codes "()V") (codes "x")) → ⊥
 unfolding desc_in dims_read name_read class_read of_read type_read params_read field_read return_read method_read desc_read reads_class_name
-name_described told = other_text (codes "x") (desc_text (desc_in (codes "x"))) refl refl told.text_is
+name_described reported = other_text (codes "x") (desc_text (desc_in (codes "x"))) refl refl reported.text_is
 
 -- ---- constants
 
@@ -98,8 +98,8 @@ texts = None ∷ None ∷ None ∷ None ∷ None ∷ None ∷ None ∷ None ∷ 
 abbrev classes : List (Option ℕ)
 classes = None ∷ Some 0 ∷ None ∷ Some 2 ∷ []
 
-abbrev tell : Option ℕ → Constant → Operand
-tell object k = constant_operand types pool texts classes object k
+abbrev say : Option ℕ → Constant → Operand
+say object k = constant_operand types pool texts classes object k
 
 abbrev method : ℕ → Operand
 method number = operands.Method (record { number = number })
@@ -108,31 +108,31 @@ abbrev field : ℕ → Operand
 field number = operands.Field (record { number = number })
 
 -- of an array the members of Object; none of an absent class, of a descriptor of the other kind, and where no name and type is there
-methods_told : map (tell (Some 1)) (Method 2 11 ∷ InterfaceMethod 2 11 ∷ Method 4 11 ∷ InterfaceMethod 4 11 ∷ Method 6 11 ∷ Method 2 9 ∷ Method 2 8 ∷ Method 1 11 ∷ [])
+methods_reported : map (say (Some 1)) (Method 2 11 ∷ InterfaceMethod 2 11 ∷ Method 4 11 ∷ InterfaceMethod 4 11 ∷ Method 6 11 ∷ Method 2 9 ∷ Method 2 8 ∷ Method 1 11 ∷ [])
     ≡ method 0 ∷ method 0 ∷ method 1 ∷ method 1 ∷ operands.Unresolved ∷ operands.Unresolved ∷ operands.Unresolved ∷ operands.Unresolved ∷ []
 unfolding all_methods resolve_method most_classes chain_of interfaces_from interfaces_above desc_in dims_read name_read class_read of_read type_read params_read field_read return_read method_read desc_read reads_class_name
-methods_told = refl
+methods_reported = refl
 
-fields_told : map (tell (Some 1)) (Field 2 9 ∷ Field 4 9 ∷ Field 6 9 ∷ Field 2 11 ∷ Field 2 99 ∷ []) ≡ field 0 ∷ field 1 ∷ operands.Unresolved ∷ operands.Unresolved ∷ operands.Unresolved ∷ []
+fields_reported : map (say (Some 1)) (Field 2 9 ∷ Field 4 9 ∷ Field 6 9 ∷ Field 2 11 ∷ Field 2 99 ∷ []) ≡ field 0 ∷ field 1 ∷ operands.Unresolved ∷ operands.Unresolved ∷ operands.Unresolved ∷ []
 unfolding all_fields resolve_field most_classes chain_of interfaces_from field_order desc_in dims_read name_read class_read of_read type_read params_read field_read return_read method_read desc_read reads_class_name
-fields_told = refl
+fields_reported = refl
 
 -- where Object isn't there an array has none
-no_object : map (tell None) (Method 4 11 ∷ Field 4 9 ∷ []) ≡ operands.Unresolved ∷ operands.Unresolved ∷ []
+no_object : map (say None) (Method 4 11 ∷ Field 4 9 ∷ []) ≡ operands.Unresolved ∷ operands.Unresolved ∷ []
 no_object = refl
 
-others_told : map (tell (Some 1)) (Integer (pos 7) ∷ Long (pos 7) ∷ Text 8 ∷ Text 7 ∷ Class 1 ∷ Class 3 ∷ Class 5 ∷ Float 0 ∷ Utf8 (codes "A") ∷ NameAndType 7 8 ∷ [])
+others_reported : map (say (Some 1)) (Integer (pos 7) ∷ Long (pos 7) ∷ Text 8 ∷ Text 7 ∷ Class 1 ∷ Class 3 ∷ Class 5 ∷ Float 0 ∷ Utf8 (codes "A") ∷ NameAndType 7 8 ∷ [])
     ≡ operands.Int (pos 7) ∷ operands.Long (pos 7) ∷ operands.Text 5 ∷ operands.Unresolved ∷ operands.Class 0 ∷ operands.Class 2 ∷ operands.Unresolved ∷ operands.Unresolved ∷ operands.Unresolved
     ∷ operands.Unresolved ∷ []
-others_told = refl
+others_reported = refl
 
-text_as_class : tell (Some 1) (Class 1) ≡ operands.Text 0 → ⊥
+text_as_class : say (Some 1) (Class 1) ≡ operands.Text 0 → ⊥
 text_as_class e = let same : operands.Class 0 ≡ operands.Text 0 = e in absurd cc
 
-long_as_int : tell (Some 1) (Long (pos 7)) ≡ operands.Int (pos 7) → ⊥
+long_as_int : say (Some 1) (Long (pos 7)) ≡ operands.Int (pos 7) → ⊥
 long_as_int e = let same : operands.Long (pos 7) ≡ operands.Int (pos 7) = e in absurd cc
 
-method_of_array : tell (Some 1) (Method 4 11) ≡ method 0 → ⊥
+method_of_array : say (Some 1) (Method 4 11) ≡ method 0 → ⊥
 unfolding all_methods resolve_method most_classes chain_of interfaces_from interfaces_above desc_in dims_read name_read class_read of_read type_read params_read field_read return_read method_read desc_read reads_class_name
 method_of_array e = let k : 1 ≡ 0 = ap number_of e in omega (arith, k) where
   number_of : Operand → ℕ

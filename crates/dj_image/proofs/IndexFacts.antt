@@ -41,8 +41,8 @@ types = record {
 
 -- ---- texts
 
-arrays_told : map is_array ([] ∷ codes "A" ∷ codes "[I" ∷ codes "I[" ∷ []) ≡ false ∷ false ∷ true ∷ false ∷ []
-arrays_told = refl
+arrays_reported : map is_array ([] ∷ codes "A" ∷ codes "[I" ∷ codes "I[" ∷ []) ≡ false ∷ false ∷ true ∷ false ∷ []
+arrays_reported = refl
 
 -- of a class's name its descriptor between, and of a descriptor no more than a bracket
 arrays_of_texts : map array_text (codes "A" ∷ codes "[I" ∷ codes "[LA;" ∷ []) ≡ codes "[LA;" ∷ codes "[[I" ∷ codes "[[LA;" ∷ []

@@ -70,19 +70,19 @@ texts = None ∷ None ∷ None ∷ None ∷ None ∷ None ∷ None ∷ None ∷ 
 abbrev classes : List (Option ℕ)
 classes = None ∷ Some 0 ∷ []
 
-abbrev tell : ℕ → Operand
-tell index = operand_at types pool texts classes None index
+abbrev say : ℕ → Operand
+say index = operand_at types pool texts classes None index
 
-simple_told : map tell (11 ∷ 12 ∷ 13 ∷ 15 ∷ 2 ∷ 18 ∷ 16 ∷ 1 ∷ 5 ∷ 0 ∷ 99 ∷ [])
+simple_reported : map say (11 ∷ 12 ∷ 13 ∷ 15 ∷ 2 ∷ 18 ∷ 16 ∷ 1 ∷ 5 ∷ 0 ∷ 99 ∷ [])
     ≡ operands.Int (pos 7) ∷ operands.Long (pos 9) ∷ operands.Unresolved ∷ operands.Text 3 ∷ operands.Class 0 ∷ operands.Unresolved ∷ operands.Unresolved ∷ operands.Unresolved
     ∷ operands.Unresolved ∷ operands.Unresolved ∷ operands.Unresolved ∷ []
 unfolding pool
-simple_told = refl
+simple_reported = refl
 
-members_told : map tell (6 ∷ 9 ∷ 10 ∷ 19 ∷ [])
+members_reported : map say (6 ∷ 9 ∷ 10 ∷ 19 ∷ [])
     ≡ operands.Field (record { number = 0 }) ∷ operands.Method (record { number = 0 }) ∷ operands.Method (record { number = 0 }) ∷ operands.Unresolved ∷ []
 unfolding pool types class_a field_x method_x all_methods all_fields resolve_method resolve_field most_classes chain_of interfaces_from interfaces_above field_order desc_in type_in dims_read name_read class_read of_read type_read params_read field_read return_read method_read desc_read reads_class_name
-members_told = refl
+members_reported = refl
 
 -- ---- operands of instructions by the tables of a class
 
@@ -109,8 +109,8 @@ operands_kept = refl
 
 -- ---- rows of arrays
 
-brackets_told : map brackets ([] ∷ codes "I" ∷ codes "[I" ∷ codes "[[LA;" ∷ codes "I[" ∷ []) ≡ 0 ∷ 0 ∷ 1 ∷ 2 ∷ 0 ∷ []
-brackets_told = refl
+brackets_reported : map brackets ([] ∷ codes "I" ∷ codes "[I" ∷ codes "[[LA;" ∷ codes "I[" ∷ []) ≡ 0 ∷ 0 ∷ 1 ∷ 2 ∷ 0 ∷ []
+brackets_reported = refl
 
 rows_there : IsRow (ints ∷ a_arrays 2 ∷ []) ints × IsRow (ints ∷ a_arrays 2 ∷ []) (a_arrays 1)
 rows_there = (

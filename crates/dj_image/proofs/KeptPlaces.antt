@@ -27,7 +27,7 @@ use Rattle.dj_image.specs.Sources.{with_code}
 use Rattle.dj_image.specs.Parts.{constant_of_value, sources_of, FitClasses}
 use Rattle.dj_image.specs.Imaged.{Imaged, program_of}
 use Rattle.dj_image.specs.Operands.{operand_of, named_class}
-use Rattle.dj_image.specs.Codes.{PooledCode, pooled, all_codes, code_at, HasInstr, HasRange, IsOperandAt, IsNamedAt, IsCaughtAt, IsConstantAt, TellsBody, IsBodyAt}
+use Rattle.dj_image.specs.Codes.{PooledCode, pooled, all_codes, code_at, HasInstr, HasRange, IsOperandAt, IsNamedAt, IsCaughtAt, IsConstantAt, SaysBody, IsBodyAt}
 use Rattle.dj_image.specs.Tables.{imaged_of, IsOperandTable, IsNamedTable, IsMadeTable, AreOperandTables, AreNamedTables, AreMadeTables, AreConstantTables, AreTables, field_operand_of}
 use Rattle.dj_image.specs.Taken.{code_kept, instr_kept, range_kept, entry_kept, class_at_index, named_kept, caught_kept, kept_operand, operand_with}
 use Rattle.dj_image.proofs.Bare.{either}
@@ -109,9 +109,9 @@ module _ (types : Typed) (parts : List ClassParts) (texts : List (List ℕ)) (fi
 
 -- ---- instructions and rows at places
 
-pub instr_told : (parts : List ClassParts) (place : Place) (code : PooledCode) → IsCodeAt parts place code → (number : ℕ) → number < length code.parts.labelled.code
+pub instr_reported : (parts : List ClassParts) (place : Place) (code : PooledCode) → IsCodeAt parts place code → (number : ℕ) → number < length code.parts.labelled.code
     → (instr : Instr) × (instr_kept parts place number ≡ Some instr) × (slice_get code.parts.labelled.code number ≡ Some instr)
-instr_told parts place code at number within =
+instr_reported parts place code at number within =
     let found = got code.parts.labelled.code number within in
     let same : code.parts.labelled.code ≡ at.kept_code.code.code = ap (λ (c : PooledCode). c.parts.labelled.code) at.is in (
       found.0,
@@ -119,9 +119,9 @@ instr_told parts place code at number within =
       found.1,
     )
 
-pub range_told : (parts : List ClassParts) (place : Place) (code : PooledCode) → IsCodeAt parts place code → (range : ℕ) → range < length code.parts.labelled.ranges
+pub range_reported : (parts : List ClassParts) (place : Place) (code : PooledCode) → IsCodeAt parts place code → (range : ℕ) → range < length code.parts.labelled.ranges
     → (row : Protected) × (range_kept parts place range ≡ Some row) × (slice_get code.parts.labelled.ranges range ≡ Some row)
-range_told parts place code at range within =
+range_reported parts place code at range within =
     let found = got code.parts.labelled.ranges range within in
     let same : code.parts.labelled.ranges ≡ at.kept_code.code.ranges = ap (λ (c : PooledCode). c.parts.labelled.ranges) at.is in (
       found.0,
@@ -204,13 +204,13 @@ module _ (types : Typed) (parts : List ClassParts) (texts : List (List ℕ)) (op
     | inr e ↦ rw e (class_at_is class p own index)
   ]
 
-  pub operand_told : (number at_instr : ℕ) (place : Place) → IsMethodPlace types number place → HasInstr (imaged_of types parts texts) number at_instr
+  pub operand_reported : (number at_instr : ℕ) (place : Place) → IsMethodPlace types number place → HasInstr (imaged_of types parts texts) number at_instr
       → (operand : Operand) × (option_and_then (operand_with types parts operands made place.class) (instr_kept parts place at_instr) ≡ Some operand)
       × IsOperandAt (imaged_of types parts texts) number at_instr operand
-  operand_told number at_instr place at has =
+  operand_reported number at_instr place at has =
       let imaged = imaged_of types parts texts in
       let there = code_there types parts texts tables.fit number place at has.code has.own in
-      let found = instr_told parts place has.code there at_instr has.within in
+      let found = instr_reported parts place has.code there at_instr has.within in
       let pools : has.code.pool ≡ there.part.pool = ap (λ (c : PooledCode). c.pool) there.is in (
         operand_of imaged found.0 (named_if has.code.pool (index_of found.0)),
         ap (option_and_then (operand_with types parts operands made place.class)) found.1
@@ -219,13 +219,13 @@ module _ (types : Typed) (parts : List ClassParts) (texts : List (List ℕ)) (op
         record { code = has.code; own = has.own; instr = found.0; stands = found.2; is = refl },
       )
 
-  pub named_told : (number at_instr : ℕ) (place : Place) → IsMethodPlace types number place → HasInstr (imaged_of types parts texts) number at_instr
+  pub named_reported : (number at_instr : ℕ) (place : Place) → IsMethodPlace types number place → HasInstr (imaged_of types parts texts) number at_instr
       → (instr : Instr) × (instr_kept parts place at_instr ≡ Some instr)
       × IsNamedAt (imaged_of types parts texts) number at_instr (named_kept named place.class (index_of instr))
-  named_told number at_instr place at has =
+  named_reported number at_instr place at has =
       let imaged = imaged_of types parts texts in
       let there = code_there types parts texts tables.fit number place at has.code has.own in
-      let found = instr_told parts place has.code there at_instr has.within in
+      let found = instr_reported parts place has.code there at_instr has.within in
       let pools : has.code.pool ≡ there.part.pool = ap (λ (c : PooledCode). c.pool) there.is in (
         found.0,
         found.1,
@@ -239,13 +239,13 @@ module _ (types : Typed) (parts : List ClassParts) (texts : List (List ℕ)) (op
         },
       )
 
-  pub caught_told : (number range : ℕ) (place : Place) → IsMethodPlace types number place → HasRange (imaged_of types parts texts) number range
+  pub caught_reported : (number range : ℕ) (place : Place) → IsMethodPlace types number place → HasRange (imaged_of types parts texts) number range
       → (row : Protected) × (range_kept parts place range ≡ Some row)
       × IsCaughtAt (imaged_of types parts texts) number range (caught_kept named place.class row.catch_type)
-  caught_told number range place at has =
+  caught_reported number range place at has =
       let imaged = imaged_of types parts texts in
       let there = code_there types parts texts tables.fit number place at has.code has.own in
-      let found = range_told parts place has.code there range has.within in
+      let found = range_reported parts place has.code there range has.within in
       let pools : has.code.pool ≡ there.part.pool = ap (λ (c : PooledCode). c.pool) there.is in (
         found.0,
         found.1,
@@ -259,9 +259,9 @@ module _ (types : Typed) (parts : List ClassParts) (texts : List (List ℕ)) (op
         },
       )
 
-  pub constant_told : (number : ℕ) (place : Place) → IsFieldPlace types number place
+  pub constant_reported : (number : ℕ) (place : Place) → IsFieldPlace types number place
       → (operand : Operand) × (entry_kept constants place.class place.member ≡ Some operand) × IsConstantAt (imaged_of types parts texts) number operand
-  constant_told number place at =
+  constant_reported number place at =
       let imaged = imaged_of types parts texts in
       let row = field_at_place types.program parts place.class place.member tables.fit at.within in
       let table = constant_table imaged parts constants tables.constants_are place.class row.part row.own in (
@@ -280,58 +280,58 @@ module _ (types : Typed) (parts : List ClassParts) (texts : List (List ℕ)) (op
 
 -- the body that is lent is what is found: a native method, code, or neither
 abbrev pub IsLentBody : Option NativeId → Option MethodCode → bodies.Body → Type 0
-IsLentBody (Some id) code (variants.Native told) = told ≡ id
-IsLentBody None (Some code) (variants.Code told) = told.now ≡ code
+IsLentBody (Some id) code (variants.Native reported) = reported ≡ id
+IsLentBody None (Some code) (variants.Code reported) = reported.now ≡ code
 IsLentBody None None variants.Abstract = ⊤
-IsLentBody native code told = ⊥
+IsLentBody native code reported = ⊥
 
 module _ (imaged : Imaged) (number : ℕ) (pool : List Constant) where
-  without_code : (body : Body) → (IsTrue (has_code body) → ⊥) → (told : bodies.Body) → IsLentBody (native_in body) None told → TellsBody imaged number body told
+  without_code : (body : Body) → (IsTrue (has_code body) → ⊥) → (reported : bodies.Body) → IsLentBody (native_in body) None reported → SaysBody imaged number body reported
   without_code Abstract fits variants.Abstract lent = tt
-  without_code Abstract fits (variants.Native told) lent = absurd lent
-  without_code Abstract fits (variants.Code told) lent = absurd lent
+  without_code Abstract fits (variants.Native reported) lent = absurd lent
+  without_code Abstract fits (variants.Code reported) lent = absurd lent
   without_code (Native id) fits variants.Abstract lent = absurd lent
-  without_code (Native id) fits (variants.Native told) lent = lent
-  without_code (Native id) fits (variants.Code told) lent = absurd lent
-  without_code (Runs code) fits told lent = absurd (fits refl)
+  without_code (Native id) fits (variants.Native reported) lent = lent
+  without_code (Native id) fits (variants.Code reported) lent = absurd lent
+  without_code (Runs code) fits reported lent = absurd (fits refl)
 
-  lent_code : (code : MethodCode) → code_at imaged number ≡ Some (record { pool = pool; parts = parts_of code }) → (told : bodies.Body) → IsLentBody None (Some code) told
-      → TellsBody imaged number (Runs (code_in pool (parts_of code))) told
+  lent_code : (code : MethodCode) → code_at imaged number ≡ Some (record { pool = pool; parts = parts_of code }) → (reported : bodies.Body) → IsLentBody None (Some code) reported
+      → SaysBody imaged number (Runs (code_in pool (parts_of code))) reported
   lent_code code coded variants.Abstract lent = absurd lent
-  lent_code code coded (variants.Native told) lent = absurd lent
-  lent_code code coded (variants.Code told) lent = (
+  lent_code code coded (variants.Native reported) lent = absurd lent
+  lent_code code coded (variants.Code reported) lent = (
     pool,
     coded ∙ ap (λ (c : MethodCode). Some (record { pool = pool; parts = parts_of c })) (sym lent),
     ap (λ (c : MethodCode). code_in pool (parts_of c)) (sym lent),
   )
 
   with_its_code : (body : Body) → IsTrue (has_code body) → (code : MethodCode) → code_at imaged number ≡ Some (record { pool = pool; parts = parts_of code })
-      → (told : bodies.Body) → IsLentBody (native_in body) (Some code) told → TellsBody imaged number (Runs (code_in pool (parts_of code))) told
-  with_its_code Abstract fits code coded told lent = absurd cc
-  with_its_code (Native id) fits code coded told lent = absurd cc
-  with_its_code (Runs c) fits code coded told lent = lent_code code coded told lent
+      → (reported : bodies.Body) → IsLentBody (native_in body) (Some code) reported → SaysBody imaged number (Runs (code_in pool (parts_of code))) reported
+  with_its_code Abstract fits code coded reported lent = absurd cc
+  with_its_code (Native id) fits code coded reported lent = absurd cc
+  with_its_code (Runs c) fits code coded reported lent = lent_code code coded reported lent
 
-  tells_body : (m : Method) (code : Option MethodCode) → FitsCode m code → code_at imaged number ≡ pooled pool (option_map parts_of code)
-      → (told : bodies.Body) → IsLentBody (native_in m.body) code told → TellsBody imaged number (with_code pool m (option_map parts_of code)).body told
-  tells_body m None fits coded told lent = without_code m.body fits told lent
-  tells_body m (Some code) fits coded told lent = with_its_code m.body fits code coded told lent
+  says_body : (m : Method) (code : Option MethodCode) → FitsCode m code → code_at imaged number ≡ pooled pool (option_map parts_of code)
+      → (reported : bodies.Body) → IsLentBody (native_in m.body) code reported → SaysBody imaged number (with_code pool m (option_map parts_of code)).body reported
+  says_body m None fits coded reported lent = without_code m.body fits reported lent
+  says_body m (Some code) fits coded reported lent = with_its_code m.body fits code coded reported lent
 
 module _ (types : Typed) (parts : List ClassParts) (texts : List (List ℕ)) (fit : FitClasses types.program parts) where
-  pub body_told : (number : ℕ) (place : Place) → IsMethodPlace types number place → (told : bodies.Body)
-      → IsLentBody (native_at types.program number) (code_kept parts place) told → IsBodyAt (imaged_of types parts texts) number told
-  body_told number place at told lent =
+  pub body_reported : (number : ℕ) (place : Place) → IsMethodPlace types number place → (reported : bodies.Body)
+      → IsLentBody (native_at types.program number) (code_kept parts place) reported → IsBodyAt (imaged_of types parts texts) number reported
+  body_reported number place at reported lent =
       let imaged = imaged_of types parts texts in
       let row = row_there types parts texts fit number place at in
       let native : native_at types.program number ≡ native_in row.method.body =
       ap (native_at types.program) at.is ∙ ap (option_and_then native_of) row.bare in
       let kept : code_kept parts place ≡ row.code = kept_is_row types.program parts place row in
-      let fits : IsLentBody (native_in row.method.body) row.code told =
-      subst (λ (code : Option MethodCode). IsLentBody (native_in row.method.body) code told) kept
-      (subst (λ (id : Option NativeId). IsLentBody id (code_kept parts place) told) native lent) in
+      let fits : IsLentBody (native_in row.method.body) row.code reported =
+      subst (λ (code : Option MethodCode). IsLentBody (native_in row.method.body) code reported) kept
+      (subst (λ (id : Option NativeId). IsLentBody id (code_kept parts place) reported) native lent) in
       record {
         found = record { class = row.name; method = with_code row.part.pool row.method (option_map parts_of row.code) };
         there = ap (λ (n : ℕ). slice_get (all_methods (program_of imaged)) n) at.is ∙ row.whole;
-        tells = tells_body imaged number row.part.pool row.method row.code row.fits (coded_there types parts texts fit number place at) told fits;
+        says = says_body imaged number row.part.pool row.method row.code row.fits (coded_there types parts texts fit number place at) reported fits;
       }
 
 -- ---- what is known of an image
@@ -351,50 +351,50 @@ module _ {now : Imaged} {types : Typed} {parts : List ClassParts} {texts : List 
       → (result : Option Operand) → result ≡ option_and_then (operand_with types ps os ms place.class) (instr_kept ps place at_instr)
       → (operand : Operand) × (result ≡ Some operand) × IsOperandAt now number at_instr operand
   operand_now number at_instr place at has ps os ms p o m result e =
-      let told = operand_told types parts texts operands named made constants tables number at_instr place at
+      let reported = operand_reported types parts texts operands named made constants tables number at_instr place at
       (subst (λ (n : Imaged). HasInstr n number at_instr) (sym is) has) in (
-        told.0,
+        reported.0,
         e
             ∙ (ap (λ (x : List ClassParts). option_and_then (operand_with types x os ms place.class) (instr_kept x place at_instr)) p
             ∙ (ap (λ (x : List (Vec Operand)). option_and_then (operand_with types parts x ms place.class) (instr_kept parts place at_instr)) o
             ∙ (ap (λ (x : List (Vec (Option ℕ))). option_and_then (operand_with types parts operands x place.class) (instr_kept parts place at_instr)) m
-            ∙ told.1))),
-        subst (λ (n : Imaged). IsOperandAt n number at_instr told.0) is told.2,
+            ∙ reported.1))),
+        subst (λ (n : Imaged). IsOperandAt n number at_instr reported.0) is reported.2,
       )
 
   pub named_now : (number at_instr : ℕ) (place : Place) → IsMethodPlace types number place → HasInstr now number at_instr
       → (ps : List ClassParts) → ps ≡ parts → (result : Option Instr) → result ≡ instr_kept ps place at_instr
       → (instr : Instr) × (result ≡ Some instr) × IsNamedAt now number at_instr (named_kept named place.class (index_of instr))
   named_now number at_instr place at has ps p result e =
-      let told = named_told types parts texts operands named made constants tables number at_instr place at
+      let reported = named_reported types parts texts operands named made constants tables number at_instr place at
       (subst (λ (n : Imaged). HasInstr n number at_instr) (sym is) has) in (
-        told.0,
-        e ∙ (ap (λ (x : List ClassParts). instr_kept x place at_instr) p ∙ told.1),
-        subst (λ (n : Imaged). IsNamedAt n number at_instr (named_kept named place.class (index_of told.0))) is told.2,
+        reported.0,
+        e ∙ (ap (λ (x : List ClassParts). instr_kept x place at_instr) p ∙ reported.1),
+        subst (λ (n : Imaged). IsNamedAt n number at_instr (named_kept named place.class (index_of reported.0))) is reported.2,
       )
 
   pub caught_now : (number range : ℕ) (place : Place) → IsMethodPlace types number place → HasRange now number range
       → (ps : List ClassParts) → ps ≡ parts → (result : Option Protected) → result ≡ range_kept ps place range
       → (row : Protected) × (result ≡ Some row) × IsCaughtAt now number range (caught_kept named place.class row.catch_type)
   caught_now number range place at has ps p result e =
-      let told = caught_told types parts texts operands named made constants tables number range place at
+      let reported = caught_reported types parts texts operands named made constants tables number range place at
       (subst (λ (n : Imaged). HasRange n number range) (sym is) has) in (
-        told.0,
-        e ∙ (ap (λ (x : List ClassParts). range_kept x place range) p ∙ told.1),
-        subst (λ (n : Imaged). IsCaughtAt n number range (caught_kept named place.class told.0.catch_type)) is told.2,
+        reported.0,
+        e ∙ (ap (λ (x : List ClassParts). range_kept x place range) p ∙ reported.1),
+        subst (λ (n : Imaged). IsCaughtAt n number range (caught_kept named place.class reported.0.catch_type)) is reported.2,
       )
 
   pub constant_now : (number : ℕ) (place : Place) → IsFieldPlace types number place
       → (cs : List (Vec Operand)) → cs ≡ constants → (result : Option Operand) → result ≡ entry_kept cs place.class place.member
       → (operand : Operand) × (result ≡ Some operand) × IsConstantAt now number operand
   constant_now number place at cs c result e =
-      let told = constant_told types parts texts operands named made constants tables number place at in (
-        told.0,
-        e ∙ (ap (λ (x : List (Vec Operand)). entry_kept x place.class place.member) c ∙ told.1),
-        subst (λ (n : Imaged). IsConstantAt n number told.0) is told.2,
+      let reported = constant_reported types parts texts operands named made constants tables number place at in (
+        reported.0,
+        e ∙ (ap (λ (x : List (Vec Operand)). entry_kept x place.class place.member) c ∙ reported.1),
+        subst (λ (n : Imaged). IsConstantAt n number reported.0) is reported.2,
       )
 
-  pub body_now : (number : ℕ) (place : Place) → IsMethodPlace types number place → (told : bodies.Body)
-      → IsLentBody (native_at types.program number) (code_kept parts place) told → IsBodyAt now number told
-  body_now number place at told lent =
-      subst (λ (n : Imaged). IsBodyAt n number told) is (body_told types parts texts tables.fit number place at told lent)
+  pub body_now : (number : ℕ) (place : Place) → IsMethodPlace types number place → (reported : bodies.Body)
+      → IsLentBody (native_at types.program number) (code_kept parts place) reported → IsBodyAt now number reported
+  body_now number place at reported lent =
+      subst (λ (n : Imaged). IsBodyAt n number reported) is (body_reported types parts texts tables.fit number place at reported lent)

@@ -13,7 +13,7 @@ use Rattle.dj_names.specs.declared.descriptor.Ty.{Ty}
 use Rattle.dj_names.specs.trusted.Types.{Name, base_array, array_type}
 use Rattle.dj_names.specs.trusted.Descriptors.{of_text, type_text}
 use Rattle.dj_pool.specs.trusted.Pool.{Integer}
-use Rattle.dj_types.specs.declared.shapes.Element.TheVariants as elements
+use Rattle.dj_types.specs.declared.shapes.ElementType.TheVariants as elements
 use Rattle.dj_types.specs.declared.shapes.Shape.{Shape}
 use Rattle.dj_image.specs.declared.lent_type.LentOf.TheVariants as lents
 use Rattle.dj_image.specs.declared.uses.Use.TheVariants as uses
@@ -33,8 +33,8 @@ brackets_counted : map brackets ([] ∷ codes "I" ∷ codes "[I" ∷ codes "[[LA
 brackets_counted = refl
 
 -- arrays of bytes and of chars, and without classes no others
-first_told : (map type_text first_wholes ≡ codes "[B" ∷ codes "[C" ∷ []) × (wholes_of [] [] ≡ first_wholes)
-first_told = (refl, refl)
+first_reported : (map type_text first_wholes ≡ codes "[B" ∷ codes "[C" ∷ []) × (wholes_of [] [] ≡ first_wholes)
+first_reported = (refl, refl)
 
 no_first_left_out : first_wholes ≡ base_array bases.Byte ∷ [] → ⊥
 no_first_left_out e = let bad : codes "[C" ≡ [] = ap (λ (tys : List Ty). second_text tys) e in other_text (codes "[C") [] refl refl bad where
@@ -118,8 +118,8 @@ module _ (key : Vec ℕ) (key_is : key.items ≡ codes "I") (rows : ArrayRows) (
   keyed : AllByRecursion IsKeyed rows.entries
   keyed = subst (λ (es : List (Vec ℕ × Ty)). AllByRecursion IsKeyed es) (sym is) ((sym key_is, omega arith, omega arith), tt)
 
-  rows_told : AreRows (ints ∷ []) rows
-  rows_told = record { keyed = keyed; each = λ ty. (row_of ty, of_row ty) }
+  rows_reported : AreRows (ints ∷ []) rows
+  rows_reported = record { keyed = keyed; each = λ ty. (row_of ty, of_row ty) }
 
   -- not of no array, nor of one of more dimensions
   of_none : AreRows [] rows → ⊥
@@ -161,10 +161,10 @@ at_other_text wholes key rows key_is is are =
 
 -- nor where it has more dimensions than a descriptor spells, or none
 too_deep : (key : Vec ℕ) → IsKeyed (key, record ints { dims = 256 }) → ⊥
-too_deep key told = let few : 256 ≤ 255 = told.2 in omega (arith, few)
+too_deep key reported = let few : 256 ≤ 255 = reported.2 in omega (arith, few)
 
 no_array : (key : Vec ℕ) → IsKeyed (key, record ints { dims = 0 }) → ⊥
-no_array key told = let some : 1 ≤ 0 = told.1 in omega (arith, some)
+no_array key reported = let some : 1 ≤ 0 = reported.1 in omega (arith, some)
 
 -- ---- in order
 

@@ -23,7 +23,7 @@ use Rattle.dj_names.specs.trusted.Descriptors.{of_text, type_text}
 use Rattle.dj_model.specs.trusted.Program.{Program}
 use Rattle.dj_model.specs.trusted.Libraries.{is_name_before}
 use Rattle.dj_classes.proofs.Orders.{is_name_before-cmp}
-use Rattle.dj_types.proofs.Told.{element_told}
+use Rattle.dj_types.proofs.Reported.{element_reported}
 use Rattle.dj_types.specs.declared.shapes.Shape.{Shape}
 use Rattle.dj_types.specs.Shapes.{AreElements, shape_in, shape_type}
 use Rattle.dj_types.specs.Typed.{is_known_of, arrays_rise}
@@ -57,7 +57,7 @@ level_types program dims (top ∷ tops) known = by (nat_le dims top.dims) (level
   by : (b : Bool) → map (shape_type program) (level dims (map (shape_in program) tops)) ≡ filter_map (type_at_level dims) tops
       → map (shape_type program) (cons_option (if b then Some (record { dims = dims; of = (shape_in program top).of }) else None) (level dims (map (shape_in program) tops))) ≡ cons_option (if b then Some (record { dims = dims; of = top.of }) else None) (filter_map (type_at_level dims) tops)
   by true rest =
-      ap (λ (of : Of). record { dims = dims; of = of } ∷ map (shape_type program) (level dims (map (shape_in program) tops))) ((element_told program top.of known.0).0)
+      ap (λ (of : Of). record { dims = dims; of = of } ∷ map (shape_type program) (level dims (map (shape_in program) tops))) ((element_reported program top.of known.0).0)
       ∙ ap (λ (more : List Ty). record { dims = dims; of = top.of } ∷ more) rest
   by false rest = rest
 
@@ -79,7 +79,7 @@ elements_level program dims [] known = tt
 elements_level program dims (top ∷ tops) known = by (nat_le dims top.dims) (elements_level program dims tops known.1) where
   by : (b : Bool) → AreElements program (level dims (map (shape_in program) tops))
       → AreElements program (cons_option (if b then Some (record { dims = dims; of = (shape_in program top).of }) else None) (level dims (map (shape_in program) tops)))
-  by true rest = ((element_told program top.of known.0).1, rest)
+  by true rest = ((element_reported program top.of known.0).1, rest)
   by false rest = rest
 
 pub elements_levels : (program : Program) (dims : ℕ) (tops : List Ty) → AreAllKnown program tops → AreElements program (levels dims (map (shape_in program) tops))

@@ -24,7 +24,7 @@ use Rattle.dj_image.specs.declared.parts.FieldValue.{FieldValue}
 use Rattle.dj_image.specs.declared.parts.FieldValue.TheVariants as values
 use Rattle.dj_image.specs.declared.tables.ClassTables.{ClassTables}
 use Rattle.dj_image.specs.declared.tables.Tables.{Tables}
-use Rattle.dj_image.specs.Gathered.{value_told, AreOfClass, AreOfClasses}
+use Rattle.dj_image.specs.Gathered.{value_reported, AreOfClass, AreOfClasses}
 use Rattle.dj_image.specs.Homes.{operand_at}
 use Rattle.dj_image.specs.Imaged.{Imaged, typed_of, IsNumbered}
 use Rattle.dj_image.specs.Indexed.{Holds, text_class, text_array, text_place, kept_class, kept_array}
@@ -46,14 +46,14 @@ use Rattle.dj_image.proofs.Wholes.{pools_of}
 
 -- ---- a class
 
-value_is : (imaged : Imaged) (pool : List Constant) (value : Option FieldValue) → value_told imaged.texts pool value ≡ field_operand_of imaged pool value
+value_is : (imaged : Imaged) (pool : List Constant) (value : Option FieldValue) → value_reported imaged.texts pool value ≡ field_operand_of imaged pool value
 value_is imaged pool None = refl
 value_is imaged pool (Some (values.Int z)) = refl
 value_is imaged pool (Some (values.Long z)) = refl
 value_is imaged pool (Some (values.Text index)) = refl
 value_is imaged pool (Some values.Unfit) = refl
 
-values_are : (imaged : Imaged) (pool : List Constant) (vs : List (Option FieldValue)) → map (value_told imaged.texts pool) vs ≡ map (field_operand_of imaged pool) vs
+values_are : (imaged : Imaged) (pool : List Constant) (vs : List (Option FieldValue)) → map (value_reported imaged.texts pool) vs ≡ map (field_operand_of imaged pool) vs
 values_are imaged pool [] = refl
 values_are imaged pool (v ∷ vs) = let one = value_is imaged pool v in let more = values_are imaged pool vs in λ i. one i ∷ more i
 
@@ -66,17 +66,17 @@ text_placed texts pool places index text held there = kept_as pool (λ (t : List
   by (Some t) e = refl
 
 -- of more and more fields
-pub told_step : (texts : List (List ℕ)) (pool : List Constant) (vs : List (Option FieldValue)) (i : ℕ) (d : Option FieldValue) (kept more : List Operand) (one : Operand) → i < length vs
-    → kept ≡ map (value_told texts pool) (take i vs) → one ≡ value_told texts pool (get_or vs i d) → more ≡ kept ++ one ∷ [] → more ≡ map (value_told texts pool) (take (i + 1) vs)
-told_step texts pool vs i d kept more one within before is push =
+pub reported_step : (texts : List (List ℕ)) (pool : List Constant) (vs : List (Option FieldValue)) (i : ℕ) (d : Option FieldValue) (kept more : List Operand) (one : Operand) → i < length vs
+    → kept ≡ map (value_reported texts pool) (take i vs) → one ≡ value_reported texts pool (get_or vs i d) → more ≡ kept ++ one ∷ [] → more ≡ map (value_reported texts pool) (take (i + 1) vs)
+reported_step texts pool vs i d kept more one within before is push =
     push
     ∙ ap (λ (ks : List Operand). ks ++ one ∷ []) before
-    ∙ ap (λ (k : Operand). map (value_told texts pool) (take i vs) ++ k ∷ []) is
-    ∙ sym (ap (map (value_told texts pool)) (take_more vs i d within) ∙ map-append (value_told texts pool) (take i vs) (get_or vs i d ∷ []))
+    ∙ ap (λ (k : Operand). map (value_reported texts pool) (take i vs) ++ k ∷ []) is
+    ∙ sym (ap (map (value_reported texts pool)) (take_more vs i d within) ∙ map-append (value_reported texts pool) (take i vs) (get_or vs i d ∷ []))
 
-pub told_all : (texts : List (List ℕ)) (pool : List Constant) (vs : List (Option FieldValue)) (i : ℕ) (kept : List Operand) → length vs ≤ i
-    → kept ≡ map (value_told texts pool) (take i vs) → kept ≡ map (value_told texts pool) vs
-told_all texts pool vs i kept past are = are ∙ ap (map (value_told texts pool)) (take_all i vs past)
+pub reported_all : (texts : List (List ℕ)) (pool : List Constant) (vs : List (Option FieldValue)) (i : ℕ) (kept : List Operand) → length vs ≤ i
+    → kept ≡ map (value_reported texts pool) (take i vs) → kept ≡ map (value_reported texts pool) vs
+reported_all texts pool vs i kept past are = are ∙ ap (map (value_reported texts pool)) (take_all i vs past)
 
 pub class_is : (types : Typed) (parts : List ClassParts) (texts : List (List ℕ)) (class : ClassParts) (object : Option ℕ) (classes arrays places : List (Option ℕ)) (tables : ClassTables)
     → FitClasses types.program parts → AreArrays types.program types.arrays → object ≡ class_number types.program (object_name types.prefix) → IsPool class.pool
@@ -84,13 +84,13 @@ pub class_is : (types : Typed) (parts : List ClassParts) (texts : List (List ℕ
     → Holds (operand_at types class.pool places classes object) (length class.pool + 1) tables.operands.items
     → Holds (kept_class class.pool classes) (length class.pool + 1) tables.named.items
     → Holds (kept_array class.pool arrays) (length class.pool + 1) tables.made.items
-    → tables.constants.items ≡ map (value_told texts class.pool) class.values.items
+    → tables.constants.items ≡ map (value_reported texts class.pool) class.values.items
     → AreOfClass (imaged_of types parts texts) class tables
-class_is types parts texts class object classes arrays places tables fit are told valid by_class by_array by_place o n m c =
+class_is types parts texts class object classes arrays places tables fit are reported valid by_class by_array by_place o n m c =
     let imaged : Imaged = imaged_of types parts texts in
     let like : IsLike (typed_of imaged) types = like_from_fit types parts texts fit in
     record {
-      operands_are = record { count = o.all; each = λ i lt. o.each i lt ∙ ap Some (operand_kept imaged types like class.pool valid are object told classes places by_class by_place i) };
+      operands_are = record { count = o.all; each = λ i lt. o.each i lt ∙ ap Some (operand_kept imaged types like class.pool valid are object reported classes places by_class by_place i) };
       named_are = record { count = n.all; each = λ i lt. n.each i lt ∙ ap Some (named_kept imaged types like class.pool valid classes by_class i) };
       made_are = record { count = m.all; each = λ i lt. m.each i lt ∙ ap Some (made_kept imaged types like class.pool valid arrays by_array i) };
       constants_are = c ∙ values_are imaged class.pool class.values.items;

@@ -25,16 +25,16 @@ use Rattle.dj_types.specs.Typed.{Typed, AreArrays, is_array_of, texts_of, types_
 use Rattle.dj_types.specs.Members.{resolved_method, resolved_field, found_method_number, found_field_number}
 use Rattle.dj_types.proofs.Homes.{no_method_resolved, no_field_resolved}
 use Rattle.dj_types.proofs.Numbers.{number_of_class, number_of_none, place_within}
-use Rattle.dj_types.proofs.Told.{type_there, type_of_class}
+use Rattle.dj_types.proofs.Reported.{type_there, type_of_class}
 use Rattle.dj_image.specs.Imaged.{Imaged, typed_of}
 use Rattle.dj_image.specs.Operands.{class_operand, text_operand, method_operand, field_operand, resolved_method_number, resolved_field_number, named_operand, units_number}
 use Rattle.dj_image.specs.Indexed.{Holds, text_class, text_place, is_array}
-use Rattle.dj_image.specs.Homes.{home_by, kept_home, IsHome, AreHomes, IsDescribed, method_told, field_told, constant_operand, operand_if, operand_at}
+use Rattle.dj_image.specs.Homes.{home_by, kept_home, IsHome, AreHomes, IsDescribed, method_reported, field_reported, constant_operand, operand_if, operand_at}
 use Rattle.dj_image.proofs.Bare.{bare_program, resolve_method_bare, resolve_field_bare}
 use Rattle.dj_image.proofs.BareTyped.{found_method_bare, found_field_bare}
 use Rattle.dj_image.proofs.ClassTexts.{desc_in_is}
 use Rattle.dj_image.proofs.Links.{linked_index}
-use Rattle.dj_image.proofs.Named.{ByName, ByDescriptor, written, array_begins, kept_as, class_told}
+use Rattle.dj_image.proofs.Named.{ByName, ByDescriptor, written, array_begins, kept_as, class_reported}
 use Rattle.dj_image.proofs.Standing.{IsLike, moved}
 use Rattle.dj_image.proofs.Used.{IsThere, there, there_member, member_is, text_is}
 
@@ -66,25 +66,25 @@ class_text_number types text arrays plain = by (class_number types.program text)
 -- the class in which the members of a constant's class are looked for
 home_is : (types : Typed) (object : Option ℕ) (text : Name) → AreArrays types.program types.arrays → object ≡ class_number types.program (object_name types.prefix) → IsClassText text
     → (if is_array text then object else text_number types text) ≡ class_number types.program (member_class types.prefix (type_in text))
-home_is types object text arrays told is = elim (written text is) [
+home_is types object text arrays reported is = elim (written text is) [
   | ByName named plain ↦
       ap (λ (b : Bool). cond b object (text_number types text)) plain
       ∙ (class_text_number types text arrays plain ∙ ap (λ (ty : Ty). class_number types.program (member_class types.prefix ty)) (sym named))
   | ByDescriptor ty some named spelled array ↦
       ap (λ (b : Bool). cond b object (text_number types text)) array
-      ∙ (told ∙ (ap (λ (b : Bool). class_number types.program (cond b (class_or_object types.prefix ty.of) (object_name types.prefix))) (sym (not_zero ty.dims some))
+      ∙ (reported ∙ (ap (λ (b : Bool). class_number types.program (cond b (class_or_object types.prefix ty.of) (object_name types.prefix))) (sym (not_zero ty.dims some))
       ∙ ap (λ (x : Ty). class_number types.program (member_class types.prefix x)) (sym named)))
 ]
 
 pub home_there : (types : Typed) (pool : List Constant) (classes : List (Option ℕ)) (object : Option ℕ) (class names : ℕ) → IsPool pool → AreArrays types.program types.arrays
     → object ≡ class_number types.program (object_name types.prefix) → Holds (text_class types pool) (length pool + 1) classes
     → (t : IsThere pool class names) → kept_home pool classes object class ≡ class_number types.program (member_class types.prefix (type_in t.text))
-home_there types pool classes object class names valid arrays told held t =
+home_there types pool classes object class names valid arrays reported held t =
     let own : get_or classes t.index None ≡ text_number types t.text = kept_as pool (text_number types) classes held t.index ∙ ap (option_and_then (text_number types)) t.spelled in
     ap (λ (o : Option ℕ). option_and_then (λ (index : ℕ). home_by classes object index (text_at pool index)) o) t.own
     ∙ (ap (home_by classes object t.index) t.spelled
     ∙ (ap (λ (o : Option ℕ). cond (is_array t.text) object o) own
-    ∙ home_is types object t.text arrays told (text_is pool valid class names t)))
+    ∙ home_is types object t.text arrays reported (text_is pool valid class names t)))
 
 -- ---- members of a class, by its number
 
@@ -170,9 +170,9 @@ object_home types name (Some k) e =
 
 pub are_homes : (types : Typed) (pool : List Constant) (classes : List (Option ℕ)) (object : Option ℕ)
     → object ≡ class_number types.program (object_name types.prefix) → Holds (text_class types pool) (length pool + 1) classes → AreHomes types pool classes object
-are_homes types pool classes object told held class = by (option_and_then class_text_of (constant_at pool class)) where
+are_homes types pool classes object reported held class = by (option_and_then class_text_of (constant_at pool class)) where
   either : (text : Name) (b : Bool) (o : Option ℕ) → o ≡ text_number types text → IsHome types (if b then object else o)
-  either text true o e = object_home types (object_name types.prefix) object told
+  either text true o e = object_home types (object_name types.prefix) object reported
   either text false o e = subst (IsHome types) (sym e) (text_home types text (text_number types text) refl)
 
   with_text : (index : ℕ) (o : Option (List ℕ)) → text_at pool index ≡ o → IsHome types (home_by classes object index o)
@@ -213,18 +213,18 @@ method_names pool class names is = names_described pool IsMethodDescriptor metho
 -- ---- operands
 
 module _ (imaged : Imaged) (types : Typed) (like : IsLike (typed_of imaged) types) (pool : List Constant) (valid : IsPool pool) (arrays : AreArrays types.program types.arrays)
-    (object : Option ℕ) (told : object ≡ class_number types.program (object_name types.prefix))
+    (object : Option ℕ) (reported : object ≡ class_number types.program (object_name types.prefix))
     (classes places : List (Option ℕ)) (held : Holds (text_class types pool) (length pool + 1) classes) (placed : Holds (text_place imaged.texts pool) (length pool + 1) places) where
-  field_is : (class names : ℕ) (t : IsThere pool class names) → field_told types (kept_home pool classes object class) (name_and_type_at pool names) ≡ resolved_field_number imaged (there_member pool class names t)
+  field_is : (class names : ℕ) (t : IsThere pool class names) → field_reported types (kept_home pool classes object class) (name_and_type_at pool names) ≡ resolved_field_number imaged (there_member pool class names t)
   field_is class names t =
-      ap (field_told types (kept_home pool classes object class)) t.named
-      ∙ (field_home types (type_in t.text) (kept_home pool classes object class) t.pair.0 t.pair.1 (home_there types pool classes object class names valid arrays told held t)
+      ap (field_reported types (kept_home pool classes object class)) t.named
+      ∙ (field_home types (type_in t.text) (kept_home pool classes object class) t.pair.0 t.pair.1 (home_there types pool classes object class names valid arrays reported held t)
       ∙ sym (field_like (typed_of imaged) types (there_member pool class names t) like))
 
-  method_is : (class names : ℕ) (t : IsThere pool class names) → method_told types (kept_home pool classes object class) (name_and_type_at pool names) ≡ resolved_method_number imaged (there_member pool class names t)
+  method_is : (class names : ℕ) (t : IsThere pool class names) → method_reported types (kept_home pool classes object class) (name_and_type_at pool names) ≡ resolved_method_number imaged (there_member pool class names t)
   method_is class names t =
-      ap (method_told types (kept_home pool classes object class)) t.named
-      ∙ (method_home types (type_in t.text) (kept_home pool classes object class) t.pair.0 t.pair.1 (home_there types pool classes object class names valid arrays told held t)
+      ap (method_reported types (kept_home pool classes object class)) t.named
+      ∙ (method_home types (type_in t.text) (kept_home pool classes object class) t.pair.0 t.pair.1 (home_there types pool classes object class names valid arrays reported held t)
       ∙ sym (method_like (typed_of imaged) types (there_member pool class names t) like))
 
   text_by : (P : List ℕ → Type 0) (o : Option (List ℕ)) → IsSomeAnd o P → option_and_then (λ (text : List ℕ). units_number imaged.texts (units_in text)) o ≡ units_number imaged.texts (units_in (unwrap_or o []))
@@ -234,7 +234,7 @@ module _ (imaged : Imaged) (types : Typed) (like : IsLike (typed_of imaged) type
   operand_one : (k : Constant) → IsLinked pool k → constant_operand types pool places classes object k ≡ named_operand imaged (named_by pool k)
   unfolding named_by
   operand_one (Text index) is = ap text_operand (kept_as pool (λ (text : List ℕ). units_number imaged.texts (units_in text)) places placed index ∙ text_by _ (text_at pool index) is)
-  operand_one (Class index) is = ap class_operand (kept_as pool (text_number types) classes held index ∙ sym (class_told imaged types like pool index is))
+  operand_one (Class index) is = ap class_operand (kept_as pool (text_number types) classes held index ∙ sym (class_reported imaged types like pool index is))
   operand_one (Field class names) is =
       let t = there pool _ class names valid is.0 is.1 in
       ap field_operand (field_is class names t) ∙ sym (ap (λ (o : Option Member). named_operand imaged (named_or_another (option_map AField o))) (member_is pool class names t))

@@ -94,44 +94,44 @@ at_index pool valid index f g none each = at_constant pool f g (constant_at pool
 -- ---- classes
 
 module _ (imaged : Imaged) (types : Typed) (like : IsLike (typed_of imaged) types) where
-  text_told : (text : List ℕ) → IsClassText text → type_number (typed_of imaged) (type_in text) ≡ text_number types text
-  text_told text is = ap (text_number (typed_of imaged)) (own_text text is) ∙ text_number_like like text
+  text_reported : (text : List ℕ) → IsClassText text → type_number (typed_of imaged) (type_in text) ≡ text_number types text
+  text_reported text is = ap (text_number (typed_of imaged)) (own_text text is) ∙ text_number_like like text
 
-  array_told : (text : List ℕ) → IsClassText text → type_number (typed_of imaged) (array_type (type_in text)) ≡ text_number types (array_text text)
-  array_told text is = ap (text_number (typed_of imaged)) (elements_text text is) ∙ text_number_like like (array_text text)
+  array_reported : (text : List ℕ) → IsClassText text → type_number (typed_of imaged) (array_type (type_in text)) ≡ text_number types (array_text text)
+  array_reported text is = ap (text_number (typed_of imaged)) (elements_text text is) ∙ text_number_like like (array_text text)
 
   class_by_text : (o : Option (List ℕ)) → IsSomeAnd o IsClassText → type_number (typed_of imaged) (type_in (unwrap_or o [])) ≡ option_and_then (text_number types) o
   class_by_text None is = absurd is
-  class_by_text (Some text) is = text_told text is
+  class_by_text (Some text) is = text_reported text is
 
-  pub class_told : (pool : List Constant) (index : ℕ) → NamesText IsClassText pool index → type_number (typed_of imaged) (type_in (name_in pool index)) ≡ text_class types pool index
-  class_told pool index is = class_by_text (text_at pool index) is
+  pub class_reported : (pool : List Constant) (index : ℕ) → NamesText IsClassText pool index → type_number (typed_of imaged) (type_in (name_in pool index)) ≡ text_class types pool index
+  class_reported pool index is = class_by_text (text_at pool index) is
 
   made_by_text : (o : Option (List ℕ)) → IsSomeAnd o IsClassText
       → type_number (typed_of imaged) (array_type (type_in (unwrap_or o []))) ≡ option_and_then (λ (text : List ℕ). text_number types (array_text text)) o
   made_by_text None is = absurd is
-  made_by_text (Some text) is = array_told text is
+  made_by_text (Some text) is = array_reported text is
 
-  made_told : (pool : List Constant) (index : ℕ) → NamesText IsClassText pool index → type_number (typed_of imaged) (array_type (type_in (name_in pool index))) ≡ text_array types pool index
-  made_told pool index is = made_by_text (text_at pool index) is
+  made_reported : (pool : List Constant) (index : ℕ) → NamesText IsClassText pool index → type_number (typed_of imaged) (array_type (type_in (name_in pool index))) ≡ text_array types pool index
+  made_reported pool index is = made_by_text (text_at pool index) is
 
-  member_told : (pool : List Constant) → IsPool pool → (class names : ℕ) (t : IsThere pool class names) → type_number (typed_of imaged) (type_in t.text) ≡ option_and_then (text_class types pool) (option_and_then class_text_of (constant_at pool class))
-  member_told pool valid class names t =
-      text_told t.text (text_is pool valid class names t)
+  member_reported : (pool : List Constant) → IsPool pool → (class names : ℕ) (t : IsThere pool class names) → type_number (typed_of imaged) (type_in t.text) ≡ option_and_then (text_class types pool) (option_and_then class_text_of (constant_at pool class))
+  member_reported pool valid class names t =
+      text_reported t.text (text_is pool valid class names t)
       ∙ sym (ap (option_and_then (text_number types)) t.spelled) ∙ sym (ap (option_and_then (text_class types pool)) t.own)
 
   named_one : (pool : List Constant) → IsPool pool → (k : Constant) → IsLinked pool k → named_class imaged (named_by pool k) ≡ option_and_then (text_class types pool) (class_text_index pool k)
   unfolding named_by
-  named_one pool valid (Class index) is = class_told pool index is
+  named_one pool valid (Class index) is = class_reported pool index is
   named_one pool valid (Field class names) is =
       let t = there pool _ class names valid is.0 is.1 in
-      ap (λ (o : Option Member). named_class imaged (named_or_another (option_map AField o))) (member_is pool class names t) ∙ member_told pool valid class names t
+      ap (λ (o : Option Member). named_class imaged (named_or_another (option_map AField o))) (member_is pool class names t) ∙ member_reported pool valid class names t
   named_one pool valid (Method class names) is =
       let t = there pool _ class names valid is.0 is.1 in
-      ap (λ (o : Option Member). named_class imaged (named_or_another (option_map AMethod o))) (member_is pool class names t) ∙ member_told pool valid class names t
+      ap (λ (o : Option Member). named_class imaged (named_or_another (option_map AMethod o))) (member_is pool class names t) ∙ member_reported pool valid class names t
   named_one pool valid (InterfaceMethod class names) is =
       let t = there pool _ class names valid is.0 is.1 in
-      ap (λ (o : Option Member). named_class imaged (named_or_another (option_map AnInterfaceMethod o))) (member_is pool class names t) ∙ member_told pool valid class names t
+      ap (λ (o : Option Member). named_class imaged (named_or_another (option_map AnInterfaceMethod o))) (member_is pool class names t) ∙ member_reported pool valid class names t
   named_one pool valid (Utf8 t) is = refl
   named_one pool valid (Integer t) is = refl
   named_one pool valid (Float t) is = refl
@@ -150,7 +150,7 @@ module _ (imaged : Imaged) (types : Typed) (like : IsLike (typed_of imaged) type
 
   made_one : (pool : List Constant) (k : Constant) → IsLinked pool k → made_class imaged (named_by pool k) ≡ option_and_then (text_array types pool) (class_text_of k)
   unfolding named_by
-  made_one pool (Class index) is = made_told pool index is
+  made_one pool (Class index) is = made_reported pool index is
   made_one pool (Field class names) is = no_array AField (λ m. refl) (member_in pool class names)
   made_one pool (Method class names) is = no_array AMethod (λ m. refl) (member_in pool class names)
   made_one pool (InterfaceMethod class names) is = no_array AnInterfaceMethod (λ m. refl) (member_in pool class names)

@@ -20,10 +20,10 @@ use Rattle.dj_classes.specs.Tables.{name_of, name_at, class_number}
 use Rattle.dj_classes.proofs.Numbered.{class_at-at, class_number-none, class_number-within, name_at-number}
 use Rattle.dj_classes.proofs.Orders.{names_from_same, same_from_names}
 use Rattle.dj_natives.specs.Numbered as numbered
-use Rattle.dj_natives.specs.Numbered.{IsNumberOf, superclass_type, holds_references, component_of, is_number, TellsStop, ArePlain, HasNumber, HaveComponents}
+use Rattle.dj_natives.specs.Numbered.{IsNumberOf, superclass_type, holds_references, component_of, is_number, SaysStop, ArePlain, HasNumber, HaveComponents}
 use Rattle.dj_types.specs.Typed.{Typed, texts_of, types_of, type_at, place_of_text, text_number, text_of_type, type_number, begins_array, is_known_of, AreArrays, has_references, super_at, component_at, string_at, chars_at, stop_under, stop_at}
 use Rattle.dj_types.proofs.Numbers.{number_of_class, number_of_text, number_of_none}
-use Rattle.dj_types.proofs.Told.{types_among, known_at}
+use Rattle.dj_types.proofs.Reported.{types_among, known_at}
 use Rattle.dj_image.specs.Numbering.{AreSettled}
 use Rattle.dj_image.proofs.Members.{member_first, member_later, member_none, member_cases}
 use Rattle.dj_image.proofs.RowFacts.{type_once}
@@ -65,9 +65,9 @@ past (c ∷ program) (suc k) j e = past program k j (omega arith)
 
 -- ---- the place of a text
 
-place_told : (texts : List Name) (text : Name) (k : ℕ) → place_of_text texts text ≡ Some k → slice_get texts k ≡ Some text
-place_told [] text k e = absurd (none-some k e)
-place_told (x ∷ texts) text k e = by (same_name x text) refl (place_of_text texts text) (place_told texts text) k e where
+place_reported : (texts : List Name) (text : Name) (k : ℕ) → place_of_text texts text ≡ Some k → slice_get texts k ≡ Some text
+place_reported [] text k e = absurd (none-some k e)
+place_reported (x ∷ texts) text k e = by (same_name x text) refl (place_of_text texts text) (place_reported texts text) k e where
   by : (b : Bool) → same_name x text ≡ b → (n : Option ℕ) → ((j : ℕ) → n ≡ Some j → slice_get texts j ≡ Some text)
       → (k : ℕ) → (if b then Some 0 else option_map suc n) ≡ Some k → slice_get (x ∷ texts) k ≡ Some text
   by true same n later zero f = ap Some (names_from_same x text same)
@@ -168,7 +168,7 @@ module _ (typed : Typed) (settled : AreSettled typed) where
         by : (o : Option ℕ) → place_of_text (map type_text typed.arrays) (type_text ty) ≡ o → IsNumberOf (types_of typed) (Some ty) (text_number typed (type_text ty))
         by (Some j) e =
             subst (IsNumberOf (types_of typed) (Some ty)) (sym (number_of_text typed.program (map type_text typed.arrays) (type_text ty) j (no_class ty some) e))
-            (array_there typed.program typed.arrays j ty (array_text_at ty j (place_told (map type_text typed.arrays) (type_text ty) j e)))
+            (array_there typed.program typed.arrays j ty (array_text_at ty j (place_reported (map type_text typed.arrays) (type_text ty) j e)))
         by None e =
             subst (IsNumberOf (types_of typed) (Some ty)) (sym (number_of_none typed.program (map type_text typed.arrays) (type_text ty) (no_class ty some) e))
             (λ k at. elim (stands typed.program typed.arrays k ty at) [
@@ -178,18 +178,18 @@ module _ (typed : Typed) (settled : AreSettled typed) where
 
   -- ---- names
 
-  text_told : (program : Program) (arrays : List Ty) → ((j : ℕ) (ty : Ty) → slice_get arrays j ≡ Some ty → 1 ≤ ty.dims) → (k : ℕ) (ty : Ty)
+  text_reported : (program : Program) (arrays : List Ty) → ((j : ℕ) (ty : Ty) → slice_get arrays j ≡ Some ty → 1 ≤ ty.dims) → (k : ℕ) (ty : Ty)
       → slice_get (types_among program arrays) k ≡ Some ty → slice_get (map name_of program ++ map type_text arrays) k ≡ Some (class_name ty)
-  text_told [] arrays some k ty e =
+  text_reported [] arrays some k ty e =
       slice_get-map type_text arrays k ∙ (ap (option_map type_text) e ∙ ap Some (sym (array_name ty.dims ty.of (some k ty e))))
-  text_told (c ∷ program) arrays some zero ty e = ap (λ (t : Ty). Some (class_name t)) (same_Some (class_type c.name) ty e)
-  text_told (c ∷ program) arrays some (suc k) ty e = text_told program arrays some k ty e
+  text_reported (c ∷ program) arrays some zero ty e = ap (λ (t : Ty). Some (class_name t)) (same_Some (class_type c.name) ty e)
+  text_reported (c ∷ program) arrays some (suc k) ty e = text_reported program arrays some k ty e
 
   pub name_is : (class : ℕ) (text : Name) → class < length (types_of typed) → slice_get (texts_of typed) class ≡ Some text → text ≡ class_name (type_at typed class)
   name_is class text lt e =
       let found = there class lt in
-      let told = text_told typed.program typed.arrays (some_dims typed.program typed.arrays settled.arrays) class found.0 found.1 in
-      same_Some text (class_name found.0) (sym e ∙ told) ∙ ap class_name (sym (type_is class found.0 found.1))
+      let reported = text_reported typed.program typed.arrays (some_dims typed.program typed.arrays settled.arrays) class found.0 found.1 in
+      same_Some text (class_name found.0) (sym e ∙ reported) ∙ ap class_name (sym (type_is class found.0 found.1))
 
   -- ---- superclasses
 
@@ -336,14 +336,14 @@ module _ (typed : Typed) (settled : AreSettled typed) where
   stops_at o e k ty (AnArray j number array) =
       no_array_stops ty.dims ty.of (some_dims typed.program typed.arrays settled.arrays j ty array) ∙ array_stops o e k j number
 
-  stop_tells : (prefix : Prefix) → TellsStop (types_of typed) prefix (stop_under prefix typed.program)
-  stop_tells [] k lt = refl
-  stop_tells (c ∷ prefix) k lt =
+  stop_says : (prefix : Prefix) → SaysStop (types_of typed) prefix (stop_under prefix typed.program)
+  stop_says [] k lt = refl
+  stop_says (c ∷ prefix) k lt =
       let found = there k lt in
       ap (λ (t : Ty). same_type t (class_type stop_class)) (type_is k found.0 found.1) ∙ stops_at (class_number typed.program stop_class) refl k found.0 found.2
 
-  pub stop_alone : (result : Option ℕ) → result ≡ stop_at typed → TellsStop (types_of typed) typed.prefix result
-  stop_alone result e = subst (TellsStop (types_of typed) typed.prefix) (sym e) (stop_tells typed.prefix)
+  pub stop_alone : (result : Option ℕ) → result ≡ stop_at typed → SaysStop (types_of typed) typed.prefix result
+  stop_alone result e = subst (SaysStop (types_of typed) typed.prefix) (sym e) (stop_says typed.prefix)
 
   class_within : (k : ℕ) → k < length typed.program → k < length (types_of typed)
   class_within k lt =

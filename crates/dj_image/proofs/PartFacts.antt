@@ -93,16 +93,16 @@ described = record { spelled = record { text_is = refl; valid = (tt, tt, omega a
 
 other_described : IsDescAt texts 1 (descs.Field (base_type bases.Int)) → ⊥
 unfolding desc_in dims_read name_read class_read of_read type_read params_read field_read return_read method_read desc_read reads_class_name
-other_described told = true≢false (ap (λ (d : Desc). same_desc d (descs.Method [] None)) told.is)
+other_described reported = true≢false (ap (λ (d : Desc). same_desc d (descs.Method [] None)) reported.is)
 
 -- of a text that is no descriptor none, nor where there is no text
 none_described : (desc : Desc) → IsDescAt texts 2 desc → ⊥
 unfolding desc_in dims_read name_read class_read of_read type_read params_read field_read return_read method_read desc_read reads_class_name
-none_described desc told = other_text (codes "(") (desc_text (desc_in (codes "("))) refl refl told.spelled.text_is
+none_described desc reported = other_text (codes "(") (desc_text (desc_in (codes "("))) refl refl reported.spelled.text_is
 
 no_text : (desc : Desc) → IsDescAt texts 0 desc → ⊥
 unfolding desc_in dims_read name_read class_read of_read type_read params_read field_read return_read method_read desc_read reads_class_name
-no_text desc told = other_text [] (desc_text (desc_in [])) refl refl told.spelled.text_is
+no_text desc reported = other_text [] (desc_text (desc_in [])) refl refl reported.spelled.text_is
 
 -- ---- one part for each class
 

@@ -23,10 +23,10 @@ use Rattle.dj_image.specs.Codes.{pooled, all_codes}
 
 -- ---- lists
 
-front_get : {A : Type 0} (xs ys : List A) (k : ℕ) (x : A) → slice_get xs k ≡ Some x → slice_get (xs ++ ys) k ≡ Some x
-front_get [] ys k x e = absurd cc
-front_get (y ∷ xs) ys zero x e = e
-front_get (y ∷ xs) ys (suc k) x e = front_get xs ys k x e
+prefix_get : {A : Type 0} (xs ys : List A) (k : ℕ) (x : A) → slice_get xs k ≡ Some x → slice_get (xs ++ ys) k ≡ Some x
+prefix_get [] ys k x e = absurd cc
+prefix_get (y ∷ xs) ys zero x e = e
+prefix_get (y ∷ xs) ys (suc k) x e = prefix_get xs ys k x e
 
 rest_get : {A : Type 0} (xs ys : List A) (n : ℕ) → slice_get (xs ++ ys) (length xs + n) ≡ slice_get ys n
 rest_get [] ys n = let e : 0 + n ≡ n = omega arith in ap (λ (k : ℕ). slice_get ys k) e
@@ -117,14 +117,14 @@ first_method_at c classes p parts member fit within =
       kinds = fit.kinds;
       described = fit.descs member row.method row.there;
       bare = ap (λ (k : ℕ). slice_get (all_methods (c ∷ classes)) k) at
-          ∙ front_get (methods_in c) (all_methods classes) member (found_of c.name row.method)
+          ∙ prefix_get (methods_in c) (all_methods classes) member (found_of c.name row.method)
           (slice_get-map (found_of c.name) c.methods member ∙ ap (option_map (found_of c.name)) row.there);
       whole = ap (λ (k : ℕ). slice_get (all_methods (program_of_sources (sources_of (c ∷ classes) (p ∷ parts)))) k) at
-          ∙ front_get (methods_in (class_of_source (source_of c p))) (all_methods (program_of_sources (sources_of classes parts))) member
+          ∙ prefix_get (methods_in (class_of_source (source_of c p))) (all_methods (program_of_sources (sources_of classes parts))) member
           (found_of c.name (with_code p.pool row.method (option_map parts_of row.code)))
           (slice_get-map (found_of c.name) (with_codes p.pool c.methods (map (option_map parts_of) p.codes.items)) member ∙ ap (option_map (found_of c.name)) row.whole);
       coded = ap (λ (k : ℕ). slice_get (all_codes (sources_of (c ∷ classes) (p ∷ parts))) k) at
-          ∙ front_get (map (pooled p.pool) (map (option_map parts_of) p.codes.items)) (all_codes (sources_of classes parts)) member
+          ∙ prefix_get (map (pooled p.pool) (map (option_map parts_of) p.codes.items)) (all_codes (sources_of classes parts)) member
           (pooled p.pool (option_map parts_of row.code))
           (slice_get-map (pooled p.pool) (map (option_map parts_of) p.codes.items) member
           ∙ ap (option_map (pooled p.pool)) (slice_get-map (option_map parts_of) p.codes.items member ∙ ap (option_map (option_map parts_of)) row.kept));
@@ -134,14 +134,14 @@ next_method_at : (c : Class) (classes : Program) (p : ClassParts) (parts : List 
     → IsMethodAt classes parts class member → IsMethodAt (c ∷ classes) (p ∷ parts) (suc class) member
 unfolding all_methods all_codes sources_of class_of_source
 next_method_at c classes p parts class member fit row =
-    let front : length (methods_in c) ≡ length c.methods = length-map c.methods (found_of c.name) in
+    let prefix : length (methods_in c) ≡ length c.methods = length-map c.methods (found_of c.name) in
     let before : methods_before (c ∷ classes) (suc class) ≡ length c.methods + methods_before classes class =
-    length-append (methods_in c) (all_methods (take class classes)) ∙ ap (λ (n : ℕ). n + methods_before classes class) front in
+    length-append (methods_in c) (all_methods (take class classes)) ∙ ap (λ (n : ℕ). n + methods_before classes class) prefix in
     let at : methods_before (c ∷ classes) (suc class) + member ≡ length c.methods + (methods_before classes class + member) = omega arith in
-    let whole_front : length (methods_in (class_of_source (source_of c p))) ≡ length c.methods =
+    let whole_prefix : length (methods_in (class_of_source (source_of c p))) ≡ length c.methods =
     length-map (with_codes p.pool c.methods (map (option_map parts_of) p.codes.items)) (found_of c.name)
     ∙ with_codes_count p.pool c.methods (map (option_map parts_of) p.codes.items) in
-    let code_front : length (map (pooled p.pool) (map (option_map parts_of) p.codes.items)) ≡ length c.methods =
+    let code_prefix : length (map (pooled p.pool) (map (option_map parts_of) p.codes.items)) ≡ length c.methods =
     length-map (map (option_map parts_of) p.codes.items) (pooled p.pool)
     ∙ (length-map p.codes.items (option_map parts_of) ∙ codes_count c.methods p.codes.items fit.methods) in
     record {
@@ -155,13 +155,13 @@ next_method_at c classes p parts class member fit row =
       kinds = row.kinds;
       described = row.described;
       bare = ap (λ (k : ℕ). slice_get (all_methods (c ∷ classes)) k) at
-          ∙ past_get (methods_in c) (all_methods classes) (length c.methods) (methods_before classes class + member) _ front row.bare;
+          ∙ past_get (methods_in c) (all_methods classes) (length c.methods) (methods_before classes class + member) _ prefix row.bare;
       whole = ap (λ (k : ℕ). slice_get (all_methods (program_of_sources (sources_of (c ∷ classes) (p ∷ parts)))) k) at
           ∙ past_get (methods_in (class_of_source (source_of c p))) (all_methods (program_of_sources (sources_of classes parts))) (length c.methods)
-          (methods_before classes class + member) _ whole_front row.whole;
+          (methods_before classes class + member) _ whole_prefix row.whole;
       coded = ap (λ (k : ℕ). slice_get (all_codes (sources_of (c ∷ classes) (p ∷ parts))) k) at
           ∙ past_get (map (pooled p.pool) (map (option_map parts_of) p.codes.items)) (all_codes (sources_of classes parts)) (length c.methods)
-          (methods_before classes class + member) _ code_front row.coded;
+          (methods_before classes class + member) _ code_prefix row.coded;
     }
 
 pub method_at_place : (program : Program) (parts : List ClassParts) (class member : ℕ) → FitClasses program parts → member < length (methods_at program class)
@@ -225,7 +225,7 @@ first_field_at c classes p parts member fit within =
       value = row.value;
       kept = row.kept;
       whole = ap (λ (k : ℕ). slice_get (all_fields (program_of_sources (sources_of (c ∷ classes) (p ∷ parts)))) k) at
-          ∙ front_get (fields_in (class_of_source (source_of c p))) (all_fields (program_of_sources (sources_of classes parts))) member
+          ∙ prefix_get (fields_in (class_of_source (source_of c p))) (all_fields (program_of_sources (sources_of classes parts))) member
           (found_field_of c.name (record row.field { constant = option_map (constant_of_value p.pool) row.value }))
           (slice_get-map (found_field_of c.name) (with_values c.fields (map (option_map (constant_of_value p.pool)) p.values.items)) member
           ∙ ap (option_map (found_field_of c.name)) row.whole);
@@ -239,7 +239,7 @@ next_field_at c classes p parts class member row =
     length-append (fields_in c) (all_fields (take class classes))
     ∙ ap (λ (n : ℕ). n + fields_before classes class) (length-map c.fields (found_field_of c.name)) in
     let at : fields_before (c ∷ classes) (suc class) + member ≡ length c.fields + (fields_before classes class + member) = omega arith in
-    let whole_front : length (fields_in (class_of_source (source_of c p))) ≡ length c.fields =
+    let whole_prefix : length (fields_in (class_of_source (source_of c p))) ≡ length c.fields =
     length-map (with_values c.fields (map (option_map (constant_of_value p.pool)) p.values.items)) (found_field_of c.name)
     ∙ with_values_count c.fields (map (option_map (constant_of_value p.pool)) p.values.items) in
     record {
@@ -251,7 +251,7 @@ next_field_at c classes p parts class member row =
       kept = row.kept;
       whole = ap (λ (k : ℕ). slice_get (all_fields (program_of_sources (sources_of (c ∷ classes) (p ∷ parts)))) k) at
           ∙ past_get (fields_in (class_of_source (source_of c p))) (all_fields (program_of_sources (sources_of classes parts))) (length c.fields)
-          (fields_before classes class + member) _ whole_front row.whole;
+          (fields_before classes class + member) _ whole_prefix row.whole;
     }
 
 pub field_at_place : (program : Program) (parts : List ClassParts) (class member : ℕ) → FitClasses program parts → member < length (fields_at program class)

@@ -53,10 +53,10 @@ spelled_class (b ∷ name) = refl
 named_again : (name : Name) → named (name ++ (59 ∷ [])) ≡ ofs.Class name
 named_again name =
     let count : length (name ++ (59 ∷ [])) - 1 ≡ length name = omega (arith, length-append name (59 ∷ [])) in
-    ap (λ (n : ℕ). ofs.Class (take n (name ++ (59 ∷ [])))) count ∙ ap ofs.Class (front name) where
-      front : (xs : List ℕ) → take (length xs) (xs ++ (59 ∷ [])) ≡ xs
-      front [] = refl
-      front (x ∷ xs) = ap (λ (ys : List ℕ). x ∷ ys) (front xs)
+    ap (λ (n : ℕ). ofs.Class (take n (name ++ (59 ∷ [])))) count ∙ ap ofs.Class (prefix name) where
+      prefix : (xs : List ℕ) → take (length xs) (xs ++ (59 ∷ [])) ≡ xs
+      prefix [] = refl
+      prefix (x ∷ xs) = ap (λ (ys : List ℕ). x ∷ ys) (prefix xs)
 
 spelled_again : (of : Of) → of_spelled (of_text of) ≡ of
 spelled_again (ofs.Base bases.Boolean) = refl

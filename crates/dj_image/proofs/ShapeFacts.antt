@@ -71,9 +71,9 @@ locals_of body = 0
 -- ---- its parts
 
 module _ (s : ShapeParts) where
-  told : parts_of s.code.now ≡ parts → s.kinds.now ≡ kinds → s.desc ≡ 1 → AreShapeParts image 1 s
+  reported : parts_of s.code.now ≡ parts → s.kinds.now ≡ kinds → s.desc ≡ 1 → AreShapeParts image 1 s
   unfolding all_methods class_of_source
-  told code_is kinds_is desc_is = record {
+  reported code_is kinds_is desc_is = record {
     found = found;
     there = refl;
     pool = pool;
@@ -82,8 +82,8 @@ module _ (s : ShapeParts) where
     desc = subst (λ (i : ℕ). IsDescAt pool i (described_as.Method [] None)) (sym desc_is) described;
   }
 
-  told_at : parts_of s.code.now ≡ parts → s.kinds.now ≡ kinds → s.desc ≡ 1 → AreShapePartsAt image 1 (Some s)
-  told_at code_is kinds_is desc_is = told code_is kinds_is desc_is
+  reported_at : parts_of s.code.now ≡ parts → s.kinds.now ≡ kinds → s.desc ≡ 1 → AreShapePartsAt image 1 (Some s)
+  reported_at code_is kinds_is desc_is = reported code_is kinds_is desc_is
 
   -- the code is that of the method
   body_is : (are : AreShapeParts image 1 s) → Runs (code_in pool parts) ≡ Runs (code_in are.pool (parts_of s.code.now))

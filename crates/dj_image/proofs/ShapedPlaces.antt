@@ -31,14 +31,14 @@ module _ (imaged : Imaged) (number member : ℕ) (p : ClassParts) (name : Name) 
     (described : IsTrue (has_code m.body) → IsDescAt p.pool (get_or p.descs.items member 0) m.desc) where
   shape_is : (code : Option MethodCode) → FitsCode m code → code_at imaged number ≡ pooled p.pool (option_map parts_of code)
       → slice_get (all_methods (program_of imaged)) number ≡ Some (record { class = name; method = with_code p.pool m (option_map parts_of code) })
-      → (told : Option ShapeParts) → option_map shape_lent told ≡ option_map (shape_of p member) code → AreShapePartsAt imaged number told
+      → (reported : Option ShapeParts) → option_map shape_lent reported ≡ option_map (shape_of p member) code → AreShapePartsAt imaged number reported
   shape_is None fits coded there None e = λ found code own runs.
       let same : m ≡ found.method = ap (λ (f : FoundMethod). f.method) (same_Some (record { class = name; method = m }) found (sym there ∙ own)) in
       fits (subst (λ (body : Body). IsTrue (has_code body)) (sym (ap (λ (x : Method). x.body) same ∙ runs)) refl)
-  shape_is None fits coded there (Some told) e = absurd cc
+  shape_is None fits coded there (Some reported) e = absurd cc
   shape_is (Some code) fits coded there None e = absurd cc
-  shape_is (Some code) fits coded there (Some told) e =
-      let same : shape_lent told ≡ shape_of p member code = same_Some (shape_lent told) (shape_of p member code) e in
+  shape_is (Some code) fits coded there (Some reported) e =
+      let same : shape_lent reported ≡ shape_of p member code = same_Some (shape_lent reported) (shape_of p member code) e in
       record {
         found = record { class = name; method = with_code p.pool m (Some (parts_of code)) };
         there = there;
@@ -49,9 +49,9 @@ module _ (imaged : Imaged) (number member : ℕ) (p : ClassParts) (name : Name) 
       }
 
 module _ (types : Typed) (parts : List ClassParts) (texts : List (List ℕ)) (fit : FitClasses types.program parts) where
-  pub shape_told : (number : ℕ) (place : Place) → IsMethodPlace types number place → (told : Option ShapeParts)
-      → option_map shape_lent told ≡ shape_kept parts place → AreShapePartsAt (imaged_of types parts texts) number told
-  shape_told number place at told is =
+  pub shape_reported : (number : ℕ) (place : Place) → IsMethodPlace types number place → (reported : Option ShapeParts)
+      → option_map shape_lent reported ≡ shape_kept parts place → AreShapePartsAt (imaged_of types parts texts) number reported
+  shape_reported number place at reported is =
       let imaged = imaged_of types parts texts in
       let row = row_there types parts texts fit number place at in
       let kept : shape_kept parts place ≡ option_map (shape_of row.part place.member) row.code =
@@ -60,12 +60,12 @@ module _ (types : Typed) (parts : List ClassParts) (texts : List (List ℕ)) (fi
       shape_is imaged number place.member row.part row.name row.method row.kinds row.described row.code row.fits
       (coded_there types parts texts fit number place at)
       (ap (λ (n : ℕ). slice_get (all_methods (program_of imaged)) n) at.is ∙ row.whole)
-      told (is ∙ kept)
+      reported (is ∙ kept)
 
 module _ {now : Imaged} {types : Typed} {parts : List ClassParts} {texts : List (List ℕ)} {operands : List (Vec Operand)} {named made : List (Vec (Option ℕ))}
     {constants : List (Vec Operand)} (is : imaged_of types parts texts ≡ now) (tables : AreTables types parts texts operands named made constants) where
-  pub shape_now : (number : ℕ) (place : Place) → IsMethodPlace types number place → (ps : List ClassParts) → ps ≡ parts → (told : Option ShapeParts)
-      → option_map shape_lent told ≡ shape_kept ps place → AreShapePartsAt now number told
-  shape_now number place at ps p told e =
-      subst (λ (n : Imaged). AreShapePartsAt n number told) is
-      (shape_told types parts texts tables.fit number place at told (e ∙ ap (λ (x : List ClassParts). shape_kept x place) p))
+  pub shape_now : (number : ℕ) (place : Place) → IsMethodPlace types number place → (ps : List ClassParts) → ps ≡ parts → (reported : Option ShapeParts)
+      → option_map shape_lent reported ≡ shape_kept ps place → AreShapePartsAt now number reported
+  shape_now number place at ps p reported e =
+      subst (λ (n : Imaged). AreShapePartsAt n number reported) is
+      (shape_reported types parts texts tables.fit number place at reported (e ∙ ap (λ (x : List ClassParts). shape_kept x place) p))

@@ -193,13 +193,13 @@ module _ {a b : Typed} (like : IsLike a b) where
       (sym (laws.method_there_bare a.program number) ∙ (ap (λ (t : Typed). slice_get (all_methods t.program) number) like.same ∙ laws.method_there_bare b.program number))
       found there
 
-  pub method_there_like : (number : ℕ) (told : MemberOf) → IsMethodThere b number told → IsMethodThere a number told
-  method_there_like number told is =
+  pub method_there_like : (number : ℕ) (reported : MemberOf) → IsMethodThere b number reported → IsMethodThere a number reported
+  method_there_like number reported is =
       let pair = method_other number is.found is.there in
       record {
         found = pair.0;
         there = pair.1;
-        class = name_at_like told.class ∙ (is.class ∙ sym (ap (λ (f : FoundMethod). Some f.class) pair.2));
+        class = name_at_like reported.class ∙ (is.class ∙ sym (ap (λ (f : FoundMethod). Some f.class) pair.2));
         flags = is.flags ∙ sym (ap (λ (f : FoundMethod). f.method.flags) pair.2);
         name = is.name ∙ sym (ap (λ (f : FoundMethod). f.method.name) pair.2);
         desc = rw (ap (λ (f : FoundMethod). f.method.desc) pair.2) is.desc;
@@ -223,13 +223,13 @@ module _ {a b : Typed} (like : IsLike a b) where
       (sym (laws.field_there_bare a.program number) ∙ (ap (λ (t : Typed). slice_get (all_fields t.program) number) like.same ∙ laws.field_there_bare b.program number))
       found there
 
-  pub field_there_like : (number : ℕ) (told : MemberOf) → IsFieldThere b number told → IsFieldThere a number told
-  field_there_like number told is =
+  pub field_there_like : (number : ℕ) (reported : MemberOf) → IsFieldThere b number reported → IsFieldThere a number reported
+  field_there_like number reported is =
       let pair = field_other number is.found is.there in
       record {
         found = pair.0;
         there = pair.1;
-        class = name_at_like told.class ∙ (is.class ∙ sym (ap (λ (f : FoundField). Some f.class) pair.2));
+        class = name_at_like reported.class ∙ (is.class ∙ sym (ap (λ (f : FoundField). Some f.class) pair.2));
         flags = is.flags ∙ sym (ap (λ (f : FoundField). f.field.flags) pair.2);
         name = is.name ∙ sym (ap (λ (f : FoundField). f.field.name) pair.2);
         desc = rw (ap (λ (f : FoundField). f.field.desc) pair.2) is.desc;

@@ -72,8 +72,8 @@ module _ (image : Imaged) (p q : ClassParts) where
   other = record q { pool = [] }
 
   module _ (t u : Vec Operand) (t_is : t.items ≡ operands.Unresolved ∷ operands.Int (pos 7) ∷ []) (u_is : u.items ≡ operands.Unresolved ∷ []) where
-    operands_told : AreOperandTables image (first ∷ other ∷ []) (t ∷ u ∷ [])
-    operands_told = (
+    operands_reported : AreOperandTables image (first ∷ other ∷ []) (t ∷ u ∷ [])
+    operands_reported = (
       subst (λ (kept : List Operand). IsOperandTable image seven kept) (sym t_is) (record { count = refl; each = operand_at image }),
       (subst (λ (kept : List Operand). IsOperandTable image [] kept) (sym u_is) (record { count = refl; each = operand_first image }), tt),
     )
@@ -89,8 +89,8 @@ module _ (image : Imaged) (p q : ClassParts) where
     operands_too_many are = are.1
 
   module _ (t u : Vec (Option ℕ)) (t_is : t.items ≡ None ∷ None ∷ []) (u_is : u.items ≡ None ∷ []) where
-    named_told : AreNamedTables image (first ∷ other ∷ []) (t ∷ u ∷ [])
-    named_told = (
+    named_reported : AreNamedTables image (first ∷ other ∷ []) (t ∷ u ∷ [])
+    named_reported = (
       subst (λ (kept : List (Option ℕ)). IsNamedTable image seven kept) (sym t_is) (record { count = refl; each = named_each image }),
       (subst (λ (kept : List (Option ℕ)). IsNamedTable image [] kept) (sym u_is) (record { count = refl; each = named_first image }), tt),
     )
@@ -104,8 +104,8 @@ module _ (image : Imaged) (p q : ClassParts) where
     named_too_many : AreNamedTables image (first ∷ []) (t ∷ u ∷ []) → ⊥
     named_too_many are = are.1
 
-    made_told : AreMadeTables image (first ∷ other ∷ []) (t ∷ u ∷ [])
-    made_told = (
+    made_reported : AreMadeTables image (first ∷ other ∷ []) (t ∷ u ∷ [])
+    made_reported = (
       subst (λ (kept : List (Option ℕ)). IsMadeTable image seven kept) (sym t_is) (record { count = refl; each = made_each image }),
       (subst (λ (kept : List (Option ℕ)). IsMadeTable image [] kept) (sym u_is) (record { count = refl; each = made_first image }), tt),
     )
@@ -123,15 +123,15 @@ module _ (image : Imaged) (p q : ClassParts) where
   int_as_class : (t : Vec (Option ℕ)) → t.items ≡ None ∷ Some 0 ∷ [] → AreNamedTables image (first ∷ []) (t ∷ []) → ⊥
   unfolding named_by
   int_as_class t t_is are =
-      let told : IsNamedTable image seven (None ∷ Some 0 ∷ []) = subst (λ (kept : List (Option ℕ)). IsNamedTable image seven kept) t_is are.0 in
-      none-some 0 (sym (same_Some (Some 0) None (told.each 1 (omega arith))))
+      let reported : IsNamedTable image seven (None ∷ Some 0 ∷ []) = subst (λ (kept : List (Option ℕ)). IsNamedTable image seven kept) t_is are.0 in
+      none-some 0 (sym (same_Some (Some 0) None (reported.each 1 (omega arith))))
 
   -- and nothing is made by it
   int_makes_array : (t : Vec (Option ℕ)) → t.items ≡ None ∷ Some 0 ∷ [] → AreMadeTables image (first ∷ []) (t ∷ []) → ⊥
   unfolding named_by
   int_makes_array t t_is are =
-      let told : IsMadeTable image seven (None ∷ Some 0 ∷ []) = subst (λ (kept : List (Option ℕ)). IsMadeTable image seven kept) t_is are.0 in
-      none-some 0 (sym (same_Some (Some 0) None (told.each 1 (omega arith))))
+      let reported : IsMadeTable image seven (None ∷ Some 0 ∷ []) = subst (λ (kept : List (Option ℕ)). IsMadeTable image seven kept) t_is are.0 in
+      none-some 0 (sym (same_Some (Some 0) None (reported.each 1 (omega arith))))
 
 -- ---- constants of fields
 
@@ -150,8 +150,8 @@ first_of [] = operands.Nothing
 first_of (o ∷ rest) = o
 
 module _ (image : Imaged) (p q : ClassParts) (t u : Vec Operand) (p_is : p.values.items ≡ Some (begins.Int (pos 5)) ∷ []) (q_is : q.values.items ≡ []) (t_is : t.items ≡ operands.Int (pos 5) ∷ []) (u_is : u.items ≡ []) where
-  constants_told : AreConstantTables image (p ∷ q ∷ []) (t ∷ u ∷ [])
-  constants_told = (t_is ∙ sym (ap (map (field_operand_of image p.pool)) p_is), (u_is ∙ sym (ap (map (field_operand_of image q.pool)) q_is), tt))
+  constants_reported : AreConstantTables image (p ∷ q ∷ []) (t ∷ u ∷ [])
+  constants_reported = (t_is ∙ sym (ap (map (field_operand_of image p.pool)) p_is), (u_is ∙ sym (ap (map (field_operand_of image q.pool)) q_is), tt))
 
   constants_of_other : AreConstantTables image (p ∷ q ∷ []) (u ∷ t ∷ []) → ⊥
   constants_of_other are =
@@ -248,8 +248,8 @@ module _ (codes : Vec (Option MethodCode)) (descs : Vec ℕ) (values : Vec (Opti
     once = λ a b text here there. absurd (none-some text here);
   }
 
-  all_told : Are string_alone (own ∷ [])
-  all_told = record {
+  all_reported : Are string_alone (own ∷ [])
+  all_reported = record {
     fit = (bare_fits string_class codes descs values no_codes no_values, tt);
     operands_are = (subst (λ (kept : List Operand). IsOperandTable (imaged_of string_alone (own ∷ []) []) [] kept) (sym t_is) (record { count = refl; each = operand_first (imaged_of string_alone (own ∷ []) []) }), tt);
     named_are = (subst (λ (kept : List (Option ℕ)). IsNamedTable (imaged_of string_alone (own ∷ []) []) [] kept) (sym n_is) (record { count = refl; each = named_first (imaged_of string_alone (own ∷ []) []) }), tt);
@@ -297,6 +297,6 @@ module _ (p : ClassParts) (t u : Vec Operand) (n m : Vec (Option ℕ)) where
   text_of_constant : t.items ≡ operands.Unresolved ∷ operands.Unresolved ∷ operands.Unresolved ∷ [] → AreTables string_alone (with_text ∷ []) s_texts (t ∷ []) (n ∷ []) (m ∷ []) (u ∷ []) → ⊥
   unfolding named_by units_in units_read unit_read long_read two_read
   text_of_constant t_is are =
-      let told : Some operands.Unresolved ≡ Some (operands.Text 0) = ap (λ (kept : List Operand). slice_get kept 2) (sym t_is) ∙ are.operands_are.0.each 2 (omega arith) in
-      let e : operands.Unresolved ≡ operands.Text 0 = same_Some operands.Unresolved (operands.Text 0) told in
+      let reported : Some operands.Unresolved ≡ Some (operands.Text 0) = ap (λ (kept : List Operand). slice_get kept 2) (sym t_is) ∙ are.operands_are.0.each 2 (omega arith) in
+      let e : operands.Unresolved ≡ operands.Text 0 = same_Some operands.Unresolved (operands.Text 0) reported in
       absurd cc

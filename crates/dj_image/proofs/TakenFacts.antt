@@ -230,8 +230,8 @@ image = record { sources = source ∷ []; prefix = []; arrays = array_type (clas
 
 -- ---- reported as what is there, or as unresolved
 
-abbrev tell : Instr → Operand
-tell instr = operand_of image instr (named_if pool (index_of instr))
+abbrev say : Instr → Operand
+say instr = operand_of image instr (named_if pool (index_of instr))
 
 abbrev field_0 : Operand
 field_0 = operands.Field (record { number = 0 })
@@ -239,61 +239,61 @@ field_0 = operands.Field (record { number = 0 })
 abbrev method_0 : Operand
 method_0 = operands.Method (record { number = 0 })
 
-fields_told : map (λ (op : ℕ). tell (instrs.Member op 6)) member_ops
+fields_reported : map (λ (op : ℕ). say (instrs.Member op 6)) member_ops
     ≡ field_0 ∷ field_0 ∷ field_0 ∷ field_0 ∷ operands.Unresolved ∷ operands.Unresolved ∷ operands.Unresolved ∷ []
 unfolding image source class_a class_of_source field_x field_y method_m pool operand_of instruction_of named_by all_methods all_fields resolve_method resolve_field most_classes chain_of interfaces_from interfaces_above field_order desc_in type_in dims_read name_read class_read of_read type_read params_read field_read return_read method_read desc_read reads_class_name
-fields_told = refl
+fields_reported = refl
 
-methods_told : map (λ (op : ℕ). tell (instrs.Member op 10)) member_ops
+methods_reported : map (λ (op : ℕ). say (instrs.Member op 10)) member_ops
     ≡ operands.Unresolved ∷ operands.Unresolved ∷ operands.Unresolved ∷ operands.Unresolved ∷ method_0 ∷ method_0 ∷ method_0 ∷ []
 unfolding image source class_a class_of_source field_x field_y method_m pool operand_of instruction_of named_by all_methods all_fields resolve_method resolve_field most_classes chain_of interfaces_from interfaces_above field_order desc_in type_in dims_read name_read class_read of_read type_read params_read field_read return_read method_read desc_read reads_class_name
-methods_told = refl
+methods_reported = refl
 
-interface_methods_told : map (λ (op : ℕ). tell (instrs.Member op 11)) member_ops
+interface_methods_reported : map (λ (op : ℕ). say (instrs.Member op 11)) member_ops
     ≡ operands.Unresolved ∷ operands.Unresolved ∷ operands.Unresolved ∷ operands.Unresolved ∷ operands.Unresolved ∷ method_0 ∷ method_0 ∷ []
 unfolding image source class_a class_of_source field_x field_y method_m pool operand_of instruction_of named_by all_methods all_fields resolve_method resolve_field most_classes chain_of interfaces_from interfaces_above field_order desc_in type_in dims_read name_read class_read of_read type_read params_read field_read return_read method_read desc_read reads_class_name
-interface_methods_told = refl
+interface_methods_reported = refl
 
 -- invokeinterface of a method of an interface, of one of a class, of a field and of a class; and of what isn't there
-interfaces_told : map (λ (index : ℕ). tell (instrs.Interface index 1)) (11 ∷ 10 ∷ 6 ∷ 2 ∷ 16 ∷ [])
+interfaces_reported : map (λ (index : ℕ). say (instrs.Interface index 1)) (11 ∷ 10 ∷ 6 ∷ 2 ∷ 16 ∷ [])
     ≡ method_0 ∷ operands.Unresolved ∷ operands.Unresolved ∷ operands.Unresolved ∷ operands.Unresolved ∷ []
 unfolding image source class_a class_of_source field_x field_y method_m pool operand_of instruction_of named_by all_methods all_fields resolve_method resolve_field most_classes chain_of interfaces_from interfaces_above field_order desc_in type_in dims_read name_read class_read of_read type_read params_read field_read return_read method_read desc_read reads_class_name
-interfaces_told = refl
+interfaces_reported = refl
 
 -- of a class that isn't there a field, a method, and a method of an interface
-missing_told : map tell (instrs.Member 178 14 ∷ instrs.Member 181 14 ∷ instrs.Member 182 15 ∷ instrs.Member 184 15 ∷ instrs.Member 183 16 ∷ [])
+missing_reported : map say (instrs.Member 178 14 ∷ instrs.Member 181 14 ∷ instrs.Member 182 15 ∷ instrs.Member 184 15 ∷ instrs.Member 183 16 ∷ [])
     ≡ operands.Unresolved ∷ operands.Unresolved ∷ operands.Unresolved ∷ operands.Unresolved ∷ operands.Unresolved ∷ []
 unfolding image source class_a class_of_source field_x field_y method_m pool operand_of instruction_of named_by all_methods all_fields resolve_method resolve_field most_classes chain_of interfaces_from interfaces_above field_order desc_in type_in dims_read name_read class_read of_read type_read params_read field_read return_read method_read desc_read reads_class_name
-missing_told = refl
+missing_reported = refl
 
 -- new, checkcast and instanceof of a class and of an array, and anewarray of a class, of which the arrays have a number, and of an array, of which they have none
-classes_told : map tell (instrs.Class 187 2 ∷ instrs.Class 192 2 ∷ instrs.Class 193 2 ∷ instrs.Class 193 25 ∷ instrs.Class 189 2 ∷ instrs.Class 189 25 ∷ [])
+classes_reported : map say (instrs.Class 187 2 ∷ instrs.Class 192 2 ∷ instrs.Class 193 2 ∷ instrs.Class 193 25 ∷ instrs.Class 189 2 ∷ instrs.Class 189 25 ∷ [])
     ≡ operands.Class 0 ∷ operands.Class 0 ∷ operands.Class 0 ∷ operands.Class 1 ∷ operands.Class 1 ∷ operands.Unresolved ∷ []
 unfolding image source class_a class_of_source field_x field_y method_m pool operand_of instruction_of named_by desc_in type_in dims_read name_read class_read of_read type_read params_read field_read return_read method_read desc_read reads_class_name
-classes_told = refl
+classes_reported = refl
 
 -- multianewarray of an array, of a class that isn't there, and of a field; and the others of a class that isn't there, of a field and of an int
-no_classes_told : map tell (instrs.Multi 25 1 ∷ instrs.Multi 13 1 ∷ instrs.Multi 6 1 ∷ instrs.Class 187 13 ∷ instrs.Class 189 13 ∷ instrs.Class 192 6 ∷ instrs.Class 193 17 ∷ instrs.Class 189 10 ∷ [])
+no_classes_reported : map say (instrs.Multi 25 1 ∷ instrs.Multi 13 1 ∷ instrs.Multi 6 1 ∷ instrs.Class 187 13 ∷ instrs.Class 189 13 ∷ instrs.Class 192 6 ∷ instrs.Class 193 17 ∷ instrs.Class 189 10 ∷ [])
     ≡ operands.Class 1 ∷ operands.Unresolved ∷ operands.Unresolved ∷ operands.Unresolved ∷ operands.Unresolved ∷ operands.Unresolved ∷ operands.Unresolved ∷ operands.Unresolved ∷ []
 unfolding image source class_a class_of_source field_x field_y method_m pool operand_of instruction_of named_by desc_in type_in dims_read name_read class_read of_read type_read params_read field_read return_read method_read desc_read reads_class_name
-no_classes_told = refl
+no_classes_reported = refl
 
 -- an int, a text, a text without a number, a class, a class that isn't there, and a long
 abbrev constants : List ℕ
 constants = 17 ∷ 19 ∷ 21 ∷ 2 ∷ 13 ∷ 22 ∷ []
 
-literals_told : map (λ (op : ℕ). map (λ (index : ℕ). tell (instrs.Literal op index)) constants) (18 ∷ 19 ∷ 20 ∷ [])
+literals_reported : map (λ (op : ℕ). map (λ (index : ℕ). say (instrs.Literal op index)) constants) (18 ∷ 19 ∷ 20 ∷ [])
     ≡ (operands.Int (pos 7) ∷ operands.Text 0 ∷ operands.Unresolved ∷ operands.Class 0 ∷ operands.Unresolved ∷ operands.Unresolved ∷ [])
     ∷ (operands.Int (pos 7) ∷ operands.Text 0 ∷ operands.Unresolved ∷ operands.Class 0 ∷ operands.Unresolved ∷ operands.Unresolved ∷ [])
     ∷ (operands.Unresolved ∷ operands.Unresolved ∷ operands.Unresolved ∷ operands.Unresolved ∷ operands.Unresolved ∷ operands.Long (pos 9) ∷ [])
     ∷ []
 unfolding image source class_a class_of_source field_x field_y method_m pool operand_of instruction_of named_by units_in units_read unit_read long_read two_read desc_in type_in dims_read name_read class_read of_read type_read params_read field_read return_read method_read desc_read reads_class_name
-literals_told = refl
+literals_reported = refl
 
 -- what anewarray makes of a class, of an array, of a class that isn't there, and of a field
-made_told : map (λ (index : ℕ). made_class image (named_at pool index)) (2 ∷ 25 ∷ 13 ∷ 6 ∷ []) ≡ Some 1 ∷ None ∷ None ∷ None ∷ []
+made_reported : map (λ (index : ℕ). made_class image (named_at pool index)) (2 ∷ 25 ∷ 13 ∷ 6 ∷ []) ≡ Some 1 ∷ None ∷ None ∷ None ∷ []
 unfolding image source class_a class_of_source field_x field_y method_m pool named_by desc_in type_in dims_read name_read class_read of_read type_read params_read field_read return_read method_read desc_read reads_class_name
-made_told = refl
+made_reported = refl
 
 -- ---- constants of fields
 
@@ -304,9 +304,9 @@ found_y : FoundField
 found_y = record { class = codes "A"; field = record field_y { constant = Some (programs.Int (pos 6)) } }
 
 -- of an instance field as of a static one
-constants_told : IsConstantAt image 0 (operands.Int (pos 5)) × IsConstantAt image 1 (operands.Int (pos 6))
+constants_reported : IsConstantAt image 0 (operands.Int (pos 5)) × IsConstantAt image 1 (operands.Int (pos 6))
 unfolding image source class_a class_of_source field_x field_y all_fields found_x found_y
-constants_told = (record { found = found_x; there = refl; is = refl }, record { found = found_y; there = refl; is = refl })
+constants_reported = (record { found = found_x; there = refl; is = refl }, record { found = found_y; there = refl; is = refl })
 
 abbrev found_constant : Option FoundField → Option programs.Constant
 found_constant None = None
@@ -314,16 +314,16 @@ found_constant (Some found) = found.field.constant
 
 x_constant : (operand : Operand) → IsConstantAt image 0 operand → operand ≡ operands.Int (pos 5)
 unfolding image source class_a class_of_source field_x field_y all_fields
-x_constant operand told =
-    let same : Some (programs.Int (pos 5)) ≡ told.found.field.constant = ap found_constant told.there in
-    told.is ∙ sym (ap (value_operand image) same)
+x_constant operand reported =
+    let same : Some (programs.Int (pos 5)) ≡ reported.found.field.constant = ap found_constant reported.there in
+    reported.is ∙ sym (ap (value_operand image) same)
 
 -- not as nothing, nor that of the other field
 not_nothing : IsConstantAt image 0 operands.Nothing → ⊥
-not_nothing told = let e : operands.Nothing ≡ operands.Int (pos 5) = x_constant operands.Nothing told in absurd cc
+not_nothing reported = let e : operands.Nothing ≡ operands.Int (pos 5) = x_constant operands.Nothing reported in absurd cc
 
 not_of_y : IsConstantAt image 0 (operands.Int (pos 6)) → ⊥
-not_of_y told = let e : operands.Int (pos 6) ≡ operands.Int (pos 5) = x_constant (operands.Int (pos 6)) told in absurd cc
+not_of_y reported = let e : operands.Int (pos 6) ≡ operands.Int (pos 5) = x_constant (operands.Int (pos 6)) reported in absurd cc
 
 -- JVMS 4.7.2: that of an instance field sets nothing where its class is initialised, and that of a static one sets its place
 instance_ignored : (terms : Terms) (s : State) → with_constants (program_of image) [] terms (codes "A") (found_x.field ∷ []) s ≡ Ready s
@@ -351,7 +351,7 @@ static_not_ignored terms s empty e =
 -- past the last field there is none
 no_third : (operand : Operand) → IsConstantAt image 2 operand → ⊥
 unfolding image source class_a class_of_source field_x field_y all_fields
-no_third operand told = none-some told.found told.there
+no_third operand reported = none-some reported.found reported.there
 
 -- ---- rows
 
@@ -385,26 +385,26 @@ unfolding pool named_by desc_in type_in dims_read name_read class_read of_read t
 rows_name = refl
 
 -- what is reported of a row is what its index names
-row_told : (range : ℕ) (row : Protected) (class : Option ℕ) → slice_get ranges range ≡ Some row → IsCaughtAt image 0 range class → class ≡ option_and_then (named_class image) (catches_in pool row.catch_type)
+row_reported : (range : ℕ) (row : Protected) (class : Option ℕ) → slice_get ranges range ≡ Some row → IsCaughtAt image 0 range class → class ≡ option_and_then (named_class image) (catches_in pool row.catch_type)
 unfolding image source all_codes parts
-row_told range row class stands told =
-    let e : Some (record { pool = pool; parts = parts }) ≡ Some told.code = told.own in
-    let same : told.code ≡ record { pool = pool; parts = parts } = cc in
-    let other : slice_get ranges range ≡ Some told.row = subst (λ (c : PooledCode). slice_get c.parts.labelled.ranges range ≡ Some told.row) same told.stands in
-    let one : told.row ≡ row = cc in
-    told.is
-    ∙ ap (λ (c : PooledCode). option_and_then (named_class image) (catches_in c.pool told.row.catch_type)) same
+row_reported range row class stands reported =
+    let e : Some (record { pool = pool; parts = parts }) ≡ Some reported.code = reported.own in
+    let same : reported.code ≡ record { pool = pool; parts = parts } = cc in
+    let other : slice_get ranges range ≡ Some reported.row = subst (λ (c : PooledCode). slice_get c.parts.labelled.ranges range ≡ Some reported.row) same reported.stands in
+    let one : reported.row ≡ row = cc in
+    reported.is
+    ∙ ap (λ (c : PooledCode). option_and_then (named_class image) (catches_in c.pool reported.row.catch_type)) same
     ∙ ap (λ (r : Protected). option_and_then (named_class image) (catches_in pool r.catch_type)) one
 
 -- a row with a field's index names a class, and one of what isn't there names none
 field_not_left_out : IsCaughtAt image 0 2 None → ⊥
 unfolding image source class_a class_of_source pool ranges named_by desc_in type_in dims_read name_read class_read of_read type_read params_read field_read return_read method_read desc_read reads_class_name
-field_not_left_out told = let e : None ≡ Some 0 = row_told 2 (row_of 6) None refl told in none-some 0 e
+field_not_left_out reported = let e : None ≡ Some 0 = row_reported 2 (row_of 6) None refl reported in none-some 0 e
 
 missing_not_caught : IsCaughtAt image 0 5 (Some 0) → ⊥
 unfolding image source class_a class_of_source pool ranges named_by desc_in type_in dims_read name_read class_read of_read type_read params_read field_read return_read method_read desc_read reads_class_name
-missing_not_caught told = let e : Some 0 ≡ None = row_told 5 (row_of 14) (Some 0) refl told in none-some 0 (sym e)
+missing_not_caught reported = let e : Some 0 ≡ None = row_reported 5 (row_of 14) (Some 0) refl reported in none-some 0 (sym e)
 
 int_not_caught : IsCaughtAt image 0 6 (Some 0) → ⊥
 unfolding image source class_a class_of_source pool ranges named_by desc_in type_in dims_read name_read class_read of_read type_read params_read field_read return_read method_read desc_read reads_class_name
-int_not_caught told = let e : Some 0 ≡ None = row_told 6 (row_of 17) (Some 0) refl told in none-some 0 (sym e)
+int_not_caught reported = let e : Some 0 ≡ None = row_reported 6 (row_of 17) (Some 0) refl reported in none-some 0 (sym e)

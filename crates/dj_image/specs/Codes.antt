@@ -78,14 +78,14 @@ pub record IsConstantAt (imaged : Imaged) (field : ℕ) (operand : Operand) : Ty
   pub is : operand ≡ value_operand imaged found.field.constant
 
 -- the body that is borrowed is this one
-abbrev pub TellsBody : Imaged → ℕ → Body → bodies.Body → Type 0
-TellsBody imaged method Abstract variants.Abstract = ⊤
-TellsBody imaged method (Native id) (variants.Native told) = told ≡ id
-TellsBody imaged method (Runs code) (variants.Code told) =
-    (pool : List Constant) × (code_at imaged method ≡ Some (record { pool = pool; parts = parts_of told.now })) × (code ≡ code_in pool (parts_of told.now))
-TellsBody imaged method body told = ⊥
+abbrev pub SaysBody : Imaged → ℕ → Body → bodies.Body → Type 0
+SaysBody imaged method Abstract variants.Abstract = ⊤
+SaysBody imaged method (Native id) (variants.Native reported) = reported ≡ id
+SaysBody imaged method (Runs code) (variants.Code reported) =
+    (pool : List Constant) × (code_at imaged method ≡ Some (record { pool = pool; parts = parts_of reported.now })) × (code ≡ code_in pool (parts_of reported.now))
+SaysBody imaged method body reported = ⊥
 
-pub record IsBodyAt (imaged : Imaged) (method : ℕ) (told : bodies.Body) : Type 0 where
+pub record IsBodyAt (imaged : Imaged) (method : ℕ) (reported : bodies.Body) : Type 0 where
   pub found : FoundMethod
   pub there : slice_get (all_methods (program_of imaged)) method ≡ Some found
-  pub tells : TellsBody imaged method found.method.body told
+  pub says : SaysBody imaged method found.method.body reported

@@ -19,12 +19,12 @@ abbrev pub text_at_index : List (List ℕ) → List Constant → ℕ → Operand
 text_at_index texts pool index = text_operand (units_number texts (units_in (name_in pool index)))
 
 -- the constant with which a field begins
-abbrev pub value_told : List (List ℕ) → List Constant → Option FieldValue → Operand
-value_told texts pool None = operands.Nothing
-value_told texts pool (Some (values.Int z)) = operands.Int z
-value_told texts pool (Some (values.Long z)) = operands.Long z
-value_told texts pool (Some (values.Text index)) = text_at_index texts pool index
-value_told texts pool (Some values.Unfit) = operands.Unresolved
+abbrev pub value_reported : List (List ℕ) → List Constant → Option FieldValue → Operand
+value_reported texts pool None = operands.Nothing
+value_reported texts pool (Some (values.Int z)) = operands.Int z
+value_reported texts pool (Some (values.Long z)) = operands.Long z
+value_reported texts pool (Some (values.Text index)) = text_at_index texts pool index
+value_reported texts pool (Some values.Unfit) = operands.Unresolved
 
 pub record AreOfClass (imaged : Imaged) (class : ClassParts) (tables : ClassTables) : Type 0 where
   pub operands_are : IsOperandTable imaged class.pool tables.operands.items

@@ -31,12 +31,12 @@ IsDescribed (Some names) = IsDescriptor names.1
 
 -- ---- members
 
-abbrev pub method_told : Typed → Option ℕ → Option (List ℕ × List ℕ) → Option ℕ
-method_told types home names =
+abbrev pub method_reported : Typed → Option ℕ → Option (List ℕ × List ℕ) → Option ℕ
+method_reported types home names =
     option_and_then (λ (n : List ℕ × List ℕ). option_and_then (λ (k : ℕ). found_method_number types.program (resolved_method types k n.0 n.1)) home) names
 
-abbrev pub field_told : Typed → Option ℕ → Option (List ℕ × List ℕ) → Option ℕ
-field_told types home names =
+abbrev pub field_reported : Typed → Option ℕ → Option (List ℕ × List ℕ) → Option ℕ
+field_reported types home names =
     option_and_then (λ (n : List ℕ × List ℕ). option_and_then (λ (k : ℕ). found_field_number types.program (resolved_field types k n.0 n.1)) home) names
 
 -- ---- operands
@@ -46,9 +46,9 @@ constant_operand types pool texts classes object (Integer n) = operands.Int n
 constant_operand types pool texts classes object (Long n) = operands.Long n
 constant_operand types pool texts classes object (Text text) = text_operand (get_or texts text None)
 constant_operand types pool texts classes object (Class text) = class_operand (get_or classes text None)
-constant_operand types pool texts classes object (Field class names) = field_operand (field_told types (kept_home pool classes object class) (name_and_type_at pool names))
-constant_operand types pool texts classes object (Method class names) = method_operand (method_told types (kept_home pool classes object class) (name_and_type_at pool names))
-constant_operand types pool texts classes object (InterfaceMethod class names) = method_operand (method_told types (kept_home pool classes object class) (name_and_type_at pool names))
+constant_operand types pool texts classes object (Field class names) = field_operand (field_reported types (kept_home pool classes object class) (name_and_type_at pool names))
+constant_operand types pool texts classes object (Method class names) = method_operand (method_reported types (kept_home pool classes object class) (name_and_type_at pool names))
+constant_operand types pool texts classes object (InterfaceMethod class names) = method_operand (method_reported types (kept_home pool classes object class) (name_and_type_at pool names))
 constant_operand types pool texts classes object k = operands.Unresolved
 
 abbrev pub operand_if : Typed → List Constant → List (Option ℕ) → List (Option ℕ) → Option ℕ → Option Constant → Operand

@@ -3,7 +3,7 @@ ghost use Rattle.std.specs.Option.{option_map};
 ghost use Rattle.dj_pool.specs.trusted.Pool.{IsPool, IsLinked, name_and_type_at};
 ghost use Rattle.dj_types.specs.Members.{number_of_method, number_of_field, found_method_number, found_field_number, resolved_method, resolved_field};
 ghost use Rattle.dj_types.specs.Named.{IsDirectoryOf, IsNumbered};
-ghost use Rattle.dj_image.specs.Homes.{kept_home, IsHome, AreHomes, IsDescribed, method_told, field_told, constant_operand, operand_at};
+ghost use Rattle.dj_image.specs.Homes.{kept_home, IsHome, AreHomes, IsDescribed, method_reported, field_reported, constant_operand, operand_at};
 ghost use Rattle.dj_image.specs.Indexed.{Holds};
 ghost use Rattle.dj_image.specs.NameNumbers.{AreNumbersBy};
 ghost use Rattle.dj_image.specs.Operands.{class_operand, text_operand, method_operand, field_operand};
@@ -63,7 +63,7 @@ fn method_of(
     requires numbers { AreNumbersBy directory pool.now numbers.now }
     requires there { IsHome types.now home }
     requires described { IsDescribed (name_and_type_at pool.now names) }
-    ensures { option_map number_of_method result ≡ method_told types.now home (name_and_type_at pool.now names) }
+    ensures { option_map number_of_method result ≡ method_reported types.now home (name_and_type_at pool.now names) }
 {
     let named = member_name(pool, numbers, names)?;
     method_in(types, directory, home, named)
@@ -95,7 +95,7 @@ fn field_of(
     requires numbers { AreNumbersBy directory pool.now numbers.now }
     requires there { IsHome types.now home }
     requires described { IsDescribed (name_and_type_at pool.now names) }
-    ensures { option_map number_of_field result ≡ field_told types.now home (name_and_type_at pool.now names) }
+    ensures { option_map number_of_field result ≡ field_reported types.now home (name_and_type_at pool.now names) }
 {
     let named = member_name(pool, numbers, names)?;
     field_in(types, directory, home, named)

@@ -5,7 +5,7 @@ ghost use Rattle.dj_classes.specs.Tables.{class_number};
 ghost use Rattle.dj_types.specs.Named.{IsDirectoryOf};
 ghost use Rattle.dj_types.specs.Typed.{AreArrays};
 ghost use Rattle.dj_image.specs.declared.parts.ClassParts.{ClassParts};
-ghost use Rattle.dj_image.specs.Gathered.{text_at_index, value_told, AreOfClass, AreOfClasses};
+ghost use Rattle.dj_image.specs.Gathered.{text_at_index, value_reported, AreOfClass, AreOfClasses};
 ghost use Rattle.dj_image.specs.Indexed.{Holds, text_place};
 ghost use Rattle.dj_image.specs.Parts.{FitClasses};
 ghost use Rattle.dj_image.specs.Tables.{imaged_of};
@@ -55,7 +55,7 @@ fn value_operand(
     places: &[Option<u32>],
     value: &Option<FieldValue>,
 ) -> Result<Operand, ImageError>
-    ensures { (texts : List (List ℕ)) → Holds (text_place texts pool.now) (length pool.now + 1) places.now → IfOk result (λ operand. operand ≡ value_told texts pool.now value.now) }
+    ensures { (texts : List (List ℕ)) → Holds (text_place texts pool.now) (length pool.now + 1) places.now → IfOk result (λ operand. operand ≡ value_reported texts pool.now value.now) }
 {
     match value {
         None => Ok(Operand::Nothing),
@@ -72,7 +72,7 @@ fn constant_table(
     places: &[Option<u32>],
     values: &[Option<FieldValue>],
 ) -> Result<Vec<Operand>, ImageError>
-    ensures { (texts : List (List ℕ)) → Holds (text_place texts pool.now) (length pool.now + 1) places.now → IfOk result (λ kept. kept.items ≡ map (value_told texts pool.now) values.now) }
+    ensures { (texts : List (List ℕ)) → Holds (text_place texts pool.now) (length pool.now + 1) places.now → IfOk result (λ kept. kept.items ≡ map (value_reported texts pool.now) values.now) }
 {
     let mut kept = Vec::new(alloc);
     for value in values {

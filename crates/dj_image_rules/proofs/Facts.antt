@@ -24,7 +24,7 @@ use Rattle.dj_shape.specs.declared.judge.ShapeFault.{ShapeFault}
 use Rattle.dj_image.specs.Sources.{class_of_source}
 use Rattle.dj_image.specs.Imaged.{Imaged, program_of}
 use Rattle.dj_image_rules.specs.Rules.{HasKinds, IsPathOf, IsShapeLine}
-use Rattle.dj_image_rules.specs.Told.{IsLineOf}
+use Rattle.dj_image_rules.specs.Reported.{IsLineOf}
 
 -- ---- the path of a class
 
@@ -43,20 +43,20 @@ not_otherwise =
 
 -- ---- the line that reports a method
 
-abbrev told_line : List ℕ → ℕ → ℕ → Violation
-told_line member number rule = record { path = codes "p/B.class"; member = member; number = Some number; rule = rule }
+abbrev reported_line : List ℕ → ℕ → ℕ → Violation
+reported_line member number rule = record { path = codes "p/B.class"; member = member; number = Some number; rule = rule }
 
 module _ (m : MemberOf) (name : m.name.now ≡ codes "m") (desc : m.desc.now ≡ codes "(J)V") (fault : ShapeFault) (fails : fault.number ≡ Some 2) where
-  line : IsLineOf (codes "p/B") m fault (told_line (codes "m(J)V") 2 19)
+  line : IsLineOf (codes "p/B") m fault (reported_line (codes "m(J)V") 2 19)
   line = record { path = path_of_b; member_is = sym (ap (λ (n : List ℕ). n ++ m.desc.now) name ∙ ap (λ (d : List ℕ). codes "m" ++ d) desc); number = sym fails; rule = refl }
 
-  not_of_18 : IsLineOf (codes "p/B") m fault (told_line (codes "m(J)V") 2 18) → ⊥
+  not_of_18 : IsLineOf (codes "p/B") m fault (reported_line (codes "m(J)V") 2 18) → ⊥
   not_of_18 is = (let e = is.rule in omega (arith, e))
 
-  not_turned : IsLineOf (codes "p/B") m fault (told_line (codes "(J)Vm") 2 19) → ⊥
+  not_turned : IsLineOf (codes "p/B") m fault (reported_line (codes "(J)Vm") 2 19) → ⊥
   not_turned is = omega (arith, same_Some 40 109 (ap (λ (t : List ℕ). slice_get t 0) (is.member_is ∙ ap (λ (n : List ℕ). n ++ m.desc.now) name)))
 
-  not_at_3 : IsLineOf (codes "p/B") m fault (told_line (codes "m(J)V") 3 19) → ⊥
+  not_at_3 : IsLineOf (codes "p/B") m fault (reported_line (codes "m(J)V") 3 19) → ⊥
   not_at_3 is = omega (arith, same_Some 3 2 (is.number ∙ fails))
 
 -- ---- the line of a method of an image
@@ -97,7 +97,7 @@ first_found : (found : FoundMethod) → slice_get (all_methods (program_of image
 unfolding all_methods class_of_source
 first_found found there = same_Some (found_of of_long) found there
 
-shape_line : IsShapeLine imaged 0 (told_line (codes "m(J)V") 0 19)
+shape_line : IsShapeLine imaged 0 (reported_line (codes "m(J)V") 0 19)
 unfolding all_methods class_of_source
 shape_line = record {
   found = found_of of_long;
@@ -114,16 +114,16 @@ shape_line = record {
   rule = refl;
 }
 
-no_shape_line_of_18 : IsShapeLine imaged 0 (told_line (codes "m(J)V") 0 18) → ⊥
+no_shape_line_of_18 : IsShapeLine imaged 0 (reported_line (codes "m(J)V") 0 18) → ⊥
 no_shape_line_of_18 is = (let e = is.rule in omega (arith, e))
 
-no_shape_line_turned : IsShapeLine imaged 0 (told_line (codes "(J)Vm") 0 19) → ⊥
+no_shape_line_turned : IsShapeLine imaged 0 (reported_line (codes "(J)Vm") 0 19) → ⊥
 no_shape_line_turned is =
     let named = ap (λ (f : FoundMethod). f.method.name ++ is.desc) (sym (first_found is.found is.there)) in
     omega (arith, same_Some 40 109 (ap (λ (t : List ℕ). slice_get t 0) (is.member ∙ named)))
 
 -- parameters that don't fit are reported at the first instruction
-no_shape_line_at_1 : IsShapeLine imaged 0 (told_line (codes "m(J)V") 1 19) → ⊥
+no_shape_line_at_1 : IsShapeLine imaged 0 (reported_line (codes "m(J)V") 1 19) → ⊥
 no_shape_line_at_1 is =
     let found = first_found is.found is.there in
     let code : Some cramped ≡ Some is.code = ap (λ (f : FoundMethod). code_of f.method.body) found ∙ ap code_of is.runs in

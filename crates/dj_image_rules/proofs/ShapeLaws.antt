@@ -31,14 +31,14 @@ use Rattle.dj_image.specs.Imaged.{Imaged, program_of, typed_of}
 use Rattle.dj_image.specs.Shaped.{AreShapeParts}
 use Rattle.dj_image.specs.declared.shaped.ShapeParts.{ShapeParts}
 use Rattle.dj_image_rules.specs.Rules.{HasKinds, IsSpelled, IsPathOf, IsShapeLine, HasShapeAt}
-use Rattle.dj_image_rules.specs.Told.{IsLineOf, IsLineIn}
+use Rattle.dj_image_rules.specs.Reported.{IsLineOf, IsLineIn}
 
 -- ---- names of classes
 
-front : {A : Type 0} (xs ys : List A) (k : ℕ) → k < length xs → slice_get (xs ++ ys) k ≡ slice_get xs k
-front [] ys k lt = absurd (omega (arith, lt))
-front (x ∷ xs) ys zero lt = refl
-front (x ∷ xs) ys (suc k) lt = front xs ys k (omega (arith, lt))
+prefix : {A : Type 0} (xs ys : List A) (k : ℕ) → k < length xs → slice_get (xs ++ ys) k ≡ slice_get xs k
+prefix [] ys k lt = absurd (omega (arith, lt))
+prefix (x ∷ xs) ys zero lt = refl
+prefix (x ∷ xs) ys (suc k) lt = prefix xs ys k (omega (arith, lt))
 
 pub type_within : (imaged : Imaged) (class : ℕ) → class < length (program_of imaged) → class < length (types_of (typed_of imaged))
 type_within imaged class lt =
@@ -52,7 +52,7 @@ pub named_there : (imaged : Imaged) (class : ℕ) (name : Name) → class < leng
 named_there imaged class name lt e =
     let program = program_of imaged in
     let long = length-map program name_of in
-    sym (slice_get-map name_of program class) ∙ sym (front (map name_of program) (map type_text imaged.arrays) class (omega (arith, lt, long))) ∙ e
+    sym (slice_get-map name_of program class) ∙ sym (prefix (map name_of program) (map type_text imaged.arrays) class (omega (arith, lt, long))) ∙ e
 
 -- ---- what is known of a method
 
@@ -70,14 +70,14 @@ IsAnswer flags parts fault =
     (pool : List Constant) (signature : Signature) → ArePoolKinds pool parts.kinds.now → IsDescriptor (name_in pool parts.desc)
     → signature_at pool (is_static flags) parts.desc ≡ Some signature → IsShapeAnswer signature (code_in pool (parts_of parts.code.now)) fault
 
-module _ (imaged : Imaged) (method : ℕ) (m : MemberOf) (told : IsMethodThere (typed_of imaged) method m) (parts : ShapeParts) (are : AreShapeParts imaged method parts) where
-  same : told.found ≡ are.found
-  same = same_Some told.found are.found (sym told.there ∙ are.there)
+module _ (imaged : Imaged) (method : ℕ) (m : MemberOf) (reported : IsMethodThere (typed_of imaged) method m) (parts : ShapeParts) (are : AreShapeParts imaged method parts) where
+  same : reported.found ≡ are.found
+  same = same_Some reported.found are.found (sym reported.there ∙ are.there)
 
   signature_is : signature_at are.pool (is_static m.flags) parts.desc ≡ signature_of (is_static are.found.method.flags) are.found.method.desc
   signature_is =
       ap (λ (d : Desc). signature_of (is_static m.flags) d) are.desc.is
-      ∙ ap (λ (flags : ℕ). signature_of (is_static flags) are.found.method.desc) (told.flags ∙ ap (λ (f : FoundMethod). f.method.flags) same)
+      ∙ ap (λ (flags : ℕ). signature_of (is_static flags) are.found.method.desc) (reported.flags ∙ ap (λ (f : FoundMethod). f.method.flags) same)
 
   pub shaped : IsAnswer m.flags parts None → HasShapeAt imaged method
   shaped answer found code signature there runs described =
@@ -88,7 +88,7 @@ module _ (imaged : Imaged) (method : ℕ) (m : MemberOf) (told : IsMethodThere (
       subst (HasShape signature) (same_Some (code_in are.pool (parts_of parts.code.now)) code (ap code_of body)) (answer are.pool signature are.kinds are.desc.spelled signs)
 
   own_class : (class : Name) → name_at (program_of imaged) m.class ≡ Some class → class ≡ are.found.class
-  own_class class named = same_Some class are.found.class (sym named ∙ told.class ∙ ap (λ (f : FoundMethod). Some f.class) same)
+  own_class class named = same_Some class are.found.class (sym named ∙ reported.class ∙ ap (λ (f : FoundMethod). Some f.class) same)
 
   pub spelled_class : IsSpelled imaged method → (class : Name) → name_at (program_of imaged) m.class ≡ Some class → (units : List ℕ) × SpellsUnits class units
   spelled_class spelled class named =
@@ -110,8 +110,8 @@ module _ (imaged : Imaged) (method : ℕ) (m : MemberOf) (told : IsMethodThere (
             (answer are.pool signature.0 are.kinds are.desc.spelled (signature_is ∙ signature.1));
         path = subst (λ (c : Name). IsPathOf v.path c) (own_class class named) is.path;
         desc = m.desc.now;
-        spelled = subst (λ (f : FoundMethod). Describes m.desc.now f.method.desc) same told.desc;
-        member = is.member_is ∙ ap (λ (n : Name). n ++ m.desc.now) (told.name ∙ ap (λ (f : FoundMethod). f.method.name) same);
+        spelled = subst (λ (f : FoundMethod). Describes m.desc.now f.method.desc) same reported.desc;
+        member = is.member_is ∙ ap (λ (n : Name). n ++ m.desc.now) (reported.name ∙ ap (λ (f : FoundMethod). f.method.name) same);
         rule = is.rule;
       }
 
@@ -119,7 +119,7 @@ module _ (imaged : Imaged) (method : ℕ) (m : MemberOf) (told : IsMethodThere (
   line kinds fault answer v is = line_of kinds fault answer is.class is.named v is.line
 
 pub class_there : (imaged : Imaged) (method : ℕ) (m : MemberOf) → IsMethodThere (typed_of imaged) method m → m.class < length (program_of imaged)
-class_there imaged method m told =
-    let there = slice_get_within (map name_of (program_of imaged)) m.class told.found.class (slice_get-map name_of (program_of imaged) m.class ∙ told.class) in
+class_there imaged method m reported =
+    let there = slice_get_within (map name_of (program_of imaged)) m.class reported.found.class (slice_get-map name_of (program_of imaged) m.class ∙ reported.class) in
     let long = length-map (program_of imaged) name_of in
     omega (arith, there, long)

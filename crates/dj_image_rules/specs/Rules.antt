@@ -61,6 +61,6 @@ HasShapeAt imaged method =
     (found : FoundMethod) (code : Code) (signature : Signature) → IsMethodOf imaged method found → found.method.body ≡ Runs code
     → signature_of (is_static found.method.flags) found.method.desc ≡ Some signature → HasShape signature code
 
-abbrev pub IsShapeTold : Imaged → ℕ → Option Violation → Type 0
-IsShapeTold imaged method None = HasShapeAt imaged method
-IsShapeTold imaged method (Some v) = IsShapeLine imaged method v
+abbrev pub IsShapeReported : Imaged → ℕ → Option Violation → Type 0
+IsShapeReported imaged method None = HasShapeAt imaged method
+IsShapeReported imaged method (Some v) = IsShapeLine imaged method v

@@ -1,6 +1,6 @@
 ghost use Rattle.std.specs.Prelude.{◌≡◌, ◌++◌, ℕ, List, IfOk};
 ghost use Rattle.dj_names.specs.trusted.ModifiedUtf8.{SpellsUnits};
-ghost use Rattle.dj_image_rules.specs.Told.{IsLineOf};
+ghost use Rattle.dj_image_rules.specs.Reported.{IsLineOf};
 
 use crate::paths::{class_path, joined};
 use dj_image::MemberOf;

@@ -9,10 +9,10 @@ use dj_shape::ShapeError;
 use std::alloc::Global;
 
 // The two one after the other.
-pub fn joined(alloc: Global, front: &[u8], back: &[u8]) -> Result<Name, NoMemory>
-    ensures { IfOk result (λ text. text ≡ front.now ++ back.now) }
+pub fn joined(alloc: Global, prefix: &[u8], back: &[u8]) -> Result<Name, NoMemory>
+    ensures { IfOk result (λ text. text ≡ prefix.now ++ back.now) }
 {
-    let mut text = Name::from_slice(alloc, front)?;
+    let mut text = Name::from_slice(alloc, prefix)?;
     text.extend(back)?;
     Ok(text)
 }

@@ -14,8 +14,8 @@ ghost use Rattle.dj_classes.specs.Tables.{name_at};
 ghost use Rattle.dj_types.specs.Members.{all_methods};
 ghost use Rattle.dj_image.specs.Imaged.{program_of};
 ghost use Rattle.dj_image.specs.Shaped.{AreShapeParts};
-ghost use Rattle.dj_image_rules.specs.Rules.{HasKinds, IsSpelled, IsShapeTold};
-ghost use Rattle.dj_image_rules.specs.Told.{IsLineIn};
+ghost use Rattle.dj_image_rules.specs.Rules.{HasKinds, IsSpelled, IsShapeReported};
+ghost use Rattle.dj_image_rules.specs.Reported.{IsLineIn};
 
 use crate::lines::shape_line;
 use dj_image::{Image, MemberOf, MethodId, ShapeParts};
@@ -74,7 +74,7 @@ fn shape_of(
     requires kinds { HasKinds image.now method.number }
     requires spelled { IsSpelled image.now method.number }
     requires parts { AreShapeParts image.now method.number parts.now }
-    ensures { IfOk result (IsShapeTold image.now method.number) }
+    ensures { IfOk result (IsShapeReported image.now method.number) }
 {
     let member = image.method(method);
     match fault_of(alloc, member.flags, parts)? {
@@ -92,7 +92,7 @@ pub fn shape(
     requires there { method.number < length (all_methods (program_of image.now)) }
     requires kinds { HasKinds image.now method.number }
     requires spelled { IsSpelled image.now method.number }
-    ensures { IfOk result (IsShapeTold image.now method.number) }
+    ensures { IfOk result (IsShapeReported image.now method.number) }
 {
     match image.shape_parts(method) {
         None => Ok(None),

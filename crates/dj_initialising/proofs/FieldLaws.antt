@@ -28,13 +28,13 @@ use Rattle.dj_initialising.specs.declared.filled.Filled.TheVariants as filled
 use Rattle.dj_initialising.specs.Store.{Store, stored, IsStore, AreTexts, Leads, Fills, FillsConstant, FillsField, field_constant, constants_from, class_constants, all_constants}
 use Rattle.dj_initialising.proofs.Members.{found_field, field_of_number}
 use Rattle.dj_initialising.specs.Places.{Places, ArePlaces}
-use Rattle.dj_initialising.proofs.PlaceLaws.{place_told, place_within}
-use Rattle.dj_initialising.proofs.StoreLaws.{leads_on, leads_to_full, nothing_told, constant_is}
+use Rattle.dj_initialising.proofs.PlaceLaws.{place_reported, place_within}
+use Rattle.dj_initialising.proofs.StoreLaws.{leads_on, leads_to_full, nothing_reported, constant_is}
 
-front_or_rest : {A : Type 0} (xs ys : List A) (n : ℕ) (x : A) → slice_get (xs ++ ys) n ≡ Some x → (slice_get xs n ≡ Some x) ⊎ ((k : ℕ) × (slice_get ys k ≡ Some x))
-front_or_rest [] ys n x e = inr (n, e)
-front_or_rest (y ∷ xs) ys zero x e = inl e
-front_or_rest (y ∷ xs) ys (suc n) x e = front_or_rest xs ys n x e
+prefix_or_rest : {A : Type 0} (xs ys : List A) (n : ℕ) (x : A) → slice_get (xs ++ ys) n ≡ Some x → (slice_get xs n ≡ Some x) ⊎ ((k : ℕ) × (slice_get ys k ≡ Some x))
+prefix_or_rest [] ys n x e = inr (n, e)
+prefix_or_rest (y ∷ xs) ys zero x e = inl e
+prefix_or_rest (y ∷ xs) ys (suc n) x e = prefix_or_rest xs ys n x e
 
 -- ---- a field by its number
 
@@ -45,14 +45,14 @@ pub record IsFieldOf (program : Program) (class at number : ℕ) : Type 0 where
   pub there : slice_get (all_fields program) number ≡ Some (record { class = class_name program class; field = field })
 
 -- what the number is, where there is one
-pub told_if : (at long first : ℕ) (number : Option ℕ) → number ≡ (if nat_lt at long then Some (first + at) else None) → (n : ℕ) → number ≡ Some n → (at < long) × (n ≡ first + at)
-told_if at long first number is n told = by (nat_lt at long) refl (sym told ∙ is) where
+pub reported_if : (at long first : ℕ) (number : Option ℕ) → number ≡ (if nat_lt at long then Some (first + at) else None) → (n : ℕ) → number ≡ Some n → (at < long) × (n ≡ first + at)
+reported_if at long first number is n reported = by (nat_lt at long) refl (sym reported ∙ is) where
   by : (b : Bool) → nat_lt at long ≡ b → Some n ≡ (if b then Some (first + at) else None) → (at < long) × (n ≡ first + at)
   by true lt e = (ltb-true at long lt, same_Some n (first + at) e)
   by false lt e = absurd (none-some n (sym e))
 
-pub untold_if : (at long first : ℕ) (number : Option ℕ) → number ≡ (if nat_lt at long then Some (first + at) else None) → number ≡ None → long ≤ at
-untold_if at long first number is told = by (nat_lt at long) refl (sym told ∙ is) where
+pub unreported_if : (at long first : ℕ) (number : Option ℕ) → number ≡ (if nat_lt at long then Some (first + at) else None) → number ≡ None → long ≤ at
+unreported_if at long first number is reported = by (nat_lt at long) refl (sym reported ∙ is) where
   by : (b : Bool) → nat_lt at long ≡ b → None ≡ (if b then Some (first + at) else None) → long ≤ at
   by true lt e = absurd (none-some (first + at) e)
   by false lt e = ltb-false at long lt
@@ -77,17 +77,17 @@ within_program program class at lt = by (slice_get program class) refl lt where
   by None e lt = absurd (omega (arith, lt))
   by (Some c) e lt = slice_get_within program class c e
 
-pub field_told : (program : Program) (class at : ℕ) (number : Option ℕ) → number ≡ (if nat_lt at (length (fields_at program class)) then Some (fields_before program class + at) else None)
+pub field_reported : (program : Program) (class at : ℕ) (number : Option ℕ) → number ≡ (if nat_lt at (length (fields_at program class)) then Some (fields_before program class + at) else None)
     → (n : ℕ) → number ≡ Some n → IsFieldOf program class at n
-field_told program class at number is n told =
-    let parts = told_if at (length (fields_at program class)) (fields_before program class) number is n told in
+field_reported program class at number is n reported =
+    let parts = reported_if at (length (fields_at program class)) (fields_before program class) number is n reported in
     field_of program class at n (within_program program class at parts.0) parts.0 parts.1
 
 pub number_within : (program : Program) (class at n : ℕ) → IsFieldOf program class at n → n < length (all_fields program)
 number_within program class at n f = slice_get_within (all_fields program) n _ f.there
 
-pub same_flags : (imaged : Imaged) (class at n : ℕ) (told : MemberOf) (f : IsFieldOf (program_of imaged) class at n) → IsFieldThere (typed_of imaged) n told → told.flags ≡ f.field.flags
-same_flags imaged class at n told f there = there.flags ∙ ap (λ (x : FoundField). x.field.flags) (same_Some there.found _ (sym there.there ∙ f.there))
+pub same_flags : (imaged : Imaged) (class at n : ℕ) (reported : MemberOf) (f : IsFieldOf (program_of imaged) class at n) → IsFieldThere (typed_of imaged) n reported → reported.flags ≡ f.field.flags
+same_flags imaged class at n reported f there = there.flags ∙ ap (λ (x : FoundField). x.field.flags) (same_Some there.found _ (sym there.there ∙ f.there))
 
 -- ---- the constant of a field
 
@@ -106,7 +106,7 @@ value_of imaged field found units there begins = from (program_of imaged) field 
 
   from : (classes : Program) (n : ℕ) → slice_get (flat_map fields_in classes) n ≡ Some found → ((c : Class) → Contains classes c → Contains (program_of imaged) c) → IsValue (program_of imaged) units
   from [] n e all = absurd (none-some found e)
-  from (c ∷ classes) n e all = elim (front_or_rest (fields_in c) (flat_map fields_in classes) n found e) [
+  from (c ∷ classes) n e all = elim (prefix_or_rest (fields_in c) (flat_map fields_in classes) n found e) [
     | inl here ↦ record { class = c; there = all c (0, omega arith, refl); field = found.field; own = within c n here; begins = begins }
     | inr later ↦ from classes later.0 later.1 (λ d is. all d (suc is.0, omega (arith, is.1), is.2))
   ]
@@ -116,7 +116,7 @@ pub nothing_set : (imaged : Imaged) (field place : ℕ) (operand : Operand) (st 
     → ((z : ℤ) → operand ≡ operands.Int z → ⊥) → ((z : ℤ) → operand ≡ operands.Long z → ⊥) → ((text : ℕ) → operand ≡ operands.Text text → ⊥)
     → AreTexts imaged → IsStore imaged st → FillsConstant imaged place field st st filled.Done
 nothing_set imaged field place operand st at int long text texts are found there = record {
-  effect = λ terms s e. nothing_told imaged found operand (constant_is imaged field operand at found there) int long text (λ units begins. texts.there units (value_of imaged field found units there begins)) place terms (stored imaged st s);
+  effect = λ terms s e. nothing_reported imaged found operand (constant_is imaged field operand at found there) int long text (λ units begins. texts.there units (value_of imaged field found units there begins)) place terms (stored imaged st s);
   limit = refl;
   are = are;
   known = λ all. all;
@@ -129,7 +129,7 @@ pub static_filled : (imaged : Imaged) (places : Places) (field place : ℕ) (mem
 static_filled imaged places field place member before after result are there static is fills found at = record {
   effect = λ terms s e.
       ap (λ (b : Bool). if b then with_constant imaged.prefix terms (stored imaged before s) (place_of_static (program_of imaged) found) found.field.constant else Ready (stored imaged before s)) own
-      ∙ ap (λ (n : ℕ). with_constant imaged.prefix terms (stored imaged before s) n found.field.constant) (sym (place_told (program_of imaged) places field place found are at is))
+      ∙ ap (λ (n : ℕ). with_constant imaged.prefix terms (stored imaged before s) n found.field.constant) (sym (place_reported (program_of imaged) places field place found are at is))
       ∙ (fills found at).effect terms s e;
   limit = (fills found at).limit;
   are = (fills found at).are;

@@ -27,19 +27,19 @@ use Rattle.dj_types.specs.declared.types.MemberOf.{MemberOf}
 use Rattle.dj_types.proofs.Starts.{some_there}
 use Rattle.dj_program.specs.trusted.Codes as part_codes
 use Rattle.dj_program.specs.declared.code.MethodCode.{MethodCode}
-use Rattle.dj_image.specs.Codes.{TellsBody, IsBodyAt}
+use Rattle.dj_image.specs.Codes.{SaysBody, IsBodyAt}
 use Rattle.dj_image.specs.declared.image.Body.TheVariants as bodies
 use Rattle.dj_image.specs.Imaged.{Imaged, program_of, typed_of}
 use Rattle.dj_activations.specs.Activations.{declared_at, frame_seen, frames_seen, AreActivations}
 use Rattle.dj_activations.proofs.Numbers.{declared_there, method_of_number, initialiser_of_number}
-use Rattle.dj_activations.proofs.Told.{no_initialiser_told, initialiser_told}
+use Rattle.dj_activations.proofs.Reported.{no_initialiser_reported, initialiser_reported}
 use Rattle.dj_initialising.specs.declared.initialisers.Initialiser.{Initialiser}
 use Rattle.dj_initialising.specs.Waiting.{names_of}
 use Rattle.dj_initialising.specs.Initialisers.{AreInitialisers, IsInitialiser, IsInitialiserOf, RunsIt, RunsAt, initialiser_count, one_if, pushed, spells_initialiser, with_initialiser}
 use Rattle.dj_initialising.proofs.Members as members
 use Rattle.dj_initialising.proofs.Members.{found_method}
 use Rattle.dj_initialising.proofs.PlaceLaws.{names_differ}
-use Rattle.dj_initialising.proofs.FieldLaws.{told_if}
+use Rattle.dj_initialising.proofs.FieldLaws.{reported_if}
 
 -- ---- loops over classes
 
@@ -179,10 +179,10 @@ methods_within program class at lt = by (slice_get program class) refl lt where
   by None e lt = absurd (omega (arith, lt))
   by (Some c) e lt = slice_get_within program class c e
 
-pub method_told : (program : Program) (class at : ℕ) (number : Option ℕ) → number ≡ (if nat_lt at (length (methods_at program class)) then Some (methods_before program class + at) else None)
+pub method_reported : (program : Program) (class at : ℕ) (number : Option ℕ) → number ≡ (if nat_lt at (length (methods_at program class)) then Some (methods_before program class + at) else None)
     → (n : ℕ) → number ≡ Some n → IsMethodOf program class at n
-method_told program class at number is n told =
-    let parts = told_if at (length (methods_at program class)) (methods_before program class) number is n told in
+method_reported program class at number is n reported =
+    let parts = reported_if at (length (methods_at program class)) (methods_before program class) number is n reported in
     method_of_class program class at n (methods_within program class at parts.0) parts.0 parts.1
 
 pub method_number_within : (program : Program) (class at n : ℕ) → IsMethodOf program class at n → n < length (all_methods program)
@@ -201,37 +201,37 @@ other_spelled name desc e is =
     false≢true (sym e ∙ same)
 
 -- where the test says no, the method has another name or descriptor
-pub other_named : (imaged : Imaged) (class at number : ℕ) (told : MemberOf) (m : IsMethodOf (program_of imaged) class at number) → IsMethodThere (typed_of imaged) number told
-    → spells_initialiser told.name.now told.desc.now ≡ false → is_named initialiser_name no_parameters m.method.name m.method.desc ≡ false
-other_named imaged class at number told m there other =
-    sym (initialiser_of_number (program_of imaged) number _ m.there) ∙ no_initialiser_told imaged number told there (other_spelled told.name.now told.desc.now other)
+pub other_named : (imaged : Imaged) (class at number : ℕ) (reported : MemberOf) (m : IsMethodOf (program_of imaged) class at number) → IsMethodThere (typed_of imaged) number reported
+    → spells_initialiser reported.name.now reported.desc.now ≡ false → is_named initialiser_name no_parameters m.method.name m.method.desc ≡ false
+other_named imaged class at number reported m there other =
+    sym (initialiser_of_number (program_of imaged) number _ m.there) ∙ no_initialiser_reported imaged number reported there (other_spelled reported.name.now reported.desc.now other)
 
 -- and where it says yes, it is the initialiser of the class
-pub named_so : (imaged : Imaged) (class at number : ℕ) (told : MemberOf) (m : IsMethodOf (program_of imaged) class at number) → IsMethodThere (typed_of imaged) number told
-    → spells_initialiser told.name.now told.desc.now ≡ true → declared_at (program_of imaged) number ≡ initialiser_of (class_name (program_of imaged) class)
-named_so imaged class at number told m there so =
-    let is = (initialiser_told imaged number told there (spelled_parts told.name.now told.desc.now so)).is in
+pub named_so : (imaged : Imaged) (class at number : ℕ) (reported : MemberOf) (m : IsMethodOf (program_of imaged) class at number) → IsMethodThere (typed_of imaged) number reported
+    → spells_initialiser reported.name.now reported.desc.now ≡ true → declared_at (program_of imaged) number ≡ initialiser_of (class_name (program_of imaged) class)
+named_so imaged class at number reported m there so =
+    let is = (initialiser_reported imaged number reported there (spelled_parts reported.name.now reported.desc.now so)).is in
     let named = sym (initialiser_of_number (program_of imaged) number _ m.there) ∙ is in
     let parts = and_parts (same_name m.method.name initialiser_name) (same_desc m.method.desc no_parameters) named in
     declared_there (program_of imaged) number _ m.there
     ∙ ap (λ (n : Name). record { class = class_name (program_of imaged) class; name = n; desc = m.method.desc }) (same_name_is m.method.name initialiser_name parts.0)
     ∙ ap (λ (d : Desc). record { class = class_name (program_of imaged) class; name = initialiser_name; desc = d }) (same_desc_is m.method.desc no_parameters parts.1)
 
-pub found_so : (imaged : Imaged) (class at number : ℕ) (told : MemberOf) (o : Option Initialiser) → IsProgram (program_of imaged) → (m : IsMethodOf (program_of imaged) class at number)
-    → IsMethodThere (typed_of imaged) number told → spells_initialiser told.name.now told.desc.now ≡ true → RunsAt imaged number told.flags o
+pub found_so : (imaged : Imaged) (class at number : ℕ) (reported : MemberOf) (o : Option Initialiser) → IsProgram (program_of imaged) → (m : IsMethodOf (program_of imaged) class at number)
+    → IsMethodThere (typed_of imaged) number reported → spells_initialiser reported.name.now reported.desc.now ≡ true → RunsAt imaged number reported.flags o
     → IsInitialiserOf imaged (class_name (program_of imaged) class) o
 unfolding has_initialiser code_of
-found_so imaged class at number told o formed m there so runs = by o runs where
+found_so imaged class at number reported o formed m there so runs = by o runs where
   named : declared_at (program_of imaged) number ≡ initialiser_of (class_name (program_of imaged) class)
-  named = named_so imaged class at number told m there so
+  named = named_so imaged class at number reported m there so
 
   first : method_at (program_of imaged) (initialiser_of (class_name (program_of imaged) class)) ≡ Some m.method
   first = ap (method_at (program_of imaged)) (sym named) ∙ method_of_number (program_of imaged) formed number _ m.there
 
-  flags : told.flags ≡ m.method.flags
+  flags : reported.flags ≡ m.method.flags
   flags = there.flags ∙ ap (λ (f : FoundMethod). f.method.flags) (same_Some there.found _ (sym there.there ∙ m.there))
 
-  by : (o : Option Initialiser) → RunsAt imaged number told.flags o → IsInitialiserOf imaged (class_name (program_of imaged) class) o
+  by : (o : Option Initialiser) → RunsAt imaged number reported.flags o → IsInitialiserOf imaged (class_name (program_of imaged) class) o
   by None none = ap runs_static first ∙ ap (λ (n : ℕ). is_static n && has_code m.method.body) (sym flags) ∙ none _ m.there
   by (Some i) is =
       let body : m.method.body ≡ Runs is.code = ap (λ (f : FoundMethod). f.method.body) (sym (same_Some is.found _ (sym is.there ∙ m.there))) ∙ is.runs in
@@ -249,11 +249,11 @@ found_so imaged class at number told o formed m there so runs = by o runs where
       }
 
 -- what is recorded of a method that runs code
-pub runs_told : (imaged : Imaged) (method flags : ℕ) (code : Bor MethodCode) (i : Initialiser) → is_static flags ≡ true → IsBodyAt imaged method (bodies.Code code)
+pub runs_reported : (imaged : Imaged) (method flags : ℕ) (code : Bor MethodCode) (i : Initialiser) → is_static flags ≡ true → IsBodyAt imaged method (bodies.Code code)
     → i.method ≡ method → i.locals ≡ code.now.max_locals → i.room ≡ code.now.max_stack → RunsIt imaged method flags i
 unfolding part_codes.code_in
-runs_told imaged method flags code i static at number locals room = by at.found.method.body refl at.tells where
-  by : (body : Body) → at.found.method.body ≡ body → TellsBody imaged method body (bodies.Code code) → RunsIt imaged method flags i
+runs_reported imaged method flags code i static at number locals room = by at.found.method.body refl at.says where
+  by : (body : Body) → at.found.method.body ≡ body → SaysBody imaged method body (bodies.Code code) → RunsIt imaged method flags i
   by Abstract e t = absurd t
   by (Native id) e t = absurd t
   by (Runs own) e t = record {

@@ -264,9 +264,9 @@ place_within program places i place found formed are at static is =
     omega (arith, lt, count)
 
 -- what is recorded of a field is its place
-pub place_told : (program : Program) (places : Places) (i place : ℕ) (found : FoundField) → ArePlaces program places → slice_get (all_fields program) i ≡ Some found
+pub place_reported : (program : Program) (places : Places) (i place : ℕ) (found : FoundField) → ArePlaces program places → slice_get (all_fields program) i ≡ Some found
     → slice_get places.each i ≡ Some place → place ≡ place_of_static program found
-place_told program places i place found are at is =
+place_reported program places i place found are at is =
     same_Some place (place_of_static program found)
     (sym is ∙ ap (λ (ks : List ℕ). slice_get ks i) are.each ∙ slice_get-map (place_of_static program) (all_fields program) i ∙ ap (option_map (place_of_static program)) at)
 
@@ -283,12 +283,12 @@ counted_more fields at f each now more before count next is counted pushed one_m
       ∙ append_assoc each (places_from before (take at fields)) (count ∷ [])
       ∙ ap (λ (n : ℕ). each ++ (places_from before (take at fields) ++ n ∷ [])) counted.count
       ∙ ap (λ (ks : List ℕ). each ++ ks) (sym (places_push before (take at fields) f))
-      ∙ ap (λ (fs : List Field). each ++ places_from before fs) (sym front);
+      ∙ ap (λ (fs : List Field). each ++ places_from before fs) (sym prefix);
   count = one_more ∙ ap (λ (n : ℕ). n + one_if_static f.flags) counted.count ∙ sum (count_fields true (take at fields)) (one f)
-      ∙ ap (λ (n : ℕ). before + n) (sym (ap (count_fields true) front ∙ count_push (take at fields) f));
+      ∙ ap (λ (n : ℕ). before + n) (sym (ap (count_fields true) prefix ∙ count_push (take at fields) f));
 } where
-  front : take (at + 1) fields ≡ take at fields ++ f ∷ []
-  front = take_more fields at f (slice_get_within fields at f is) ∙ ap (λ (x : Field). take at fields ++ x ∷ []) (get_or_from_slice_get fields at f f is)
+  prefix : take (at + 1) fields ≡ take at fields ++ f ∷ []
+  prefix = take_more fields at f (slice_get_within fields at f is) ∙ ap (λ (x : Field). take at fields ++ x ∷ []) (get_or_from_slice_get fields at f f is)
 
   sum : (a b : ℕ) → (before + a) + b ≡ before + (a + b)
   sum a b = omega arith
@@ -315,15 +315,15 @@ classes_more program class each more count after are is = by (slice_get program 
         count = is.count ∙ ap (λ (fs : List Field). count + count_fields true fs) none ∙ sum count ∙ are.count ∙ ap static_count (sym same);
       }
   by (Some c) e =
-      let front : take (class + 1) program ≡ take class program ++ c ∷ [] =
+      let prefix : take (class + 1) program ≡ take class program ++ c ∷ [] =
       take_more program class c (slice_get_within program class c e) ∙ ap (λ (x : Class). take class program ++ x ∷ []) (get_or_from_slice_get program class c c e) in
       let own : fields_at program class ≡ c.fields = ap fields_of e in
       let zero_more : count ≡ 0 + static_count (take class program) = (let t = are.count in omega (arith, t)) in
       record {
         places = is.places ∙ ap (λ (fs : List Field). each ++ places_from count fs) own ∙ ap (λ (ks : List ℕ). ks ++ places_from count c.fields) are.places
-            ∙ ap (λ (n : ℕ). all_places 0 (take class program) ++ places_from n c.fields) zero_more ∙ sym (all_places-push 0 (take class program) c) ∙ ap (all_places 0) (sym front);
+            ∙ ap (λ (n : ℕ). all_places 0 (take class program) ++ places_from n c.fields) zero_more ∙ sym (all_places-push 0 (take class program) c) ∙ ap (all_places 0) (sym prefix);
         count = is.count ∙ ap (λ (fs : List Field). count + count_fields true fs) own ∙ ap (λ (n : ℕ). n + count_fields true c.fields) are.count
-            ∙ sym (static_count-push (take class program) c) ∙ ap static_count (sym front);
+            ∙ sym (static_count-push (take class program) c) ∙ ap static_count (sym prefix);
       }
 
 pub classes_all : (program : Program) (n : ℕ) (places : Places) → IsProgram program → length program ≤ n → AreCounted (take n program) places.each places.count → ArePlaces program places

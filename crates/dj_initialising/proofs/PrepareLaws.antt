@@ -22,7 +22,7 @@ use Rattle.dj_initialising.specs.Flags.{AreFlags, has_begun, not_begun}
 use Rattle.dj_initialising.specs.Waiting.{AreWaiting, names_of}
 use Rattle.dj_initialising.specs.Initialisers.{AreInitialisers, initialiser_count, pushed}
 use Rattle.dj_initialising.specs.Store.{Store, IsStore, Fills, all_constants, stored}
-use Rattle.dj_initialising.specs.Preparing.{Prepares, Pushes, IsCause, left_of, parts, prepared_told, with_parts}
+use Rattle.dj_initialising.specs.Preparing.{Prepares, Pushes, IsCause, left_of, parts, prepared_reported, with_parts}
 use Rattle.dj_initialising.proofs.FlagLaws.{names_reversed, waits}
 use Rattle.dj_initialising.proofs.Walks.{none_waits}
 use Rattle.dj_initialising.proofs.PlaceLaws.{names_differ}
@@ -52,16 +52,16 @@ abbrev with_new : Prepared → List (Frame Declared) → State → State
 with_new prepared.Waits frames s = record s { frames = frames ++ s.frames }
 with_new result frames s = s
 
-frames_told : (s : State) (frames : List (Frame Declared)) (result : Prepared) → IsCause (length frames) (length s.frames) result → with_frames s frames ≡ prepared_told result (with_new result frames s)
-frames_told s [] prepared.Ready cause = refl
-frames_told s (f ∷ frames) prepared.Ready cause = absurd (omega (arith, cause))
-frames_told s [] prepared.Waits cause = absurd (let some = cause.0 in omega (arith, some))
-frames_told s (f ∷ frames) prepared.Waits cause =
+frames_reported : (s : State) (frames : List (Frame Declared)) (result : Prepared) → IsCause (length frames) (length s.frames) result → with_frames s frames ≡ prepared_reported result (with_new result frames s)
+frames_reported s [] prepared.Ready cause = refl
+frames_reported s (f ∷ frames) prepared.Ready cause = absurd (omega (arith, cause))
+frames_reported s [] prepared.Waits cause = absurd (let some = cause.0 in omega (arith, some))
+frames_reported s (f ∷ frames) prepared.Waits cause =
     ap (λ (b : Bool). if b then Fails outcomes.TooDeep s else Waits (record s { frames = f ∷ frames ++ s.frames })) (le-ltb most_frames (length (f ∷ frames) + length s.frames) cause.1)
-frames_told s [] prepared.TooDeep cause = absurd (let some = cause.0 in omega (arith, some))
-frames_told s (f ∷ frames) prepared.TooDeep cause =
+frames_reported s [] prepared.TooDeep cause = absurd (let some = cause.0 in omega (arith, some))
+frames_reported s (f ∷ frames) prepared.TooDeep cause =
     ap (λ (b : Bool). if b then Fails outcomes.TooDeep s else Waits (record s { frames = f ∷ frames ++ s.frames })) (lt-ltb most_frames (length (f ∷ frames) + length s.frames) cause.1)
-frames_told s frames (prepared.HeapFull used size) cause = absurd cause
+frames_reported s frames (prepared.HeapFull used size) cause = absurd cause
 
 -- ---- what waits
 
@@ -125,9 +125,9 @@ module _ (imaged : Imaged) (class : ℕ) (flags new : List Bool) (a c : Store) (
     pub prepared_on : Fills imaged (all_constants imaged (reverse classes)) a c filled.Done → Prepares imaged class (parts flags a frames) (parts new c left) result
     prepared_on fills = record {
       effect = λ terms s e. begun terms s ∙ ap finished (fills.effect terms (record s { initialised = new; frames = frames_seen (program_of imaged) frames }) e)
-          ∙ frames_told (state c s) (initialiser_frames (program_of imaged) names) result cause
-          ∙ ap (prepared_told result) (seen s)
-          ∙ ap (λ (fs : List StackFrame). prepared_told result (with_parts imaged (parts new c fs) s)) (sym pushes.frames);
+          ∙ frames_reported (state c s) (initialiser_frames (program_of imaged) names) result cause
+          ∙ ap (prepared_reported result) (seen s)
+          ∙ ap (λ (fs : List StackFrame). prepared_reported result (with_parts imaged (parts new c fs) s)) (sym pushes.frames);
       limit = fills.limit;
       are = fills.are;
       flags = waiting.are;

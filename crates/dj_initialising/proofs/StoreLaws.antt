@@ -31,7 +31,7 @@ use Rattle.dj_members.proofs.LiteralLaws.{keep_text_is, texts_kept}
 use Rattle.dj_classes.proofs.Numbered.{name_at-number, class_number-within}
 use Rattle.dj_types.specs.Typed.{types_of, string_at}
 use Rattle.dj_types.specs.Members.{all_fields}
-use Rattle.dj_types.proofs.Told.{type_of_class}
+use Rattle.dj_types.proofs.Reported.{type_of_class}
 use Rattle.dj_image.specs.Imaged.{Imaged, program_of, typed_of}
 use Rattle.dj_image.specs.Codes.{IsConstantAt}
 use Rattle.dj_image.specs.Operands.{units_number, text_operand, value_operand}
@@ -75,9 +75,9 @@ with_value : (imaged : Imaged) (constant : Constant) (value : Value) (place bits
     → ((terms : Terms) (s : State) → one_constant imaged place (Some constant) terms s ≡ Ready (with_static s place value))
     → bits ≡ field_bits value → now ≡ set statics place bits → IsStore imaged (store heap statics table)
     → Fills imaged (one_constant imaged place (Some constant)) (store heap statics table) (store heap now table) filled.Done
-with_value imaged constant value place bits heap statics now table is told_bits put are = record {
+with_value imaged constant value place bits heap statics now table is reported_bits put are = record {
   effect = λ terms s e. is terms (stored imaged (store heap statics table) s)
-      ∙ ap (λ (items : List ℕ). Ready (stored imaged (store heap items table) s)) (sym (put ∙ ap (set statics place) told_bits));
+      ∙ ap (λ (items : List ℕ). Ready (stored imaged (store heap items table) s)) (sym (put ∙ ap (set statics place) reported_bits));
   limit = refl;
   are = record { statics = ap length put ∙ length-set statics place bits ∙ are.statics; count = are.count; texts = are.texts };
   known = λ all. all;
@@ -99,8 +99,8 @@ string_within imaged class is =
     let longer = types_longer (typed_of imaged) in
     omega (arith, within, longer)
 
-pub units_told : (texts : List (List ℕ)) (text : ℕ) (units : List ℕ) → slice_get texts text ≡ Some units → text_at texts text ≡ units
-units_told texts text units is = ap (λ (o : Option (List ℕ)). unwrap_or o []) is
+pub units_reported : (texts : List (List ℕ)) (text : ℕ) (units : List ℕ) → slice_get texts text ≡ Some units → text_at texts text ≡ units
+units_reported texts text units is = ap (λ (o : Option (List ℕ)). unwrap_or o []) is
 
 module _ (imaged : Imaged) (class text place : ℕ) (units : List ℕ) (before after : LimitedHeap) (statics : List ℕ) (table now : LiteralTable)
     (string : Some class ≡ string_at (typed_of imaged)) (texts : AreTexts imaged) (is : text_at imaged.texts text ≡ units) (known : text < length imaged.texts)
@@ -113,7 +113,7 @@ module _ (imaged : Imaged) (class text place : ℕ) (units : List ℕ) (before a
 
   text_effect : (r : keeping.Kept) → Keeps class text units before after table now r → (terms : Terms) (s : State) → terms.limit ≡ Some before.limit
       → one_constant imaged place (Some (programs.Text (text_at imaged.texts text))) terms (stored imaged (store before statics table) s)
-      ≡ kept_in (stored imaged (store before statics table) s) (option_map (kept_map types imaged.texts) (literals.kept_told after now r))
+      ≡ kept_in (stored imaged (store before statics table) s) (option_map (kept_map types imaged.texts) (literals.kept_reported after now r))
   text_effect r k terms s e =
       ap (λ (limit : Option ℕ). kept_in (stored imaged (store before statics table) s)
       (with_literal limit imaged.prefix (heap_map (type_at types) before.heap) (literals_map imaged.texts table.made) (text_at imaged.texts text))) e
@@ -124,9 +124,9 @@ module _ (imaged : Imaged) (class text place : ℕ) (units : List ℕ) (before a
 
   pub text_set : (r bits : ℕ) (put : List ℕ) → Keeps class text units before after table now (kept.Object r) → bits ≡ field_bits (values.Ref r) → put ≡ set statics place bits
       → Fills imaged (one_constant imaged place (Some (programs.Text (text_at imaged.texts text)))) (store before statics table) (store after put now) filled.Done
-  text_set r bits put k told_bits set_is = record {
+  text_set r bits put k reported_bits set_is = record {
     effect = λ terms s e. text_effect (kept.Object r) k terms s e
-        ∙ ap (λ (items : List ℕ). Ready (stored imaged (store after items now) s)) (sym (set_is ∙ ap (set statics place) told_bits));
+        ∙ ap (λ (items : List ℕ). Ready (stored imaged (store after items now) s)) (sym (set_is ∙ ap (set statics place) reported_bits));
     limit = k.limit;
     are = record {
       statics = ap length set_is ∙ length-set statics place bits ∙ are.statics;
@@ -155,25 +155,25 @@ module _ (imaged : Imaged) (class text place : ℕ) (units : List ℕ) (before a
 
 -- ---- the constant of a field
 
-int_told : (imaged : Imaged) (constant : Option Constant) (z : ℤ) → value_operand imaged constant ≡ operands.Int z → constant ≡ Some (programs.Int z)
-int_told imaged None z e = absurd cc
-int_told imaged (Some (programs.Int y)) z e = let same : y ≡ z = cc in ap (λ (x : ℤ). Some (programs.Int x)) same
-int_told imaged (Some (programs.Long y)) z e = absurd cc
-int_told imaged (Some (programs.Text units)) z e = by (units_number imaged.texts units) e where
+int_reported : (imaged : Imaged) (constant : Option Constant) (z : ℤ) → value_operand imaged constant ≡ operands.Int z → constant ≡ Some (programs.Int z)
+int_reported imaged None z e = absurd cc
+int_reported imaged (Some (programs.Int y)) z e = let same : y ≡ z = cc in ap (λ (x : ℤ). Some (programs.Int x)) same
+int_reported imaged (Some (programs.Long y)) z e = absurd cc
+int_reported imaged (Some (programs.Text units)) z e = by (units_number imaged.texts units) e where
   by : (o : Option ℕ) → text_operand o ≡ operands.Int z → Some (programs.Text units) ≡ Some (programs.Int z)
   by None e = absurd cc
   by (Some n) e = absurd cc
-int_told imaged (Some programs.Unfit) z e = absurd cc
+int_reported imaged (Some programs.Unfit) z e = absurd cc
 
-long_told : (imaged : Imaged) (constant : Option Constant) (z : ℤ) → value_operand imaged constant ≡ operands.Long z → constant ≡ Some (programs.Long z)
-long_told imaged None z e = absurd cc
-long_told imaged (Some (programs.Int y)) z e = absurd cc
-long_told imaged (Some (programs.Long y)) z e = let same : y ≡ z = cc in ap (λ (x : ℤ). Some (programs.Long x)) same
-long_told imaged (Some (programs.Text units)) z e = by (units_number imaged.texts units) e where
+long_reported : (imaged : Imaged) (constant : Option Constant) (z : ℤ) → value_operand imaged constant ≡ operands.Long z → constant ≡ Some (programs.Long z)
+long_reported imaged None z e = absurd cc
+long_reported imaged (Some (programs.Int y)) z e = absurd cc
+long_reported imaged (Some (programs.Long y)) z e = let same : y ≡ z = cc in ap (λ (x : ℤ). Some (programs.Long x)) same
+long_reported imaged (Some (programs.Text units)) z e = by (units_number imaged.texts units) e where
   by : (o : Option ℕ) → text_operand o ≡ operands.Long z → Some (programs.Text units) ≡ Some (programs.Long z)
   by None e = absurd cc
   by (Some n) e = absurd cc
-long_told imaged (Some programs.Unfit) z e = absurd cc
+long_reported imaged (Some programs.Unfit) z e = absurd cc
 
 -- the text of a number, as one begins with it
 record IsText (imaged : Imaged) (constant : Option Constant) (text : ℕ) : Type 0 where
@@ -181,15 +181,15 @@ record IsText (imaged : Imaged) (constant : Option Constant) (text : ℕ) : Type
   is : constant ≡ Some (programs.Text units)
   number : units_number imaged.texts units ≡ Some text
 
-text_told : (imaged : Imaged) (constant : Option Constant) (text : ℕ) → value_operand imaged constant ≡ operands.Text text → IsText imaged constant text
-text_told imaged None text e = absurd cc
-text_told imaged (Some (programs.Int y)) text e = absurd cc
-text_told imaged (Some (programs.Long y)) text e = absurd cc
-text_told imaged (Some (programs.Text units)) text e = by (units_number imaged.texts units) refl e where
+text_reported : (imaged : Imaged) (constant : Option Constant) (text : ℕ) → value_operand imaged constant ≡ operands.Text text → IsText imaged constant text
+text_reported imaged None text e = absurd cc
+text_reported imaged (Some (programs.Int y)) text e = absurd cc
+text_reported imaged (Some (programs.Long y)) text e = absurd cc
+text_reported imaged (Some (programs.Text units)) text e = by (units_number imaged.texts units) refl e where
   by : (o : Option ℕ) → units_number imaged.texts units ≡ o → text_operand o ≡ operands.Text text → IsText imaged (Some (programs.Text units)) text
   by None is e = absurd cc
   by (Some n) is e = let same : n ≡ text = cc in record { units = units; is = refl; number = is ∙ ap Some same }
-text_told imaged (Some programs.Unfit) text e = absurd cc
+text_reported imaged (Some programs.Unfit) text e = absurd cc
 
 -- a text that has a number stands there
 pub units_at : (texts : List (List ℕ)) (units : List ℕ) (n : ℕ) → units_number texts units ≡ Some n → slice_get texts n ≡ Some units
@@ -207,37 +207,37 @@ module _ (imaged : Imaged) (field : ℕ) (operand : Operand) (at : IsConstantAt 
   constant_is = at.is ∙ ap (λ (f : FoundField). value_operand imaged f.field.constant) (same_Some at.found found (sym at.there ∙ there))
 
   pub int_is : (z : ℤ) → operand ≡ operands.Int z → found.field.constant ≡ Some (programs.Int z)
-  int_is z e = int_told imaged found.field.constant z (sym constant_is ∙ e)
+  int_is z e = int_reported imaged found.field.constant z (sym constant_is ∙ e)
 
   pub long_is : (z : ℤ) → operand ≡ operands.Long z → found.field.constant ≡ Some (programs.Long z)
-  long_is z e = long_told imaged found.field.constant z (sym constant_is ∙ e)
+  long_is z e = long_reported imaged found.field.constant z (sym constant_is ∙ e)
 
   pub text_is : (text : ℕ) → operand ≡ operands.Text text → found.field.constant ≡ Some (programs.Text (text_at imaged.texts text))
   text_is text e =
-      let t = text_told imaged found.field.constant text (sym constant_is ∙ e) in
-      t.is ∙ ap (λ (us : List ℕ). Some (programs.Text us)) (sym (units_told imaged.texts text t.units (units_at imaged.texts t.units text t.number)))
+      let t = text_reported imaged found.field.constant text (sym constant_is ∙ e) in
+      t.is ∙ ap (λ (us : List ℕ). Some (programs.Text us)) (sym (units_reported imaged.texts text t.units (units_at imaged.texts t.units text t.number)))
 
 -- a number of a text that a constant has
 pub text_known : (imaged : Imaged) (field text : ℕ) → IsConstantAt imaged field (operands.Text text) → text < length imaged.texts
 text_known imaged field text at =
-    let t = text_told imaged at.found.field.constant text (sym at.is) in
+    let t = text_reported imaged at.found.field.constant text (sym at.is) in
     slice_get_within imaged.texts text t.units (units_at imaged.texts t.units text t.number)
 
 pub int_set : (imaged : Imaged) (field place bits : ℕ) (z : ℤ) (operand : Operand) (heap : LimitedHeap) (statics now : List ℕ) (table : LiteralTable)
     → IsConstantAt imaged field operand → operand ≡ operands.Int z → bits ≡ field_bits (values.Int z) → now ≡ set statics place bits → IsStore imaged (store heap statics table)
     → FillsConstant imaged place field (store heap statics table) (store heap now table) filled.Done
-int_set imaged field place bits z operand heap statics now table at is told_bits put are found there =
+int_set imaged field place bits z operand heap statics now table at is reported_bits put are found there =
     subst (λ (constant : Option Constant). Fills imaged (one_constant imaged place constant) (store heap statics table) (store heap now table) filled.Done)
     (sym (int_is imaged field operand at found there z is))
-    (with_value imaged (programs.Int z) (values.Int z) place bits heap statics now table (λ terms s. refl) told_bits put are)
+    (with_value imaged (programs.Int z) (values.Int z) place bits heap statics now table (λ terms s. refl) reported_bits put are)
 
 pub long_set : (imaged : Imaged) (field place bits : ℕ) (z : ℤ) (operand : Operand) (heap : LimitedHeap) (statics now : List ℕ) (table : LiteralTable)
     → IsConstantAt imaged field operand → operand ≡ operands.Long z → bits ≡ field_bits (values.Long z) → now ≡ set statics place bits → IsStore imaged (store heap statics table)
     → FillsConstant imaged place field (store heap statics table) (store heap now table) filled.Done
-long_set imaged field place bits z operand heap statics now table at is told_bits put are found there =
+long_set imaged field place bits z operand heap statics now table at is reported_bits put are found there =
     subst (λ (constant : Option Constant). Fills imaged (one_constant imaged place constant) (store heap statics table) (store heap now table) filled.Done)
     (sym (long_is imaged field operand at found there z is))
-    (with_value imaged (programs.Long z) (values.Long z) place bits heap statics now table (λ terms s. refl) told_bits put are)
+    (with_value imaged (programs.Long z) (values.Long z) place bits heap statics now table (λ terms s. refl) reported_bits put are)
 
 pub text_constant : (imaged : Imaged) (field place text : ℕ) (operand : Operand) (before after : Store) (result : Filled)
     → IsConstantAt imaged field operand → operand ≡ operands.Text text → Fills imaged (one_constant imaged place (Some (programs.Text (text_at imaged.texts text)))) before after result
@@ -246,11 +246,11 @@ text_constant imaged field place text operand before after result at is fills fo
     subst (λ (constant : Option Constant). Fills imaged (one_constant imaged place constant) before after result) (sym (text_is imaged field operand at found there text is)) fills
 
 -- an operand that is neither sets nothing
-pub nothing_told : (imaged : Imaged) (found : FoundField) (operand : Operand) → operand ≡ value_operand imaged found.field.constant
+pub nothing_reported : (imaged : Imaged) (found : FoundField) (operand : Operand) → operand ≡ value_operand imaged found.field.constant
     → ((z : ℤ) → operand ≡ operands.Int z → ⊥) → ((z : ℤ) → operand ≡ operands.Long z → ⊥) → ((text : ℕ) → operand ≡ operands.Text text → ⊥)
     → ((units : List ℕ) → found.field.constant ≡ Some (programs.Text units) → (n : ℕ) × (units_number imaged.texts units ≡ Some n))
     → (place : ℕ) (terms : Terms) (s : State) → one_constant imaged place found.field.constant terms s ≡ Ready s
-nothing_told imaged found operand is int long text numbered place terms s = by found.field.constant refl where
+nothing_reported imaged found operand is int long text numbered place terms s = by found.field.constant refl where
   by : (o : Option Constant) → found.field.constant ≡ o → one_constant imaged place o terms s ≡ Ready s
   by None e = refl
   by (Some (programs.Int z)) e = absurd (int z (is ∙ ap (value_operand imaged) e))

@@ -27,16 +27,16 @@ parts flags store frames = record { flags = flags; store = store; frames = frame
 abbrev pub with_parts : Imaged → Parts → State → State
 with_parts imaged p s = stored imaged p.store (record s { initialised = p.flags; frames = frames_seen (program_of imaged) p.frames })
 
-abbrev pub prepared_told : Prepared → State → Initialised
-prepared_told prepared.Ready s = Ready s
-prepared_told prepared.Waits s = Waits s
-prepared_told prepared.TooDeep s = Fails outcomes.TooDeep s
-prepared_told (prepared.HeapFull used size) s = Fails (outcomes.HeapFull used size) s
+abbrev pub prepared_reported : Prepared → State → Initialised
+prepared_reported prepared.Ready s = Ready s
+prepared_reported prepared.Waits s = Waits s
+prepared_reported prepared.TooDeep s = Fails outcomes.TooDeep s
+prepared_reported (prepared.HeapFull used size) s = Fails (outcomes.HeapFull used size) s
 
 -- the model's initialisation of the class is this, and leaves this state
 pub record Prepares (imaged : Imaged) (class : ℕ) (before after : Parts) (result : Prepared) : Type 0 where
   pub effect : (terms : Terms) (s : State) → terms.limit ≡ Some before.store.heap.limit
-      → initialise (program_of imaged) imaged.prefix terms (class_name (program_of imaged) class) (with_parts imaged before s) ≡ prepared_told result (with_parts imaged after s)
+      → initialise (program_of imaged) imaged.prefix terms (class_name (program_of imaged) class) (with_parts imaged before s) ≡ prepared_reported result (with_parts imaged after s)
   pub limit : after.store.heap.limit ≡ before.store.heap.limit
   pub are : IsStore imaged after.store
   pub flags : AreFlags (program_of imaged) after.flags

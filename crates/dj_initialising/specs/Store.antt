@@ -59,13 +59,13 @@ pub record Leads (imaged : Imaged) (whole rest : Terms → State → Initialised
   -- all new objects are texts
   pub known : AreKnown (types_of (typed_of imaged)) before.heap → AreKnown (types_of (typed_of imaged)) after.heap
 
-abbrev pub told : Filled → State → Initialised
-told filled.Done s = Ready s
-told (filled.HeapFull used size) s = Fails (outcomes.HeapFull used size) s
+abbrev pub reported : Filled → State → Initialised
+reported filled.Done s = Ready s
+reported (filled.HeapFull used size) s = Fails (outcomes.HeapFull used size) s
 
 -- all of it was done, with this result
 abbrev pub Fills : Imaged → (Terms → State → Initialised) → Store → Store → Filled → Type 0
-Fills imaged whole before after result = Leads imaged whole (λ terms. told result) before after
+Fills imaged whole before after result = Leads imaged whole (λ terms. reported result) before after
 
 -- ---- what is to be done
 

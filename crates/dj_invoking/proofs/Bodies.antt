@@ -19,13 +19,13 @@ use Rattle.dj_types.specs.declared.types.MemberOf.{MemberOf}
 use Rattle.dj_types.specs.declared.types.MethodId.{MethodId}
 use Rattle.dj_image.specs.declared.image.Body.TheVariants as variants
 use Rattle.dj_image.specs.Imaged.{Imaged, program_of, typed_of}
-use Rattle.dj_image.specs.Codes.{TellsBody, IsBodyAt}
+use Rattle.dj_image.specs.Codes.{SaysBody, IsBodyAt}
 use Rattle.dj_invoking.specs.declared.answers.Invoked.{Invoked}
 use Rattle.dj_invoking.specs.declared.answers.Invoked.TheVariants as invoked
 use Rattle.dj_invoking.specs.declared.entering.Room.{Room}
 use Rattle.dj_invoking.specs.Operands.{with_operands}
 use Rattle.dj_invoking.specs.declared.choosing.Mode.TheVariants as modes
-use Rattle.dj_invoking.specs.Choosing.{IsMethod, told_mode}
+use Rattle.dj_invoking.specs.Choosing.{IsMethod, reported_mode}
 use Rattle.dj_invoking.specs.Entering.{entered, Enters as EntersFrame}
 use Rattle.dj_invoking.specs.Natives.{AreClasses, AreNatives, AreTyped, row_at}
 use Rattle.dj_invoking.specs.Invoking.{Site, Steps, Invokes, RunsBody, taken_kinds, taken_values}
@@ -37,31 +37,31 @@ same_body imaged method found other there is = ap (λ (f : FoundMethod). f.metho
 
 pub abstract_body : (imaged : Imaged) (method : MethodId) (found : FoundMethod) → IsMethod (program_of imaged) method found → IsBodyAt imaged method.number variants.Abstract
     → found.method.body ≡ Abstract
-abstract_body imaged method found there at = same_body imaged method found at.found there at.there ∙ by at.found.method.body at.tells where
-  by : (body : Body) → TellsBody imaged method.number body variants.Abstract → body ≡ Abstract
+abstract_body imaged method found there at = same_body imaged method found at.found there at.there ∙ by at.found.method.body at.says where
+  by : (body : Body) → SaysBody imaged method.number body variants.Abstract → body ≡ Abstract
   by Abstract t = refl
   by (Native id) t = absurd t
   by (Runs own) t = absurd t
 
 pub native_body : (imaged : Imaged) (method : MethodId) (found : FoundMethod) (id : NativeId) → IsMethod (program_of imaged) method found → IsBodyAt imaged method.number (variants.Native id)
     → found.method.body ≡ Native id
-native_body imaged method found id there at = same_body imaged method found at.found there at.there ∙ by at.found.method.body at.tells where
-  by : (body : Body) → TellsBody imaged method.number body (variants.Native id) → body ≡ Native id
+native_body imaged method found id there at = same_body imaged method found at.found there at.there ∙ by at.found.method.body at.says where
+  by : (body : Body) → SaysBody imaged method.number body (variants.Native id) → body ≡ Native id
   by Abstract t = absurd t
   by (Native other) t = ap Native (sym t)
   by (Runs own) t = absurd t
 
-pub record HasCode (found : FoundMethod) (told : MethodCode) : Type 0 where
+pub record HasCode (found : FoundMethod) (reported : MethodCode) : Type 0 where
   pub code : Code
   pub runs : found.method.body ≡ Runs code
-  pub locals : code.max_locals ≡ told.max_locals
-  pub stack : code.max_stack ≡ told.max_stack
+  pub locals : code.max_locals ≡ reported.max_locals
+  pub stack : code.max_stack ≡ reported.max_stack
 
 pub code_body : (imaged : Imaged) (method : MethodId) (found : FoundMethod) (code : Bor MethodCode) → IsMethod (program_of imaged) method found
     → IsBodyAt imaged method.number (variants.Code code) → HasCode found code.now
 unfolding code_in
-code_body imaged method found code there at = by at.found.method.body (same_body imaged method found at.found there at.there) at.tells where
-  by : (body : Body) → found.method.body ≡ body → TellsBody imaged method.number body (variants.Code code) → HasCode found code.now
+code_body imaged method found code there at = by at.found.method.body (same_body imaged method found at.found there at.there) at.says where
+  by : (body : Body) → found.method.body ≡ body → SaysBody imaged method.number body (variants.Code code) → HasCode found code.now
   by Abstract e t = absurd t
   by (Native id) e t = absurd t
   by (Runs own) e t = record {
@@ -80,13 +80,13 @@ entered_steps method code room taken old new m l s e = (
   e.1 ∙ (λ i. entered (m i) (l i) (s i) (reverse (take taken (top_operands old))) ∷ with_operands (drop taken (top_operands old)) old),
 )
 
-pub stepped : (s : Site) (taken count : ℕ) (found : FoundMethod) (runs : RunsBody s taken count found) (method : MethodId) (code : Bor MethodCode) (new : List StackFrame) (told : Invoked)
-    → IsMethod (program_of s.imaged) method found → IsBodyAt s.imaged method.number (variants.Code code) → Steps method code.now taken s.frames new told → Invokes s new (Some told)
-stepped s taken count found runs method code new told there at steps = by told steps where
+pub stepped : (s : Site) (taken count : ℕ) (found : FoundMethod) (runs : RunsBody s taken count found) (method : MethodId) (code : Bor MethodCode) (new : List StackFrame) (reported : Invoked)
+    → IsMethod (program_of s.imaged) method found → IsBodyAt s.imaged method.number (variants.Code code) → Steps method code.now taken s.frames new reported → Invokes s new (Some reported)
+stepped s taken count found runs method code new reported there at steps = by reported steps where
   has : HasCode found code.now
   has = code_body s.imaged method found code there at
 
-  by : (told : Invoked) → Steps method code.now taken s.frames new told → Invokes s new (Some told)
+  by : (reported : Invoked) → Steps method code.now taken s.frames new reported → Invokes s new (Some reported)
   by invoked.Entered steps = record {
     calls = calls_code s taken count found runs method has.code there has.runs;
     few = steps.0;
@@ -113,14 +113,14 @@ native_typed s taken count found runs method id rows are there body = record {
 -- ---- results
 
 pub ok_then : {A E : Type 0} (result : Result A E) (P Q : A → Type 0) → ((x : A) → P x → Q x) → IfOk result P → IfOk result Q
-ok_then (Ok x) P Q more told = more x told
-ok_then (Err e) P Q more told = tt
+ok_then (Ok x) P Q more reported = more x reported
+ok_then (Err e) P Q more reported = tt
 
 pub none_of : (o : Option ℕ) → ((r : ℕ) → o ≡ Some r → ⊥) → o ≡ None
 none_of None not = refl
 none_of (Some r) not = absurd (not r refl)
 
-pub static_mode : (mode : Mode) → told_mode mode ≡ modes.Static → mode ≡ Static
+pub static_mode : (mode : Mode) → reported_mode mode ≡ modes.Static → mode ≡ Static
 static_mode Static e = refl
 static_mode Virtual e = absurd cc
 static_mode Special e = absurd cc
@@ -128,9 +128,9 @@ static_mode (Interface count) e = absurd cc
 
 -- ---- static methods
 
-pub called_so : (imaged : Imaged) (method : MethodId) (told : MemberOf) (static : Bool) → IsMethodThere (typed_of imaged) method.number told → is_static told.flags ≡ static
+pub called_so : (imaged : Imaged) (method : MethodId) (reported : MemberOf) (static : Bool) → IsMethodThere (typed_of imaged) method.number reported → is_static reported.flags ≡ static
     → (found : FoundMethod) → IsMethod (program_of imaged) method found → is_static found.method.flags ≡ static
-called_so imaged method told static there e found is =
+called_so imaged method reported static there e found is =
     let same : there.found ≡ found = same_Some there.found found (sym there.there ∙ is) in
     ap (λ (f : FoundMethod). is_static f.method.flags) (sym same) ∙ (ap is_static (sym there.flags) ∙ e)
 

@@ -104,7 +104,7 @@ abbrev CallsSo : ℕ → Named → Type 0
 CallsSo op named = is_some (opcode_mode op) ≡ calls (member op named)
 
 so : (op n : ℕ) (named : Named) → CallsSo n named → nat_eq op n ≡ true → CallsSo op named
-so op n named told e = subst (λ (x : ℕ). CallsSo x named) (sym (eqb-true op n e)) told
+so op n named reported e = subst (λ (x : ℕ). CallsSo x named) (sym (eqb-true op n e)) reported
 
 not_run : (op : ℕ) (named other : Named) → is_run (Other op other) ≡ true → CallsSo op named
 not_run op named other run = absurd (false≢true run)

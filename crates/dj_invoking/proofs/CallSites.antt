@@ -24,7 +24,7 @@ use Rattle.dj_program.specs.trusted.Naming.{named_at, named_if}
 use Rattle.dj_program.specs.trusted.Naming as naming
 use Rattle.dj_program.specs.declared.code.MethodCode.{MethodCode}
 use Rattle.dj_shape.specs.Kept.{KeptKinds}
-use Rattle.dj_shape.specs.Pools.{TellsKind, call_at}
+use Rattle.dj_shape.specs.Pools.{SaysKind, call_at}
 use Rattle.dj_shape.specs.declared.pool.ConstantKind.{ConstantKind}
 use Rattle.dj_shape.specs.declared.pool.ConstantKind.TheVariants as constants
 use Rattle.dj_types.specs.Members.{found_method_number}
@@ -42,7 +42,7 @@ use Rattle.dj_activations.proofs.InstructionFacts.{operand_is}
 use Rattle.dj_invoking.specs.declared.choosing.Mode.{Mode}
 use Rattle.dj_invoking.specs.declared.choosing.Mode.TheVariants as modes
 use Rattle.dj_invoking.specs.declared.site.CallSite.{CallSite}
-use Rattle.dj_invoking.specs.Choosing.{IsMethod, told_mode}
+use Rattle.dj_invoking.specs.Choosing.{IsMethod, reported_mode}
 use Rattle.dj_invoking.specs.Operands.{parameters_in}
 use Rattle.dj_invoking.specs.Sites.{AreParametersAt, IsCallAt, call_index, call_mode, call_named, desc_index, opcode_mode}
 use Rattle.dj_invoking.proofs.Found.{found_numbered, resolved_own}
@@ -63,7 +63,7 @@ record IsCalled (imaged : Imaged) (instr : Instr) (named : Named) (mode : Mode) 
   called : model.Mode
   member : Member
   is : instruction_of instr named ≡ Invoke called member
-  mode_is : told_mode called ≡ mode
+  mode_is : reported_mode called ≡ mode
   number : resolved_method_number imaged member ≡ Some method.number
 
 virtual_called : (imaged : Imaged) (index : ℕ) (named : Named) (method : MethodId) → operand_of imaged (instrs.Member 182 index) named ≡ operands.Method method
@@ -103,27 +103,27 @@ module _ (imaged : Imaged) (op index : ℕ) (named : Named) (mode : Mode) (metho
   At o x = IsCalled imaged (instrs.Member o index) named x method
 
   at_opcode : (o : ℕ) (x : Mode) → (operand_of imaged (instrs.Member o index) named ≡ operands.Method method → At o x) → nat_eq op o ≡ true → Some x ≡ Some mode → At op mode
-  at_opcode o x called same told =
+  at_opcode o x called same reported =
       let is : op ≡ o = eqb-true op o same in
       subst (λ (p : ℕ). At p mode) (sym is)
-      (subst (λ (y : Mode). At o y) (same_Some x mode told) (called (subst (λ (p : ℕ). operand_of imaged (instrs.Member p index) named ≡ operands.Method method) is e)))
+      (subst (λ (y : Mode). At o y) (same_Some x mode reported) (called (subst (λ (p : ℕ). operand_of imaged (instrs.Member p index) named ≡ operands.Method method) is e)))
 
   by_opcode : (a b c : Bool) → nat_eq op 182 ≡ a → nat_eq op 183 ≡ b → nat_eq op 184 ≡ c
       → (if a then Some modes.Virtual else if b then Some modes.Special else if c then Some modes.Static else None) ≡ Some mode → At op mode
-  by_opcode true b c p q r told = at_opcode 182 modes.Virtual (virtual_called imaged index named method) p told
-  by_opcode false true c p q r told = at_opcode 183 modes.Special (special_called imaged index named method) q told
-  by_opcode false false true p q r told = at_opcode 184 modes.Static (static_called imaged index named method) r told
-  by_opcode false false false p q r told = absurd (none-some mode told)
+  by_opcode true b c p q r reported = at_opcode 182 modes.Virtual (virtual_called imaged index named method) p reported
+  by_opcode false true c p q r reported = at_opcode 183 modes.Special (special_called imaged index named method) q reported
+  by_opcode false false true p q r reported = at_opcode 184 modes.Static (static_called imaged index named method) r reported
+  by_opcode false false false p q r reported = absurd (none-some mode reported)
 
   member_called : opcode_mode op ≡ Some mode → At op mode
-  member_called told = by_opcode (nat_eq op 182) (nat_eq op 183) (nat_eq op 184) refl refl refl told
+  member_called reported = by_opcode (nat_eq op 182) (nat_eq op 183) (nat_eq op 184) refl refl refl reported
 
 called_as : (imaged : Imaged) (instr : Instr) (named : Named) (mode : Mode) (method : MethodId) → call_mode instr ≡ Some mode → operand_of imaged instr named ≡ operands.Method method
     → IsCalled imaged instr named mode method
-called_as imaged (instrs.Member op index) named mode method told e = member_called imaged op index named mode method e told
-called_as imaged (instrs.Interface index count) named mode method told e =
-    subst (λ (x : Mode). IsCalled imaged (instrs.Interface index count) named x method) (same_Some modes.Interface mode told) (interface_called imaged index count named method e)
-called_as imaged instr named mode method told e = absurd (none-some mode told)
+called_as imaged (instrs.Member op index) named mode method reported e = member_called imaged op index named mode method e reported
+called_as imaged (instrs.Interface index count) named mode method reported e =
+    subst (λ (x : Mode). IsCalled imaged (instrs.Interface index count) named x method) (same_Some modes.Interface mode reported) (interface_called imaged index count named method e)
+called_as imaged instr named mode method reported e = absurd (none-some mode reported)
 
 -- ---- by what is kept of the constant
 
@@ -162,10 +162,10 @@ interface_method_that (instrs.Member op i) index m e =
 interface_method_that (instrs.Interface i count) index m e = call_that (Interface count) m
 interface_method_that instr index m e = absurd (none-some index e)
 
-index_told : (instr : Instr) (index : ℕ) → call_index instr ≡ Some index → index_of instr ≡ Some index
-index_told (instrs.Member op i) index e = e
-index_told (instrs.Interface i count) index e = e
-index_told instr index e = absurd (none-some index e)
+index_reported : (instr : Instr) (index : ℕ) → call_index instr ≡ Some index → index_of instr ≡ Some index
+index_reported (instrs.Member op i) index e = e
+index_reported (instrs.Interface i count) index e = e
+index_reported instr index e = absurd (none-some index e)
 
 -- a method whose call is of the signature
 record IsNamedCall (named : Named) (signature : Signature) : Type 0 where
@@ -173,25 +173,25 @@ record IsNamedCall (named : Named) (signature : Signature) : Type 0 where
   names : (named ≡ AMethod member) ⊎ (named ≡ AnInterfaceMethod member)
   is : call_signature member.desc ≡ Some signature
 
-named_method : (calls : List (Option Signature)) (named : Named) (desc : ℕ) (signature : Signature) → TellsKind calls named (constants.Method desc) → call_at calls desc ≡ Some signature
+named_method : (calls : List (Option Signature)) (named : Named) (desc : ℕ) (signature : Signature) → SaysKind calls named (constants.Method desc) → call_at calls desc ≡ Some signature
     → IsNamedCall named signature
-named_method calls (AMethod m) desc signature tells e = record { member = m; names = inl refl; is = tells ∙ e }
-named_method calls named desc signature tells e = absurd tells
+named_method calls (AMethod m) desc signature says e = record { member = m; names = inl refl; is = says ∙ e }
+named_method calls named desc signature says e = absurd says
 
-named_interface_method : (calls : List (Option Signature)) (named : Named) (desc : ℕ) (signature : Signature) → TellsKind calls named (constants.InterfaceMethod desc)
+named_interface_method : (calls : List (Option Signature)) (named : Named) (desc : ℕ) (signature : Signature) → SaysKind calls named (constants.InterfaceMethod desc)
     → call_at calls desc ≡ Some signature → IsNamedCall named signature
-named_interface_method calls (AnInterfaceMethod m) desc signature tells e = record { member = m; names = inr refl; is = tells ∙ e }
-named_interface_method calls named desc signature tells e = absurd tells
+named_interface_method calls (AnInterfaceMethod m) desc signature says e = record { member = m; names = inr refl; is = says ∙ e }
+named_interface_method calls named desc signature says e = absurd says
 
-named_call : (calls : List (Option Signature)) (named : Named) (kind : ConstantKind) (signature : Signature) → TellsKind calls named kind
+named_call : (calls : List (Option Signature)) (named : Named) (kind : ConstantKind) (signature : Signature) → SaysKind calls named kind
     → option_and_then (call_at calls) (desc_index kind) ≡ Some signature → IsNamedCall named signature
-named_call calls named (constants.Method desc) signature tells e = named_method calls named desc signature tells e
-named_call calls named (constants.InterfaceMethod desc) signature tells e = named_interface_method calls named desc signature tells e
-named_call calls named kind signature tells e = absurd (none-some signature e)
+named_call calls named (constants.Method desc) signature says e = named_method calls named desc signature says e
+named_call calls named (constants.InterfaceMethod desc) signature says e = named_interface_method calls named desc signature says e
+named_call calls named kind signature says e = absurd (none-some signature e)
 
-signature_there : (o : Option Signature) (told : List Kind) → parameters_in o ≡ Some told → (signature : Signature) × (o ≡ Some signature) × (signature.parameters ≡ told)
-signature_there None told e = absurd (none-some told e)
-signature_there (Some signature) told e = (signature, refl, same_Some signature.parameters told e)
+signature_there : (o : Option Signature) (reported : List Kind) → parameters_in o ≡ Some reported → (signature : Signature) × (o ≡ Some signature) × (signature.parameters ≡ reported)
+signature_there None reported e = absurd (none-some reported e)
+signature_there (Some signature) reported e = (signature, refl, same_Some signature.parameters reported e)
 
 -- the instruction in the parts by which shape is judged is that of the model
 instruction_by : (imaged : Imaged) → IsProgram (program_of imaged) → (caller number : ℕ) (parts : ShapeParts) (are : AreShapeParts imaged caller parts) (instr : Instr)
@@ -203,12 +203,12 @@ instruction_by imaged formed caller number parts are instr at =
 
 -- the kinds are those of what the instruction calls
 parameters_called : (imaged : Imaged) → IsProgram (program_of imaged) → (caller number : ℕ) (parts : ShapeParts) → AreShapeParts imaged caller parts → (called : model.Mode) (m : Member)
-    → instruction_of_number imaged caller number ≡ Some (Invoke called m) → (told : List Kind) → AreParametersAt parts.code.now parts.kinds.now number told
-    → kinds_of (parameters_of m.desc) ≡ Some told
-parameters_called imaged formed caller number parts are called m is told at =
-    let s = signature_there (call_named parts.kinds.now at.index) told at.told_is in
+    → instruction_of_number imaged caller number ≡ Some (Invoke called m) → (reported : List Kind) → AreParametersAt parts.code.now parts.kinds.now number reported
+    → kinds_of (parameters_of m.desc) ≡ Some reported
+parameters_called imaged formed caller number parts are called m is reported at =
+    let s = signature_there (call_named parts.kinds.now at.index) reported at.reported_is in
     let n = named_call parts.kinds.now.calls (named_at are.pool at.index) _ s.0 (are.kinds.each at.index) s.1 in
-    let names : named_if are.pool (index_of at.instr) ≡ named_at are.pool at.index = ap (named_if are.pool) (index_told at.instr at.index at.index_is) in
+    let names : named_if are.pool (index_of at.instr) ≡ named_at are.pool at.index = ap (named_if are.pool) (index_reported at.instr at.index at.index_is) in
     let calls : instruction_of at.instr (named_at are.pool at.index) ≡ Invoke called m =
     ap (instruction_of at.instr) (sym names)
     ∙ same_Some (instruction_of at.instr (named_if are.pool (index_of at.instr))) (Invoke called m) (sym (instruction_by imaged formed caller number parts are at.instr at.stands) ∙ is) in
@@ -225,15 +225,15 @@ resolved_there : (program : Program) (prefix : Prefix) (m : Member) (method : Me
 resolved_there program prefix m method e = by (resolve_method program prefix m) refl e where
   by : (o : Option FoundMethod) → resolve_method program prefix m ≡ o → found_method_number program o ≡ Some method.number
       → (resolved : FoundMethod) × (resolve_method program prefix m ≡ Some resolved) × IsMethod program method resolved
-  by None is told = absurd (none-some method.number told)
-  by (Some resolved) is told = (resolved, is, found_numbered program resolved method.number (resolved_own program prefix m resolved is) (sym told))
+  by None is reported = absurd (none-some method.number reported)
+  by (Some resolved) is reported = (resolved, is, found_numbered program resolved method.number (resolved_own program prefix m resolved is) (sym reported))
 
 pub call_there : (imaged : Imaged) → IsProgram (program_of imaged) → (caller number : ℕ) (instr : Instr) (named : Named) → IsInstrAt imaged caller number instr named
     → (operand : Operand) → IsOperandAt imaged caller number operand → (parts : ShapeParts) → AreShapeParts imaged caller parts → (site : CallSite)
     → call_mode instr ≡ Some site.mode → operand ≡ operands.Method site.method → AreParametersAt parts.code.now parts.kinds.now number site.kinds.now
     → IsCallAt imaged caller number site
-call_there imaged formed caller number instr named at operand told parts are site mode method kinds =
-    let c = called_as imaged instr named site.mode site.method mode (sym (operand_is imaged caller number instr named operand at.stands told) ∙ method) in
+call_there imaged formed caller number instr named at operand reported parts are site mode method kinds =
+    let c = called_as imaged instr named site.mode site.method mode (sym (operand_is imaged caller number instr named operand at.stands reported) ∙ method) in
     let is : instruction_of_number imaged caller number ≡ Some (Invoke c.called c.member) = at.is ∙ ap Some c.is in
     let r = resolved_there (program_of imaged) imaged.prefix c.member site.method c.number in
     record {
@@ -248,8 +248,8 @@ call_there imaged formed caller number instr named at operand told parts are sit
     }
 
 -- what the parameters are, where they are given
-pub parameters_told : (code : MethodCode) (kinds : KeptKinds) (number : ℕ) (instr : Instr) (index : ℕ) (o : Option (Bor (List Kind))) → slice_get code.code.code number ≡ Some instr
-    → call_index instr ≡ Some index → option_map (λ (told : Bor (List Kind)). told.now) o ≡ parameters_in (call_named kinds index)
-    → IfSome o (λ (told : Bor (List Kind)). AreParametersAt code kinds number told.now)
-parameters_told code kinds number instr index None at is told = tt
-parameters_told code kinds number instr index (Some x) at is told = record { instr = instr; stands = at; index = index; index_is = is; told_is = sym told }
+pub parameters_reported : (code : MethodCode) (kinds : KeptKinds) (number : ℕ) (instr : Instr) (index : ℕ) (o : Option (Bor (List Kind))) → slice_get code.code.code number ≡ Some instr
+    → call_index instr ≡ Some index → option_map (λ (reported : Bor (List Kind)). reported.now) o ≡ parameters_in (call_named kinds index)
+    → IfSome o (λ (reported : Bor (List Kind)). AreParametersAt code kinds number reported.now)
+parameters_reported code kinds number instr index None at is reported = tt
+parameters_reported code kinds number instr index (Some x) at is reported = record { instr = instr; stands = at; index = index; index_is = is; reported_is = sym reported }

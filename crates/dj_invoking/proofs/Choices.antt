@@ -29,7 +29,7 @@ use Rattle.dj_invoking.specs.declared.choosing.Chosen.{Chosen}
 use Rattle.dj_invoking.specs.declared.choosing.Chosen.TheVariants as chosen
 use Rattle.dj_invoking.specs.Choosing.{IsNumber, IsThere, special_choice, Choice, IsNull, IsBroken, IsMethod, IsMethodOrNone, IsChosen, RefusesWith, chosen_method, received_choice, taken_method}
 use Rattle.dj_invoking.specs.Receivers.{AreNumbered, AreObjects, IsObject, typed_heap}
-use Rattle.dj_invoking.proofs.Found.{told_method, resolved_own, selected_there, special_there, own_there}
+use Rattle.dj_invoking.proofs.Found.{reported_method, resolved_own, selected_there, special_there, own_there}
 
 -- ---- classes of objects
 
@@ -110,42 +110,42 @@ refused_chosen program prefix heap r class (chosen.Method id) refuses choice = a
 refused_chosen program prefix heap r class chosen.Null refuses choice = subst (IsChosen program chosen.Null) (sym (refuses choice)) tt
 refused_chosen program prefix heap r class chosen.Link refuses choice = subst (IsChosen program chosen.Link) (sym (refuses choice)) tt
 
-chosen_told : (program : Program) (id : Option MethodId) (found : Option FoundMethod) → IsMethodOrNone program id found → IsChosen program (chosen_method id) (taken_method found)
-chosen_told program None None told = tt
-chosen_told program (Some id) None told = absurd told
-chosen_told program None (Some found) told = absurd told
-chosen_told program (Some id) (Some found) told = told
+chosen_reported : (program : Program) (id : Option MethodId) (found : Option FoundMethod) → IsMethodOrNone program id found → IsChosen program (chosen_method id) (taken_method found)
+chosen_reported program None None reported = tt
+chosen_reported program (Some id) None reported = absurd reported
+chosen_reported program None (Some found) reported = absurd reported
+chosen_reported program (Some id) (Some found) reported = reported
 
 pub fit_chosen : (program : Program) (prefix : Prefix) (heap : Heap Ty) (r : ℕ) (class : Name) (id : Option MethodId) (found : Option FoundMethod)
     → RefusesWith program prefix heap r class None → IsMethodOrNone program id found → IsChosen program (chosen_method id) (received_choice program prefix heap r class (taken_method found))
-fit_chosen program prefix heap r class id found fits told = subst (IsChosen program (chosen_method id)) (sym (fits (taken_method found))) (chosen_told program id found told)
+fit_chosen program prefix heap r class id found fits reported = subst (IsChosen program (chosen_method id)) (sym (fits (taken_method found))) (chosen_reported program id found reported)
 
 -- the method of a number that is selected
-pub selected_told : (imaged : Imaged) (heap : Heap ℕ) (method : MethodId) (m : Member) (resolved : FoundMethod) (r k : ℕ) (id : Option MethodId)
+pub selected_reported : (imaged : Imaged) (heap : Heap ℕ) (method : MethodId) (m : Member) (resolved : FoundMethod) (r k : ℕ) (id : Option MethodId)
     → resolve_method (program_of imaged) imaged.prefix m ≡ Some resolved → IsMethod (program_of imaged) method resolved
     → option_map class_of (object_at heap.objects r) ≡ Some k
     → option_map (λ (m : MethodId). m.number) id ≡ found_method_number (program_of imaged) (selected (typed_of imaged) method.number k)
     → IsMethodOrNone (program_of imaged) id (select (program_of imaged) imaged.prefix resolved (class_at_number (typed_heap imaged heap) r))
-selected_told imaged heap method m resolved r k id e there class is =
+selected_reported imaged heap method m resolved r k id e there class is =
     let program : Program = program_of imaged in
     let taken : selected (typed_of imaged) method.number k ≡ select program imaged.prefix resolved (class_at_number (typed_heap imaged heap) r) =
     ap (option_and_then (λ (found : FoundMethod). select program imaged.prefix found (type_at (typed_of imaged) k))) there
     ∙ ap (select program imaged.prefix resolved) (sym (class_typed imaged heap r k class)) in
-    told_method program id (select program imaged.prefix resolved (class_at_number (typed_heap imaged heap) r))
+    reported_method program id (select program imaged.prefix resolved (class_at_number (typed_heap imaged heap) r))
     (λ f found. own_there program resolved f (selected_there program imaged.prefix resolved (class_at_number (typed_heap imaged heap) r) f (resolved_own program imaged.prefix m resolved e) found))
     (is ∙ ap (found_method_number program) taken)
 
 -- ---- special calls
 
 -- the method of a number that invokespecial takes
-pub special_told : (imaged : Imaged) (own : ℕ) (method : MethodId) (m : Member) (resolved : FoundMethod) (id : Option MethodId)
+pub special_reported : (imaged : Imaged) (own : ℕ) (method : MethodId) (m : Member) (resolved : FoundMethod) (id : Option MethodId)
     → resolve_method (program_of imaged) imaged.prefix m ≡ Some resolved → IsMethod (program_of imaged) method resolved
     → option_map (λ (m : MethodId). m.number) id ≡ found_method_number (program_of imaged) (special_of (typed_of imaged) method.number own)
     → IsMethodOrNone (program_of imaged) id (special_method (program_of imaged) (class_name (program_of imaged) own) resolved)
-special_told imaged own method m resolved id e there is =
+special_reported imaged own method m resolved id e there is =
     let program : Program = program_of imaged in
     let taken : special_of (typed_of imaged) method.number own ≡ special_method program (class_name program own) resolved = ap (option_and_then (special_method program (class_name program own))) there in
-    told_method program id (special_method program (class_name program own) resolved)
+    reported_method program id (special_method program (class_name program own) resolved)
     (λ f found. own_there program resolved f (special_there program (class_name program own) resolved f (resolved_own program imaged.prefix m resolved e) found))
     (is ∙ ap (found_method_number program) taken)
 
@@ -157,10 +157,10 @@ pub record IsAsked (program : Program) (asked : MethodId) (resolved : FoundMetho
 
 asked_there : (program : Program) (method asked : MethodId) (id : Option MethodId) (resolved : FoundMethod) (found : Option FoundMethod)
     → asked ≡ unwrap_or id method → IsMethodOrNone program id found → IsMethod program method resolved → IsAsked program asked resolved found
-asked_there program method asked None resolved None e told there = record { method = resolved; there = subst (λ (x : MethodId). IsMethod program x resolved) (sym e) there; class = refl }
-asked_there program method asked (Some id) resolved (Some f) e told there = record { method = f; there = subst (λ (x : MethodId). IsMethod program x f) (sym e) told; class = refl }
-asked_there program method asked None resolved (Some f) e told there = absurd told
-asked_there program method asked (Some id) resolved None e told there = absurd told
+asked_there program method asked None resolved None e reported there = record { method = resolved; there = subst (λ (x : MethodId). IsMethod program x resolved) (sym e) there; class = refl }
+asked_there program method asked (Some id) resolved (Some f) e reported there = record { method = f; there = subst (λ (x : MethodId). IsMethod program x f) (sym e) reported; class = refl }
+asked_there program method asked None resolved (Some f) e reported there = absurd reported
+asked_there program method asked (Some id) resolved None e reported there = absurd reported
 
 pub asked_within : (program : Program) (method asked : MethodId) (id : Option MethodId) → asked ≡ unwrap_or id method → IfSome id (IsNumber program) → IsNumber program method → IsNumber program asked
 asked_within program method asked None e some within = subst (IsNumber program) (sym e) within
@@ -169,18 +169,18 @@ asked_within program method asked (Some id) e some within = subst (IsNumber prog
 pub special_refused : (program : Program) (prefix : Prefix) (heap : Heap Ty) (r : ℕ) (method asked : MethodId) (id : Option MethodId) (resolved : FoundMethod) (found : Option FoundMethod) (x : Chosen)
     → asked ≡ unwrap_or id method → IsMethodOrNone program id found → IsMethod program method resolved
     → ((f : FoundMethod) → IsMethod program asked f → RefusesWith program prefix heap r f.class (Some x)) → IsChosen program x (special_choice program prefix heap resolved r found)
-special_refused program prefix heap r method asked id resolved found x e told there refuses =
-    let a = asked_there program method asked id resolved found e told there in
+special_refused program prefix heap r method asked id resolved found x e reported there refuses =
+    let a = asked_there program method asked id resolved found e reported there in
     subst (λ (class : Name). IsChosen program x (received_choice program prefix heap r class (taken_method found))) a.class
     (refused_chosen program prefix heap r a.method.class x (refuses a.method a.there) (taken_method found))
 
 pub special_fit : (program : Program) (prefix : Prefix) (heap : Heap Ty) (r : ℕ) (method asked : MethodId) (id : Option MethodId) (resolved : FoundMethod) (found : Option FoundMethod)
     → asked ≡ unwrap_or id method → IsMethodOrNone program id found → IsMethod program method resolved
     → ((f : FoundMethod) → IsMethod program asked f → RefusesWith program prefix heap r f.class None) → IsChosen program (chosen_method id) (special_choice program prefix heap resolved r found)
-special_fit program prefix heap r method asked id resolved found e told there fits =
-    let a = asked_there program method asked id resolved found e told there in
+special_fit program prefix heap r method asked id resolved found e reported there fits =
+    let a = asked_there program method asked id resolved found e reported there in
     subst (λ (class : Name). IsChosen program (chosen_method id) (received_choice program prefix heap r class (taken_method found))) a.class
-    (fit_chosen program prefix heap r a.method.class id found (fits a.method a.there) told)
+    (fit_chosen program prefix heap r a.method.class id found (fits a.method a.there) reported)
 
 pub chosen_within : (program : Program) (id : Option MethodId) → IfSome id (IsNumber program) → IsThere program (chosen_method id)
 chosen_within program None some = tt

@@ -132,12 +132,12 @@ frames_entered method locals slots room arguments old [] count same is = let c =
 frames_entered method locals slots room arguments old (f ∷ new) count same is =
     let one : Option Value = None in
     let long : length (replicate (max locals slots) one) ≡ max locals slots = length-replicate (max locals slots) one in
-    let told : f.locals ≡ padded locals (in_slots is_long arguments) =
+    let reported : f.locals ≡ padded locals (in_slots is_long arguments) =
     is ∙ (ap (λ (n : ℕ). padded n (in_slots is_long arguments)) long ∙ padded_most locals slots (in_slots is_long arguments) count) in
     λ i. record {
       method = same.frames.method i;
       number = same.number i;
-      locals = told i;
+      locals = reported i;
       operands = same.operands i;
       room = same.frames.room i;
     } ∷ same.frames.below i
@@ -151,13 +151,13 @@ pub pushed_empty : (method most room : ℕ) (below new : List StackFrame) → ne
     → top_locals new ≡ replicate (length (top_locals new)) None
 pushed_empty method most room below new e = ap top_locals e ∙ ap (λ (n : ℕ). replicate n None) (sym (pushed_length method most room below new e))
 
-pub entered_told : (method locals slots most room : ℕ) (arguments : List Value) (old left pushed new : List StackFrame) (operands : List Value)
+pub entered_reported : (method locals slots most room : ℕ) (arguments : List Value) (old left pushed new : List StackFrame) (operands : List Value)
     → most ≡ max locals slots → slots ≡ length (in_slots is_long arguments) → pushed ≡ new_frame method most room ∷ left
     → SameButOperands old left → top_operands left ≡ operands → SameButLocals pushed new
     → top_locals new ≡ padded (length (top_locals pushed)) (in_slots is_long arguments)
     → new ≡ entered method locals room arguments ∷ with_operands operands old
-entered_told method locals slots most room arguments old left pushed new operands m s p same e kept told =
+entered_reported method locals slots most room arguments old left pushed new operands m s p same e kept reported =
     let is : pushed ≡ new_frame method (max locals slots) room ∷ left = p ∙ ap (λ (n : ℕ). new_frame method n room ∷ left) m in
     frames_entered method locals slots room arguments left new s (subst (λ (frames : List StackFrame). SameButLocals frames new) is kept)
-    (subst (λ (frames : List StackFrame). top_locals new ≡ padded (length (top_locals frames)) (in_slots is_long arguments)) is told)
+    (subst (λ (frames : List StackFrame). top_locals new ≡ padded (length (top_locals frames)) (in_slots is_long arguments)) is reported)
     ∙ ap (λ (frames : List StackFrame). entered method locals room arguments ∷ frames) (frames_left old left operands same e)

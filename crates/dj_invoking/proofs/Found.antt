@@ -145,14 +145,14 @@ pub resolved_described : (program : Program) (prefix : Prefix) (m : Member) (res
 resolved_described program prefix m resolved e = (there_name program m.name m.desc resolved (resolved_there program prefix m resolved e)).1
 
 -- a number is given where a method is found
-pub told_method : (program : Program) (id : Option MethodId) (found : Option FoundMethod) → ((f : FoundMethod) → found ≡ Some f → IsOwn program f)
+pub reported_method : (program : Program) (id : Option MethodId) (found : Option FoundMethod) → ((f : FoundMethod) → found ≡ Some f → IsOwn program f)
     → option_map (λ (m : MethodId). m.number) id ≡ found_method_number program found → IsMethodOrNone program id found
-told_method program None None own e = tt
-told_method program None (Some f) own e =
+reported_method program None None own e = tt
+reported_method program None (Some f) own e =
     let h = numbered program f (own f refl) in
     absurd (none-some h.number (e ∙ h.is))
-told_method program (Some id) None own e = absurd (none-some id.number (sym e))
-told_method program (Some id) (Some f) own e = found_numbered program f id.number (own f refl) e
+reported_method program (Some id) None own e = absurd (none-some id.number (sym e))
+reported_method program (Some id) (Some f) own e = found_numbered program f id.number (own f refl) e
 
 number_within : (all : List FoundMethod) (found : FoundMethod) (n : ℕ) → method_number all found ≡ Some n → n < length all
 number_within [] found n e = absurd (none-some n e)

@@ -20,7 +20,7 @@ use Rattle.dj_model.specs.trusted.Members.{with_kind, kinds_of, are_instances}
 use Rattle.dj_types.specs.Typed.{Typed, types_of}
 use Rattle.dj_image.specs.Imaged.{Imaged, program_of, typed_of}
 use Rattle.dj_invoking.specs.Operands.{fit}
-use Rattle.dj_invoking.specs.Natives.{IsClassOf, TellsClass, AreClasses, AreTyped}
+use Rattle.dj_invoking.specs.Natives.{IsClassOf, SaysClass, AreClasses, AreTyped}
 use Rattle.dj_invoking.specs.Receivers.{HasObject, IsObject, takes_argument, typed_heap}
 use Rattle.dj_invoking.proofs.OperandFacts.{from_end, first_left, same_kind_is, within_take}
 
@@ -62,12 +62,12 @@ type_of_kind (ty ∷ types) ks at k e is = by (type_kind ty) (kinds_of types) re
       let h = below others at k refl (ap (λ (xs : List Kind). slice_get xs (suc at)) (same_Some (c ∷ others) ks e) ∙ is) in
       record { type = h.type; there = h.there; kind = h.kind }
 
-class_told : (typed : Typed) (types : List Ty) (classes : List (Option ℕ)) (at : ℕ) (ty : Ty) → AreClasses typed types classes → slice_get types at ≡ Some ty
-    → TellsClass typed ty (get_or classes at None)
-class_told typed [] classes at ty are there = absurd (none-some ty there)
-class_told typed (t ∷ types) [] at ty are there = absurd are
-class_told typed (t ∷ types) (class ∷ classes) zero ty are there = subst (λ (x : Ty). TellsClass typed x class) (same_Some t ty there) are.0
-class_told typed (t ∷ types) (class ∷ classes) (suc at) ty are there = class_told typed types classes at ty are.1 there
+class_reported : (typed : Typed) (types : List Ty) (classes : List (Option ℕ)) (at : ℕ) (ty : Ty) → AreClasses typed types classes → slice_get types at ≡ Some ty
+    → SaysClass typed ty (get_or classes at None)
+class_reported typed [] classes at ty are there = absurd (none-some ty there)
+class_reported typed (t ∷ types) [] at ty are there = absurd are
+class_reported typed (t ∷ types) (class ∷ classes) zero ty are there = subst (λ (x : Ty). SaysClass typed x class) (same_Some t ty there) are.0
+class_reported typed (t ∷ types) (class ∷ classes) (suc at) ty are there = class_reported typed types classes at ty are.1 there
 
 one_instance : (program : Program) (prefix : Prefix) (heap : Heap Ty) (ty : Ty) (types : List Ty) (v : Value) (args : List Value)
     → are_instances program prefix heap (ty ∷ types) (v ∷ args) ≡ (takes_argument program prefix heap ty v && are_instances program prefix heap types args)
@@ -78,7 +78,7 @@ one_instance program prefix heap ty types (values.Ref r) args = refl
 -- the argument at a place, and those after it
 pub record IsNext (imaged : Imaged) (program : Program) (prefix : Prefix) (heap : Heap Ty) (operands : List Value) (count at : ℕ) (v : Value) (class : Option ℕ) (types : List Ty) : Type 0 where
   pub type : Ty
-  pub told : value_kind v ≡ kinds.Ref → IsClassOf (typed_of imaged) type class
+  pub reported : value_kind v ≡ kinds.Ref → IsClassOf (typed_of imaged) type class
   pub is : are_instances program prefix heap (drop at types) (drop at (reverse (take count operands)))
       ≡ (takes_argument program prefix heap type v && are_instances program prefix heap (drop (at + 1) types) (drop (at + 1) (reverse (take count operands))))
 
@@ -98,7 +98,7 @@ next_argument imaged program prefix heap operands count at v classes types are w
     let next : suc at ≡ at + 1 = omega arith in
     record {
       type = typed.type;
-      told = λ reference. class_told (typed_of imaged) types classes at typed.type are.classes_are typed.there (typed.kind ∙ ap Some (kind_is ∙ reference));
+      reported = λ reference. class_reported (typed_of imaged) types classes at typed.type are.classes_are typed.there (typed.kind ∙ ap Some (kind_is ∙ reference));
       is = ap (λ (ts : List Ty). are_instances program prefix heap ts (drop at args)) (first_left types at typed.type typed.there)
           ∙ (ap (are_instances program prefix heap (typed.type ∷ drop (suc at) types)) (first_left args at v here)
           ∙ (one_instance program prefix heap typed.type (drop (suc at) types) v (drop (suc at) args)
@@ -118,8 +118,8 @@ all_arguments imaged program prefix heap operands count at classes types are pas
     none_left program prefix heap types (drop at (reverse (take count operands))) at (omega (arith, past, many, long))
 
 -- a value that is taken as a parameter
-pub argument_told : (imaged : Imaged) (heap : Heap ℕ) (ty : Ty) (r : ℕ) → r ≡ 0 → true ≡ is_instance (program_of imaged) imaged.prefix (typed_heap imaged heap) r ty
-argument_told imaged heap ty r null = sym (ap (λ (b : Bool). b || is_subtype (program_of imaged) imaged.prefix (class_at_number (typed_heap imaged heap) r) ty) (ap (λ (n : ℕ). nat_eq n 0) null))
+pub argument_reported : (imaged : Imaged) (heap : Heap ℕ) (ty : Ty) (r : ℕ) → r ≡ 0 → true ≡ is_instance (program_of imaged) imaged.prefix (typed_heap imaged heap) r ty
+argument_reported imaged heap ty r null = sym (ap (λ (b : Bool). b || is_subtype (program_of imaged) imaged.prefix (class_at_number (typed_heap imaged heap) r) ty) (ap (λ (n : ℕ). nat_eq n 0) null))
 
 pub object_of : (heap : Heap ℕ) (v : Value) (r : ℕ) → HasObject heap v → v ≡ values.Ref r → IsObject heap r
 object_of heap v r has e = subst (HasObject heap) e has
@@ -128,12 +128,12 @@ pub argument_some : (imaged : Imaged) (heap : Heap Ty) (ty : Ty) (v : Value) (cl
     → (value_kind v ≡ kinds.Ref → IsClassOf (typed_of imaged) ty class)
     → ((t : Ty) → slice_get (types_of (typed_of imaged)) k ≡ Some t → result ≡ is_instance (program_of imaged) imaged.prefix heap r t)
     → result ≡ takes_argument (program_of imaged) imaged.prefix heap ty v
-argument_some imaged heap ty v class r k result e some told is =
-    is ty (subst (IsClassOf (typed_of imaged) ty) some (told (ap value_kind e))) ∙ sym (ap (takes_argument (program_of imaged) imaged.prefix heap ty) e)
+argument_some imaged heap ty v class r k result e some reported is =
+    is ty (subst (IsClassOf (typed_of imaged) ty) some (reported (ap value_kind e))) ∙ sym (ap (takes_argument (program_of imaged) imaged.prefix heap ty) e)
 
 pub argument_none : (imaged : Imaged) (heap : Heap Ty) (ty : Ty) (v : Value) (class : Option ℕ) (r : ℕ) → v ≡ values.Ref r → class ≡ None
     → (value_kind v ≡ kinds.Ref → IsClassOf (typed_of imaged) ty class) → true ≡ takes_argument (program_of imaged) imaged.prefix heap ty v
-argument_none imaged heap ty v class r e none told = absurd (subst (IsClassOf (typed_of imaged) ty) none (told (ap value_kind e)))
+argument_none imaged heap ty v class r e none reported = absurd (subst (IsClassOf (typed_of imaged) ty) none (reported (ap value_kind e)))
 
 pub argument_other : (program : Program) (prefix : Prefix) (heap : Heap Ty) (ty : Ty) (v : Value) → ((r : ℕ) → v ≡ values.Ref r → ⊥) → true ≡ takes_argument program prefix heap ty v
 argument_other program prefix heap ty (values.Int z) not = refl

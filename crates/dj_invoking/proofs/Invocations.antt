@@ -14,14 +14,14 @@ use Rattle.dj_invoking.specs.declared.choosing.Mode.TheVariants as modes
 use Rattle.dj_invoking.specs.declared.choosing.Chosen.TheVariants as chosen
 use Rattle.dj_invoking.specs.Operands.{fit, receiver_in}
 use Rattle.dj_invoking.specs.Receivers.{typed_heap}
-use Rattle.dj_invoking.specs.Choosing.{IsMethod, IsChosen, told_mode, choice_of}
+use Rattle.dj_invoking.specs.Choosing.{IsMethod, IsChosen, reported_mode, choice_of}
 use Rattle.dj_invoking.specs.Invoking.{Site, CallIs, GoesOn, RunsBody, left_values, left_frames}
 use Rattle.dj_invoking.proofs.Found.{resolved_own, resolved_described}
 use Rattle.dj_invoking.proofs.Sites.{is_null, is_broken, is_method, call_no_receiver, runs_received, goes_null, goes_broken}
 
 module _ (s : Site) (resolved : FoundMethod) (kinds : List Kind) (count : ℕ) (n : count ≡ length kinds)
     (found : resolve_method (program_of s.imaged) s.imaged.prefix s.member ≡ Some resolved) (kinds_are : kinds_of (parameters_of s.member.desc) ≡ Some kinds)
-    (fits : fit (reverse kinds) (top_operands s.frames) ≡ true) (other : told_mode s.mode ≡ modes.Static → ⊥) where
+    (fits : fit (reverse kinds) (top_operands s.frames) ≡ true) (other : reported_mode s.mode ≡ modes.Static → ⊥) where
   pub absent : receiver_in (left_values s count) ≡ None → CallIs s (λ terms p. None)
   absent none = call_no_receiver s resolved kinds found kinds_are other fits (sym (ap (λ (k : ℕ). receiver_in (left_values s k)) n) ∙ none)
 
@@ -35,8 +35,8 @@ module _ (s : Site) (resolved : FoundMethod) (kinds : List Kind) (count : ℕ) (
 
   pub method_runs : (r : ℕ) (id : MethodId) → Some r ≡ receiver_in (left_values s count)
       → IsChosen (program_of s.imaged) (chosen.Method id) (choice_of (program_of s.imaged) s.imaged.prefix (typed_heap s.imaged s.heap) s.own s.mode resolved r) → Taken id
-  method_runs r id some told =
-      let t = is_method (program_of s.imaged) id (choice_of (program_of s.imaged) s.imaged.prefix (typed_heap s.imaged s.heap) s.own s.mode resolved r) told in
+  method_runs r id some reported =
+      let t = is_method (program_of s.imaged) id (choice_of (program_of s.imaged) s.imaged.prefix (typed_heap s.imaged s.heap) s.own s.mode resolved r) reported in
       record {
         method = t.0;
         there = t.2;
@@ -48,15 +48,15 @@ module _ (s : Site) (resolved : FoundMethod) (kinds : List Kind) (count : ℕ) (
   pub null_goes : (r : ℕ) (new : List StackFrame) → Some r ≡ receiver_in (left_values s count)
       → IsChosen (program_of s.imaged) chosen.Null (choice_of (program_of s.imaged) s.imaged.prefix (typed_heap s.imaged s.heap) s.own s.mode resolved r)
       → new ≡ left_frames s (count + 1) → GoesOn s new (Goes (Raise raises.NullPointer))
-  null_goes r new some told left =
+  null_goes r new some reported left =
       goes_null s resolved kinds found kinds_are r new other fits (some_there r some)
-      (is_null (program_of s.imaged) (choice_of (program_of s.imaged) s.imaged.prefix (typed_heap s.imaged s.heap) s.own s.mode resolved r) told)
+      (is_null (program_of s.imaged) (choice_of (program_of s.imaged) s.imaged.prefix (typed_heap s.imaged s.heap) s.own s.mode resolved r) reported)
       (left ∙ ap (λ (k : ℕ). left_frames s (k + 1)) n)
 
   pub link_goes : (r : ℕ) (new : List StackFrame) → Some r ≡ receiver_in (left_values s count)
       → IsChosen (program_of s.imaged) chosen.Link (choice_of (program_of s.imaged) s.imaged.prefix (typed_heap s.imaged s.heap) s.own s.mode resolved r)
       → new ≡ left_frames s (count + 1) → GoesOn s new (End outcomes.Link)
-  link_goes r new some told left =
+  link_goes r new some reported left =
       goes_broken s resolved kinds found kinds_are r new other fits (some_there r some)
-      (is_broken (program_of s.imaged) (choice_of (program_of s.imaged) s.imaged.prefix (typed_heap s.imaged s.heap) s.own s.mode resolved r) told)
+      (is_broken (program_of s.imaged) (choice_of (program_of s.imaged) s.imaged.prefix (typed_heap s.imaged s.heap) s.own s.mode resolved r) reported)
       (left ∙ ap (λ (k : ℕ). left_frames s (k + 1)) n)

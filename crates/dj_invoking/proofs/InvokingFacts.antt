@@ -12,7 +12,7 @@ use Rattle.dj_invoking.specs.declared.choosing.Chosen.TheVariants as chosen
 use Rattle.dj_invoking.specs.declared.entering.Room.{Room}
 use Rattle.dj_invoking.specs.Operands.{fit, receiver_in}
 use Rattle.dj_invoking.specs.Entering.{entered, Enters}
-use Rattle.dj_invoking.specs.Choosing.{IsNull, IsBroken, IsChosen, told_mode, received_choice, taken_method}
+use Rattle.dj_invoking.specs.Choosing.{IsNull, IsBroken, IsChosen, reported_mode, received_choice, taken_method}
 
 -- the top first: an int above a long above a reference
 abbrev some_operands : List Value
@@ -59,8 +59,8 @@ a_call = (omega arith, refl)
 not_deep : (new : List StackFrame) → Enters 1 a_room (a_caller ∷ []) new false → ⊥
 not_deep new e = let many = e.0 in omega (arith, many)
 
-told_modes : map told_mode (Virtual ∷ Special ∷ Static ∷ Interface 2 ∷ []) ≡ modes.Virtual ∷ modes.Special ∷ modes.Static ∷ modes.Interface ∷ []
-told_modes = refl
+reported_modes : map reported_mode (Virtual ∷ Special ∷ Static ∷ Interface 2 ∷ []) ≡ modes.Virtual ∷ modes.Special ∷ modes.Static ∷ modes.Interface ∷ []
+reported_modes = refl
 
 abbrev no_objects : Heap Ty
 no_objects = record { objects = []; used = 0 }
@@ -70,7 +70,7 @@ null_raises : received_choice [] [] no_objects 0 [] (taken_method None) ≡ IsNu
 null_raises = refl
 
 not_linked : IsChosen [] chosen.Link (received_choice [] [] no_objects 0 [] (taken_method None)) → ⊥
-not_linked told = told
+not_linked reported = reported
 
 broken : taken_method None ≡ IsBroken
 broken = refl

@@ -21,7 +21,7 @@ use Rattle.dj_types.specs.Members.{all_methods, methods_in}
 use Rattle.dj_image.specs.Imaged.{Imaged, program_of, typed_of}
 use Rattle.dj_image.proofs.Bare.{bare_program}
 use Rattle.dj_image.proofs.BareTyped.{methods_at_bare, number_bare}
-use Rattle.dj_invoking.specs.Natives.{TellsClass, AreClasses, row_at}
+use Rattle.dj_invoking.specs.Natives.{SaysClass, AreClasses, row_at}
 use Rattle.dj_invoking.proofs.Choices.{class_type_there}
 
 -- ---- how many methods
@@ -56,20 +56,20 @@ count_sum program table k count more sum same less c m s = s ∙ count_more prog
 
 -- ---- rows
 
-pub classes_more : (typed : Typed) (types : List Ty) (classes : List (Option ℕ)) (ty : Ty) (class : Option ℕ) → AreClasses typed types classes → TellsClass typed ty class
+pub classes_more : (typed : Typed) (types : List Ty) (classes : List (Option ℕ)) (ty : Ty) (class : Option ℕ) → AreClasses typed types classes → SaysClass typed ty class
     → AreClasses typed (types ++ ty ∷ []) (classes ++ class ∷ [])
-classes_more typed [] [] ty class are told = (told, tt)
-classes_more typed [] (c ∷ classes) ty class are told = absurd are
-classes_more typed (t ∷ types) [] ty class are told = absurd are
-classes_more typed (t ∷ types) (c ∷ classes) ty class are told = (are.0, classes_more typed types classes ty class are.1 told)
+classes_more typed [] [] ty class are reported = (reported, tt)
+classes_more typed [] (c ∷ classes) ty class are reported = absurd are
+classes_more typed (t ∷ types) [] ty class are reported = absurd are
+classes_more typed (t ∷ types) (c ∷ classes) ty class are reported = (are.0, classes_more typed types classes ty class are.1 reported)
 
 pub classes_so_far : (typed : Typed) (types : List Ty) (at : ℕ) (classes more : List (Option ℕ)) (d : Ty) (class : Option ℕ) → at < length types → more ≡ classes ++ class ∷ []
-    → AreClasses typed (take at types) classes → TellsClass typed (get_or types at d) class → AreClasses typed (take (at + 1) types) more
-classes_so_far typed types at classes more d class less e are told =
+    → AreClasses typed (take at types) classes → SaysClass typed (get_or types at d) class → AreClasses typed (take (at + 1) types) more
+classes_so_far typed types at classes more d class less e are reported =
     let next : suc at ≡ at + 1 = omega arith in
     subst (AreClasses typed (take (at + 1) types)) (sym e)
     (subst (λ (n : ℕ). AreClasses typed (take n types) (classes ++ class ∷ [])) next
-    (subst (λ (ts : List Ty). AreClasses typed ts (classes ++ class ∷ [])) (sym (take-suc types at d less)) (classes_more typed (take at types) classes (get_or types at d) class are told)))
+    (subst (λ (ts : List Ty). AreClasses typed ts (classes ++ class ∷ [])) (sym (take-suc types at d less)) (classes_more typed (take at types) classes (get_or types at d) class are reported)))
 
 abbrev row_items : List (Vec (Option ℕ)) → List (List (Option ℕ))
 row_items rows = map (λ (row : Vec (Option ℕ)). row.items) rows
@@ -114,19 +114,19 @@ rows_more imaged count rows more row e long are own number found id less there b
 
 -- ---- numbers of classes
 
-pub class_told : (imaged : Imaged) (linked : Linked) (table : Program) (dims : ℕ) (name : Name) (result : Option ℕ) → dims ≡ 0
+pub class_reported : (imaged : Imaged) (linked : Linked) (table : Program) (dims : ℕ) (name : Name) (result : Option ℕ) → dims ≡ 0
     → linked ≡ record { program = bare_program (program_of imaged); prefix = imaged.prefix } → table ≡ linked.program → result ≡ class_number table name
     → IfSome result (λ class. slice_get (types_of (typed_of imaged)) class ≡ Some (record { dims = dims; of = ofs.Class name }))
-class_told imaged linked table dims name result none l t e =
+class_reported imaged linked table dims name result none l t e =
     by result (sym (e ∙ (ap (λ (p : Program). class_number p name) (t ∙ ap (λ (x : Linked). x.program) l) ∙ number_bare (program_of imaged) name))) where
       by : (result : Option ℕ) → class_number (program_of imaged) name ≡ result → IfSome result (λ class. slice_get (types_of (typed_of imaged)) class ≡ Some (record { dims = dims; of = ofs.Class name }))
       by None number = tt
       by (Some k) number =
           class_type_there (typed_of imaged) k name (name_at-number (program_of imaged) name k number) ∙ ap (λ (n : ℕ). Some (record { dims = n; of = ofs.Class name })) (sym none)
 
-pub chars_told : (types : List Ty) (k dims : ℕ) (base : Base) → dims ≡ 1 → base ≡ bases.Char → slice_get types k ≡ Some (base_array bases.Char)
+pub chars_reported : (types : List Ty) (k dims : ℕ) (base : Base) → dims ≡ 1 → base ≡ bases.Char → slice_get types k ≡ Some (base_array bases.Char)
     → slice_get types k ≡ Some (record { dims = dims; of = ofs.Base base })
-chars_told types k dims base d b e = e ∙ (λ i. Some (record { dims = sym d i; of = ofs.Base (sym b i) }))
+chars_reported types k dims base d b e = e ∙ (λ i. Some (record { dims = sym d i; of = ofs.Base (sym b i) }))
 
 pub rows_long : (rows more : List (Vec (Option ℕ))) (row : Vec (Option ℕ)) (n : ℕ) → more ≡ rows ++ row ∷ [] → length rows ≡ n → length more ≡ n + 1
 rows_long rows more row n e long =

@@ -136,7 +136,7 @@ copied_one operands items count at v few less is so_far =
     let long : length xs ≡ length (take count operands) = length-reverse (take count operands) in
     let got : slice_get xs at ≡ Some v =
     from_end (take count operands) at (count - 1 - at) (omega (arith, taken, less)) ∙ (within_take operands count (count - 1 - at) (omega (arith, less)) ∙ is) in
-    ap (λ (front : List Value). front ++ v ∷ []) so_far
+    ap (λ (prefix : List Value). prefix ++ v ∷ []) so_far
     ∙ (ap (λ (x : Value). take at xs ++ x ∷ []) (sym (get_or_from_slice_get xs at v v got))
     ∙ (sym (take-suc xs at v (omega (arith, less, long, taken))) ∙ ap (λ (n : ℕ). take n xs) (next at)))
 

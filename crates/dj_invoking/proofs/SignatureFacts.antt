@@ -17,9 +17,9 @@ use Rattle.dj_image.specs.Shaped.{AreShapeParts}
 use Rattle.dj_invoking.specs.Choosing.{IsMethod}
 
 -- the call that is kept is of the method's descriptor
-pub call_told : (imaged : Imaged) (method : MethodId) (found : FoundMethod) (parts : ShapeParts) → AreShapeParts imaged method.number parts → IsMethod (program_of imaged) method found
+pub call_reported : (imaged : Imaged) (method : MethodId) (found : FoundMethod) (parts : ShapeParts) → AreShapeParts imaged method.number parts → IsMethod (program_of imaged) method found
     → call_signature found.method.desc ≡ call_at parts.kinds.now.calls parts.desc
-call_told imaged method found parts are there =
+call_reported imaged method found parts are there =
     ap (λ (f : FoundMethod). call_signature f.method.desc) (same_Some found are.found (sym there ∙ are.there))
     ∙ (ap call_signature (sym are.desc.is) ∙ are.kinds.calls parts.desc are.desc.spelled)
 

@@ -16,20 +16,20 @@ use Rattle.dj_activations.specs.Instructions.{instruction_of_number}
 use Rattle.dj_invoking.specs.declared.choosing.Mode.{Mode}
 use Rattle.dj_invoking.specs.declared.choosing.Mode.TheVariants as modes
 use Rattle.dj_invoking.specs.declared.site.CallSite.{CallSite}
-use Rattle.dj_invoking.specs.Choosing.{told_mode}
+use Rattle.dj_invoking.specs.Choosing.{reported_mode}
 use Rattle.dj_invoking.specs.Operands.{parameters_in}
 use Rattle.dj_invoking.specs.Sites.{IsCallAt, call_index, call_mode, call_named, opcode_mode}
 
 -- ---- forms
 
-modes_told : map opcode_mode (181 ∷ 182 ∷ 183 ∷ 184 ∷ 185 ∷ []) ≡ None ∷ Some modes.Virtual ∷ Some modes.Special ∷ Some modes.Static ∷ None ∷ []
-modes_told = refl
+modes_reported : map opcode_mode (181 ∷ 182 ∷ 183 ∷ 184 ∷ 185 ∷ []) ≡ None ∷ Some modes.Virtual ∷ Some modes.Special ∷ Some modes.Static ∷ None ∷ []
+modes_reported = refl
 
-calls_told : map call_mode (instrs.Interface 7 2 ∷ instrs.Member 184 7 ∷ instrs.Member 178 7 ∷ instrs.Class 184 7 ∷ []) ≡ Some modes.Interface ∷ Some modes.Static ∷ None ∷ None ∷ []
-calls_told = refl
+calls_reported : map call_mode (instrs.Interface 7 2 ∷ instrs.Member 184 7 ∷ instrs.Member 178 7 ∷ instrs.Class 184 7 ∷ []) ≡ Some modes.Interface ∷ Some modes.Static ∷ None ∷ None ∷ []
+calls_reported = refl
 
-indexes_told : map call_index (instrs.Interface 7 2 ∷ instrs.Member 184 8 ∷ instrs.Class 187 9 ∷ []) ≡ Some 7 ∷ Some 8 ∷ None ∷ []
-indexes_told = refl
+indexes_reported : map call_index (instrs.Interface 7 2 ∷ instrs.Member 184 8 ∷ instrs.Class 187 9 ∷ []) ≡ Some 7 ∷ Some 8 ∷ None ∷ []
+indexes_reported = refl
 
 -- ---- kinds
 
@@ -40,13 +40,13 @@ kept = record {
 }
 
 -- of a method, of one with a float, of a class, and past the last constant
-parameters_told : map (λ n. parameters_in (call_named kept n)) (1 ∷ 2 ∷ 3 ∷ 9 ∷ []) ≡ Some (kinds.Long ∷ kinds.Ref ∷ []) ∷ None ∷ None ∷ None ∷ []
-parameters_told = refl
+parameters_reported : map (λ n. parameters_in (call_named kept n)) (1 ∷ 2 ∷ 3 ∷ 9 ∷ []) ≡ Some (kinds.Long ∷ kinds.Ref ∷ []) ∷ None ∷ None ∷ None ∷ []
+parameters_reported = refl
 
 -- ---- sites
 
 abbrev mode_in : Instruction → Option Mode
-mode_in (Invoke called m) = Some (told_mode called)
+mode_in (Invoke called m) = Some (reported_mode called)
 mode_in i = None
 
 abbrev kinds_in : Instruction → Option (List Kind)
@@ -61,7 +61,7 @@ module _ (imaged : Imaged) (caller number : ℕ) (site : CallSite) (is : IsCallA
   not_nop e = let same : Nop ≡ Invoke is.called is.member = instruction_is Nop e in absurd cc
 
   static_is : (m : Member) → instruction_of_number imaged caller number ≡ Some (Invoke Static m) → site.mode ≡ modes.Static
-  static_is m e = sym is.mode ∙ same_Some (told_mode is.called) modes.Static (sym (ap mode_in (instruction_is (Invoke Static m) e)))
+  static_is m e = sym is.mode ∙ same_Some (reported_mode is.called) modes.Static (sym (ap mode_in (instruction_is (Invoke Static m) e)))
 
   static_not_special : (m : Member) → instruction_of_number imaged caller number ≡ Some (Invoke Static m) → site.mode ≡ modes.Special → ⊥
   static_not_special m e special = let same : modes.Special ≡ modes.Static = sym special ∙ static_is m e in absurd cc

@@ -29,7 +29,7 @@ use Rattle.dj_invoking.specs.declared.choosing.Mode.TheVariants as modes
 use Rattle.dj_invoking.specs.declared.choosing.Chosen.TheVariants as chosen
 use Rattle.dj_invoking.specs.Operands.{fit, receiver_in}
 use Rattle.dj_invoking.specs.Receivers.{typed_heap}
-use Rattle.dj_invoking.specs.Choosing.{Choice, Takes, IsNull, IsBroken, IsMethod, IsChosen, told_mode, taken_method, received_choice, choice_of, effect_of}
+use Rattle.dj_invoking.specs.Choosing.{Choice, Takes, IsNull, IsBroken, IsMethod, IsChosen, reported_mode, taken_method, received_choice, choice_of, effect_of}
 use Rattle.dj_invoking.specs.Invoking.{Site, CallIs, taken_values, left_values, left_part, left_frames, GoesOn, Calls, IsNative, RunsBody, taken_kinds}
 use Rattle.dj_invoking.proofs.OperandFacts.{fit_within, taken_fit, taken_not, values_taken, with_receiver}
 use Rattle.dj_invoking.proofs.Found.{IsOwn, selected_there, special_there, described_there}
@@ -37,19 +37,19 @@ use Rattle.dj_invoking.proofs.Found.{IsOwn, selected_there, special_there, descr
 -- ---- choices
 
 pub is_null : (program : Program) (choice : Choice) → IsChosen program chosen.Null choice → choice ≡ IsNull
-is_null program IsNull told = refl
-is_null program IsBroken told = absurd told
-is_null program (Takes found) told = absurd told
+is_null program IsNull reported = refl
+is_null program IsBroken reported = absurd reported
+is_null program (Takes found) reported = absurd reported
 
 pub is_broken : (program : Program) (choice : Choice) → IsChosen program chosen.Link choice → choice ≡ IsBroken
-is_broken program IsBroken told = refl
-is_broken program IsNull told = absurd told
-is_broken program (Takes found) told = absurd told
+is_broken program IsBroken reported = refl
+is_broken program IsNull reported = absurd reported
+is_broken program (Takes found) reported = absurd reported
 
 pub is_method : (program : Program) (id : MethodId) (choice : Choice) → IsChosen program (chosen.Method id) choice → (found : FoundMethod) × (choice ≡ Takes found) × IsMethod program id found
-is_method program id (Takes found) told = (found, refl, told)
-is_method program id IsNull told = absurd told
-is_method program id IsBroken told = absurd told
+is_method program id (Takes found) reported = (found, refl, reported)
+is_method program id IsNull reported = absurd reported
+is_method program id IsBroken reported = absurd reported
 
 abbrev taken_by : FoundMethod → Choice → FoundMethod
 taken_by other (Takes found) = found
@@ -97,7 +97,7 @@ received_is program prefix terms p r class receiver args types found = by (nat_e
   by false false = refl
 
 with_reference : (program : Program) (prefix : Prefix) (terms : Terms) (own : Name) (mode : Mode) (p : Part) (resolved : FoundMethod) (types : List Ty) (args rest : List Value) (r : ℕ)
-    → (told_mode mode ≡ modes.Static → ⊥)
+    → (reported_mode mode ≡ modes.Static → ⊥)
     → call program prefix terms own mode p resolved types args (values.Ref r ∷ rest)
     ≡ effect_of program prefix terms (record p { operands = rest }) (values.Ref r ∷ []) args types (choice_of program prefix p.heap own mode resolved r)
 with_reference program prefix terms own Static p resolved types args rest r other = absurd (other refl)
@@ -108,7 +108,7 @@ with_reference program prefix terms own (Interface count) p resolved types args 
     received_is program prefix terms (record p { operands = rest }) r resolved.class (values.Ref r ∷ []) args types (select program prefix resolved (class_at_number p.heap r))
 
 without_reference : (program : Program) (prefix : Prefix) (terms : Terms) (own : Name) (mode : Mode) (p : Part) (resolved : FoundMethod) (types : List Ty) (args rest : List Value)
-    → (told_mode mode ≡ modes.Static → ⊥) → receiver_in rest ≡ None → call program prefix terms own mode p resolved types args rest ≡ None
+    → (reported_mode mode ≡ modes.Static → ⊥) → receiver_in rest ≡ None → call program prefix terms own mode p resolved types args rest ≡ None
 without_reference program prefix terms own Static p resolved types args rest other e = absurd (other refl)
 without_reference program prefix terms own mode p resolved types args (values.Ref r ∷ rest) other e = absurd (none-some r (sym e))
 without_reference program prefix terms own Special p resolved types args [] other e = refl
@@ -122,7 +122,7 @@ without_reference program prefix terms own (Interface count) p resolved types ar
 without_reference program prefix terms own (Interface count) p resolved types args (values.Long z ∷ rest) other e = refl
 
 -- a method that isn't static takes a reference first
-instance_kinds : (mode : Mode) (asked : List Kind) → (told_mode mode ≡ modes.Static → ⊥) → tags.Ref ∷ asked ≡ taken_kinds mode asked
+instance_kinds : (mode : Mode) (asked : List Kind) → (reported_mode mode ≡ modes.Static → ⊥) → tags.Ref ∷ asked ≡ taken_kinds mode asked
 instance_kinds Static asked other = absurd (other refl)
 instance_kinds Special asked other = refl
 instance_kinds Virtual asked other = refl
@@ -159,13 +159,13 @@ module _ (s : Site) (resolved : FoundMethod) (kinds : List Kind)
       ∙ (taken_fit (reverse kinds) (top_operands s.frames) fits
       ∙ ap (λ (n : ℕ). Some (record { values = taken_values s n; rest = left_values s n })) (length-reverse kinds)))
 
-  pub call_no_receiver : (told_mode s.mode ≡ modes.Static → ⊥) → fit (reverse kinds) (top_operands s.frames) ≡ true → receiver_in (left_values s (length kinds)) ≡ None
+  pub call_no_receiver : (reported_mode s.mode ≡ modes.Static → ⊥) → fit (reverse kinds) (top_operands s.frames) ≡ true → receiver_in (left_values s (length kinds)) ≡ None
       → CallIs s (λ terms p. None)
   call_no_receiver other fits none terms p operands heap =
       call_fit fits terms p operands heap
       ∙ without_reference (program_of s.imaged) s.imaged.prefix terms s.own s.mode p resolved (parameters_of s.member.desc) (taken_values s (length kinds)) (left_values s (length kinds)) other none
 
-  pub call_received : (r : ℕ) → (told_mode s.mode ≡ modes.Static → ⊥) → fit (reverse kinds) (top_operands s.frames) ≡ true → receiver_in (left_values s (length kinds)) ≡ Some r
+  pub call_received : (r : ℕ) → (reported_mode s.mode ≡ modes.Static → ⊥) → fit (reverse kinds) (top_operands s.frames) ≡ true → receiver_in (left_values s (length kinds)) ≡ Some r
       → CallIs s (λ terms p. taken_effect terms (left_part s (length kinds + 1) p) (values.Ref r ∷ []) (taken_values s (length kinds))
       (choice_of (program_of s.imaged) s.imaged.prefix (typed_heap s.imaged s.heap) s.own s.mode resolved r))
   call_received r other fits some terms p operands heap =
@@ -183,7 +183,7 @@ module _ (s : Site) (resolved : FoundMethod) (kinds : List Kind)
 
   -- ---- what runs
 
-  pub runs_received : (r : ℕ) (f : FoundMethod) → (told_mode s.mode ≡ modes.Static → ⊥) → fit (reverse kinds) (top_operands s.frames) ≡ true
+  pub runs_received : (r : ℕ) (f : FoundMethod) → (reported_mode s.mode ≡ modes.Static → ⊥) → fit (reverse kinds) (top_operands s.frames) ≡ true
       → receiver_in (left_values s (length kinds)) ≡ Some r → IsOwn (program_of s.imaged) resolved → resolved.method.desc ≡ s.member.desc
       → choice_of (program_of s.imaged) s.imaged.prefix (typed_heap s.imaged s.heap) s.own s.mode resolved r ≡ Takes f → RunsBody s (length kinds + 1) (length kinds) f
   runs_received r f other fits some own described e =
@@ -219,7 +219,7 @@ module _ (s : Site) (resolved : FoundMethod) (kinds : List Kind)
     does = call_static static fits;
   }
 
-  pub goes_null : (r : ℕ) (new : List StackFrame) → (told_mode s.mode ≡ modes.Static → ⊥) → fit (reverse kinds) (top_operands s.frames) ≡ true
+  pub goes_null : (r : ℕ) (new : List StackFrame) → (reported_mode s.mode ≡ modes.Static → ⊥) → fit (reverse kinds) (top_operands s.frames) ≡ true
       → receiver_in (left_values s (length kinds)) ≡ Some r → choice_of (program_of s.imaged) s.imaged.prefix (typed_heap s.imaged s.heap) s.own s.mode resolved r ≡ IsNull
       → new ≡ left_frames s (length kinds + 1) → GoesOn s new (Goes (Raise raises.NullPointer))
   goes_null r new other fits some e left = record {
@@ -229,7 +229,7 @@ module _ (s : Site) (resolved : FoundMethod) (kinds : List Kind)
     frames = left;
   }
 
-  pub goes_broken : (r : ℕ) (new : List StackFrame) → (told_mode s.mode ≡ modes.Static → ⊥) → fit (reverse kinds) (top_operands s.frames) ≡ true
+  pub goes_broken : (r : ℕ) (new : List StackFrame) → (reported_mode s.mode ≡ modes.Static → ⊥) → fit (reverse kinds) (top_operands s.frames) ≡ true
       → receiver_in (left_values s (length kinds)) ≡ Some r → choice_of (program_of s.imaged) s.imaged.prefix (typed_heap s.imaged s.heap) s.own s.mode resolved r ≡ IsBroken
       → new ≡ left_frames s (length kinds + 1) → GoesOn s new (End outcomes.Link)
   goes_broken r new other fits some e left = record {

@@ -21,11 +21,11 @@ use Rattle.dj_invoking.specs.declared.choosing.Chosen.{Chosen}
 use Rattle.dj_invoking.specs.declared.choosing.Chosen.TheVariants as chosen
 
 -- without the count of a call of an interface's method
-abbrev pub told_mode : model.Mode → Mode
-told_mode Virtual = modes.Virtual
-told_mode Special = modes.Special
-told_mode Static = modes.Static
-told_mode (Interface count) = modes.Interface
+abbrev pub reported_mode : model.Mode → Mode
+reported_mode Virtual = modes.Virtual
+reported_mode Special = modes.Special
+reported_mode Static = modes.Static
+reported_mode (Interface count) = modes.Interface
 
 -- ---- in the model
 
@@ -73,7 +73,7 @@ IsNumber program id = id.number < length (all_methods program)
 -- what is chosen is a method of the program, if it is one
 abbrev pub IsThere : Program → Chosen → Type 0
 IsThere program (chosen.Method id) = IsNumber program id
-IsThere program told = ⊤
+IsThere program reported = ⊤
 
 abbrev pub IsMethod : Program → MethodId → FoundMethod → Type 0
 IsMethod program id found = slice_get (all_methods program) id.number ≡ Some found
@@ -82,7 +82,7 @@ abbrev pub IsChosen : Program → Chosen → Choice → Type 0
 IsChosen program (chosen.Method id) (Takes found) = IsMethod program id found
 IsChosen program chosen.Null IsNull = ⊤
 IsChosen program chosen.Link IsBroken = ⊤
-IsChosen program told choice = ⊥
+IsChosen program reported choice = ⊥
 
 abbrev pub IsMethodOrNone : Program → Option MethodId → Option FoundMethod → Type 0
 IsMethodOrNone program None None = ⊤

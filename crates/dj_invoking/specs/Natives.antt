@@ -20,12 +20,12 @@ IsClassOf typed ty None = ⊥
 IsClassOf typed ty (Some class) = slice_get (types_of typed) class ≡ Some ty
 
 -- the class of a type of references; none for other types
-abbrev pub TellsClass : Typed → Ty → Option ℕ → Type 0
-TellsClass typed ty class = type_kind ty ≡ Some kinds.Ref → IsClassOf typed ty class
+abbrev pub SaysClass : Typed → Ty → Option ℕ → Type 0
+SaysClass typed ty class = type_kind ty ≡ Some kinds.Ref → IsClassOf typed ty class
 
 abbrev pub AreClasses : Typed → List Ty → List (Option ℕ) → Type 0
 AreClasses typed [] [] = ⊤
-AreClasses typed (ty ∷ types) (class ∷ classes) = TellsClass typed ty class × AreClasses typed types classes
+AreClasses typed (ty ∷ types) (class ∷ classes) = SaysClass typed ty class × AreClasses typed types classes
 AreClasses typed types classes = ⊥
 
 abbrev pub row_at : List (List (Option ℕ)) → ℕ → List (Option ℕ)

@@ -19,7 +19,7 @@ use Rattle.dj_activations.specs.Instructions.{instruction_of_number}
 use Rattle.dj_invoking.specs.declared.choosing.Mode.{Mode}
 use Rattle.dj_invoking.specs.declared.choosing.Mode.TheVariants as modes
 use Rattle.dj_invoking.specs.declared.site.CallSite.{CallSite}
-use Rattle.dj_invoking.specs.Choosing.{IsMethod, told_mode}
+use Rattle.dj_invoking.specs.Choosing.{IsMethod, reported_mode}
 use Rattle.dj_invoking.specs.Operands.{parameters_in}
 
 -- the instruction of the number in the method of the number calls this, by this mode, on arguments of these kinds
@@ -28,7 +28,7 @@ pub record IsCallAt (imaged : Imaged) (caller number : ℕ) (site : CallSite) : 
   pub member : Member
   pub resolved : FoundMethod
   pub is : instruction_of_number imaged caller number ≡ Some (model.Invoke called member)
-  pub mode : told_mode called ≡ site.mode
+  pub mode : reported_mode called ≡ site.mode
   pub resolves : resolve_method (program_of imaged) imaged.prefix member ≡ Some resolved
   pub method : IsMethod (program_of imaged) site.method resolved
   pub kinds : kinds_of (parameters_of member.desc) ≡ Some site.kinds.now
@@ -60,9 +60,9 @@ abbrev pub call_named : KeptKinds → ℕ → Option Signature
 call_named kinds index = option_and_then (call_at kinds.calls) (desc_index (get_or kinds.constants index constants.Other))
 
 -- the kinds of the parameters of the call of the instruction of a number in code
-pub record AreParametersAt (code : MethodCode) (kinds : KeptKinds) (number : ℕ) (told : List Kind) : Type 0 where
+pub record AreParametersAt (code : MethodCode) (kinds : KeptKinds) (number : ℕ) (reported : List Kind) : Type 0 where
   pub instr : Instr
   pub stands : slice_get code.code.code number ≡ Some instr
   pub index : ℕ
   pub index_is : call_index instr ≡ Some index
-  pub told_is : parameters_in (call_named kinds index) ≡ Some told
+  pub reported_is : parameters_in (call_named kinds index) ≡ Some reported

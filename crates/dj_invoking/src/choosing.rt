@@ -5,7 +5,7 @@ ghost use Rattle.dj_model.specs.trusted.Linking.{FoundMethod, resolve_method, sp
 ghost use Rattle.dj_linking.specs.Linked.{class_name};
 ghost use Rattle.dj_types.specs.Members.{all_methods};
 ghost use Rattle.dj_image.specs.Imaged.{program_of};
-ghost use Rattle.dj_invoking.specs.Choosing.{IsNumber, IsThere, IsMethod, IsMethodOrNone, IsChosen, RefusesWith, choice_of, chosen_method, special_choice, told_mode, virtual_choice};
+ghost use Rattle.dj_invoking.specs.Choosing.{IsNumber, IsThere, IsMethod, IsMethodOrNone, IsChosen, RefusesWith, choice_of, chosen_method, special_choice, reported_mode, virtual_choice};
 ghost use Rattle.dj_invoking.specs.Receivers.{AreNumbered, IsObject, typed_heap};
 
 use dj_heap::Heap;
@@ -111,7 +111,7 @@ pub fn choose(image: &Image, heap: &Heap, mode: Mode, own: u32, method: MethodId
     requires numbered { AreNumbered image.now heap.now.heap }
     requires object { IsObject heap.now.heap r }
     ensures there { IsThere (program_of image.now) result }
-    ensures chosen { (called : model.Mode) (m : Member) (resolved : FoundMethod) → told_mode called ≡ mode → resolve_method (program_of image.now) image.now.prefix m ≡ Some resolved
+    ensures chosen { (called : model.Mode) (m : Member) (resolved : FoundMethod) → reported_mode called ≡ mode → resolve_method (program_of image.now) image.now.prefix m ≡ Some resolved
         → IsMethod (program_of image.now) method resolved
         → IsChosen (program_of image.now) result (choice_of (program_of image.now) image.now.prefix (typed_heap image.now heap.now.heap) (class_name (program_of image.now) own) called resolved r) }
 {

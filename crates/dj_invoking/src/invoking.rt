@@ -13,7 +13,7 @@ ghost use Rattle.dj_types.specs.Typed.{types_of};
 ghost use Rattle.dj_types.specs.Members.{all_methods};
 ghost use Rattle.dj_image.specs.Imaged.{program_of, typed_of};
 ghost use Rattle.dj_invoking.specs.declared.choosing.Mode.TheVariants as modes;
-ghost use Rattle.dj_invoking.specs.Choosing.{IsMethod, told_mode};
+ghost use Rattle.dj_invoking.specs.Choosing.{IsMethod, reported_mode};
 ghost use Rattle.dj_invoking.specs.Operands.{fit, with_operands};
 ghost use Rattle.dj_invoking.specs.Receivers.{AreNumbered};
 ghost use Rattle.dj_invoking.specs.Natives.{AreNatives};
@@ -144,7 +144,7 @@ fn invoke_on(
     requires own { own < length (program_of image.now) }
     requires natives { AreNatives image.now natives.now }
     requires numbered { AreNumbered image.now heap.now.heap }
-    ensures { (called : model.Mode) (m : Member) (resolved : FoundMethod) (kinds : List Kind) → told_mode called ≡ mode → (mode ≡ modes.Static → ⊥)
+    ensures { (called : model.Mode) (m : Member) (resolved : FoundMethod) (kinds : List Kind) → reported_mode called ≡ mode → (mode ≡ modes.Static → ⊥)
         → resolve_method (program_of image.now) image.now.prefix m ≡ Some resolved → IsMethod (program_of image.now) method resolved
         → kinds_of (parameters_of m.desc) ≡ Some kinds → count ≡ length kinds → fit (reverse kinds) (top_operands frames.old) ≡ true
         → IfOk result (Invokes (site image.now frames.old heap.now.heap called (class_name (program_of image.now) own) m) frames.new) }
@@ -192,7 +192,7 @@ pub fn invoke(
     requires own { own < length (program_of image.now) }
     requires natives { AreNatives image.now natives.now }
     requires known { AreKnown (types_of (typed_of image.now)) heap.now }
-    ensures { (called : model.Mode) (m : Member) (resolved : FoundMethod) → told_mode called ≡ mode
+    ensures { (called : model.Mode) (m : Member) (resolved : FoundMethod) → reported_mode called ≡ mode
         → resolve_method (program_of image.now) image.now.prefix m ≡ Some resolved → IsMethod (program_of image.now) method resolved
         → kinds_of (parameters_of m.desc) ≡ Some kinds.now
         → IfOk result (Invokes (site image.now frames.old heap.now.heap called (class_name (program_of image.now) own) m) frames.new) }

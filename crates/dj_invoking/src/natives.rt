@@ -10,7 +10,7 @@ ghost use Rattle.dj_types.specs.Typed.{types_of};
 ghost use Rattle.dj_types.specs.Members.{all_methods};
 ghost use Rattle.dj_image.specs.Imaged.{program_of, typed_of};
 ghost use Rattle.dj_invoking.specs.Choosing.{IsMethod, IsNumber};
-ghost use Rattle.dj_invoking.specs.Natives.{AreClasses, AreNatives, TellsClass, row_at};
+ghost use Rattle.dj_invoking.specs.Natives.{AreClasses, AreNatives, SaysClass, row_at};
 
 use dj_image::{Body, Image, MethodId};
 use dj_names::{Base, Desc, DescError, Kind, Of, Ty, kind_of, read_desc};
@@ -153,7 +153,7 @@ fn classes_of(alloc: Global, image: &Image, types: &[Ty]) -> Result<Vec<Option<u
 
 // The class of a type of references.
 fn class_of(image: &Image, ty: &Ty) -> Result<Option<u32>, NativesError>
-    ensures { IfOk result (TellsClass (typed_of image.now) ty.now) }
+    ensures { IfOk result (SaysClass (typed_of image.now) ty.now) }
 {
     match kind_of(ty) {
         Some(Kind::Ref) => match number_of(image, ty) {

@@ -85,7 +85,7 @@ fn desc_index(constant: ConstantKind) -> Option<u16>
 
 // The kinds of the parameters of the method that the constant at an index names; none where it names none, or one with floats or doubles.
 fn parameters_named(kinds: &PoolKinds, index: u16) -> Option<&[Kind]>
-    ensures { option_map (λ told. told.now) result ≡ parameters_in (call_named kinds.now index) }
+    ensures { option_map (λ reported. reported.now) result ≡ parameters_in (call_named kinds.now index) }
 {
     let desc = desc_index(kinds.constant(index))?;
     let call = kinds.call(desc)?;
@@ -94,7 +94,7 @@ fn parameters_named(kinds: &PoolKinds, index: u16) -> Option<&[Kind]>
 
 // The kinds of the parameters of the call of the instruction of a number in code.
 fn parameters_at<'i>(kinds: &'i PoolKinds, code: &MethodCode, number: u32) -> Option<&'i [Kind]>
-    ensures { IfSome result (λ told. AreParametersAt code.now kinds.now number told.now) }
+    ensures { IfSome result (λ reported. AreParametersAt code.now kinds.now number reported.now) }
 {
     let instr = instr_in(code, number)?;
     let index = call_index(instr)?;

@@ -31,7 +31,7 @@ use Rattle.dj_check.specs.trusted.Methods.{CatchesError, HandlerViolates, Method
 use Rattle.dj_check.specs.trusted.Rules.{IsDuplicateLine}
 use Rattle.dj_link.specs.trusted.Foreign.{IsForeignConstant}
 use Rattle.dj_link.specs.trusted.Lines.{HandlerLinkViolates, MethodLinkViolates}
-use Rattle.dj_judge.specs.trusted.Lines.{IsUntold, MethodShapeViolates}
+use Rattle.dj_judge.specs.trusted.Lines.{IsUnreported, MethodShapeViolates}
 
 -- ---- rule 5
 
@@ -137,9 +137,9 @@ unfolding method
 no_code flags name desc info own = contains_none own.body own.own
 
 -- a public n()V
-plain_untold : (program : Program) → IsUntold program class (method 1 3 4)
+plain_unreported : (program : Program) → IsUnreported program class (method 1 3 4)
 unfolding class pool method
-plain_untold program = record {
+plain_unreported program = record {
   native = λ set. set refl;
   finalizer = λ is. let name = is.0 in absurd cc;
   early = λ number rule any. elim any [
@@ -148,29 +148,29 @@ plain_untold program = record {
     | inl (none, inr (code, is)) ↦ code.1 refl
     | inr within ↦ no_code 1 3 4 within.code.code within.code.own
   ];
-  linked = λ number rule told. no_code 1 3 4 told.code.code told.code.own;
+  linked = λ number rule reported. no_code 1 3 4 reported.code.code reported.code.own;
 }
 
 -- a native one, finalize()V, and one whose descriptor has a float
-native_told : (program : Program) → IsUntold program class (method 257 3 4) → ⊥
+native_reported : (program : Program) → IsUnreported program class (method 257 3 4) → ⊥
 unfolding method
-native_told program untold = untold.native (λ e. absurd cc)
+native_reported program unreported = unreported.native (λ e. absurd cc)
 
-finalizer_told : (program : Program) → IsUntold program class (method 1 5 4) → ⊥
+finalizer_reported : (program : Program) → IsUnreported program class (method 1 5 4) → ⊥
 unfolding class pool method
-finalizer_told program untold = untold.finalizer (refl, refl)
+finalizer_reported program unreported = unreported.finalizer (refl, refl)
 
-float_told : (program : Program) → IsUntold program class (method 1 3 6) → ⊥
+float_reported : (program : Program) → IsUnreported program class (method 1 3 6) → ⊥
 unfolding class pool method
-float_told program untold = untold.early None 12 (inl (refl, inl (inl float_text, refl)))
+float_reported program unreported = unreported.early None 12 (inl (refl, inl (inl float_text, refl)))
 
 module _ (program : Program) (c : ClassFile) (m : MemberInfo) where
   -- one line of the rules 9 to 18, at any instruction, silences rule 19 of the method at each
-  early_told : (number other : Option ℕ) (early rule : ℕ) → MethodViolates c m number early → MethodShapeViolates program c m other rule → ⊥
-  early_told number other early rule is shape = shape.untold.early number early is
+  early_reported : (number other : Option ℕ) (early rule : ℕ) → MethodViolates c m number early → MethodShapeViolates program c m other rule → ⊥
+  early_reported number other early rule is shape = shape.unreported.early number early is
 
-  linked_told : (number other : Option ℕ) (linked rule : ℕ) → MethodLinkViolates program c m number linked → MethodShapeViolates program c m other rule → ⊥
-  linked_told number other linked rule is shape = shape.untold.linked number linked is
+  linked_reported : (number other : Option ℕ) (linked rule : ℕ) → MethodLinkViolates program c m number linked → MethodShapeViolates program c m other rule → ⊥
+  linked_reported number other linked rule is shape = shape.unreported.linked number linked is
 
   other_rule_not : (number : Option ℕ) → (MethodShapeViolates program c m number 18 → ⊥) × (MethodShapeViolates program c m number 20 → ⊥)
   other_rule_not number = (
@@ -196,9 +196,9 @@ unfolding caught reads_class_name dims_read name_read class_read of_read type_re
 error_foreign = (inl refl, inl refl)
 
 -- but rule 11 is
-error_told : HandlerViolates caught (rows (row 2 ∷ [])) 1 11
+error_reported : HandlerViolates caught (rows (row 2 ∷ [])) 1 11
 unfolding caught row rows
-error_told = record { range = row 2; own = (0, omega arith, refl); begins = refl; catches = inl refl; is = refl }
+error_reported = record { range = row 2; own = (0, omega arith, refl); begins = refl; catches = inl refl; is = refl }
 
 only_row : (r : Protected) → Contains (row 2 ∷ []) r → row 2 ≡ r
 only_row r own = elim (contains_cases (row 2) [] r own) [ inl is ↦ is | inr none ↦ absurd (contains_none r none) ]

@@ -33,7 +33,7 @@ use Rattle.dj_judge.specs.declared.files.JudgedFiles.{JudgedFiles}
 use Rattle.dj_judge.specs.declared.kept.Kept.{Kept}
 use Rattle.dj_judge.specs.trusted.Lines.{MethodShapeViolates, IsLinkedLine}
 use Rattle.dj_judge.specs.Late.{MethodLateViolates, IsFileLateLine}
-use Rattle.dj_judge.specs.Told.{TellsPart, IsJudgedFile, IsToldFile}
+use Rattle.dj_judge.specs.Reported.{SaysPart, IsJudgedFile, IsReportedFile}
 use Rattle.dj_judge.specs.Kept.{AreKept}
 
 -- ---- from marks to lines
@@ -123,13 +123,13 @@ late_of_file file Has program own none old new (Some part) empty judged has adde
     (adds_part (IsMemberLine (MethodLateViolates program class) class.methods file.path.now class) old own.late.items new
     (subst (λ (xs : List Violation). Adds (IsMemberLine (MethodLateViolates program class) class.methods file.path.now class) xs own.late.items) empty (judged.lines.late program has)) added)
 
-part_of_file : (file : PathFile) (Has : Program → Type 0) (own none : JudgedFiles) (part : Option GoodFile) → IsJudgedFile file Has none own part → TellsPart file part
+part_of_file : (file : PathFile) (Has : Program → Type 0) (own none : JudgedFiles) (part : Option GoodFile) → IsJudgedFile file Has none own part → SaysPart file part
 part_of_file file Has own none None judged = judged.refused
 part_of_file file Has own none (Some part) judged = (judged.class, judged.good, judged.kept)
 
-pub told_file : (file : PathFile) (Has : Program → Type 0) (own none old new : JudgedFiles) (part : Option GoodFile) → none.early.items ≡ [] → none.late.items ≡ [] → IsJudgedFile file Has none own part
-    → Adds (λ v. Contains own.early.items v) old.early.items new.early.items → Adds (λ v. Contains own.late.items v) old.late.items new.late.items → IsToldFile file Has old new part
-told_file file Has own none old new part empty empty_late judged early late = record {
+pub reported_file : (file : PathFile) (Has : Program → Type 0) (own none old new : JudgedFiles) (part : Option GoodFile) → none.early.items ≡ [] → none.late.items ≡ [] → IsJudgedFile file Has none own part
+    → Adds (λ v. Contains own.early.items v) old.early.items new.early.items → Adds (λ v. Contains own.late.items v) old.late.items new.late.items → IsReportedFile file Has old new part
+reported_file file Has own none old new part empty empty_late judged early late = record {
   early = early_of_file file Has own none old.early.items new.early.items part empty judged early;
   late = λ program has. late_of_file file Has program own none old.late.items new.late.items part empty_late judged has late;
   kept = part_of_file file Has own none part judged;

@@ -15,7 +15,7 @@ use Rattle.dj_check.specs.declared.hierarchy.Owner.{Owner}
 use Rattle.dj_judge.specs.declared.kept.Kept.{Kept}
 use Rattle.dj_check.specs.trusted.Malformed.{IsGood}
 use Rattle.dj_check.specs.Passes.{IsGoodPart}
-use Rattle.dj_judge.specs.Told.{TellsPart}
+use Rattle.dj_judge.specs.Reported.{SaysPart}
 use Rattle.dj_check.specs.Doubles.{IsNamedAs}
 use Rattle.dj_check.specs.Kept.{OwnsAt, IsOwnedAt, AreOwned}
 use Rattle.dj_judge.specs.Kept.{heads_in, owners_in, named_as, Keeps, AreKept}
@@ -61,7 +61,7 @@ owned_kept files more heads more_heads owners more_owners place at = record {
 }
 
 -- a file with rule 1 has no head
-refused_more : (files : List PathFile) (file : PathFile) (heads : List ClassHead) (owners : List Owner) → TellsPart file None → AreOwned files heads owners → AreOwned (files ++ file ∷ []) heads owners
+refused_more : (files : List PathFile) (file : PathFile) (heads : List ClassHead) (owners : List Owner) → SaysPart file None → AreOwned files heads owners → AreOwned (files ++ file ∷ []) heads owners
 refused_more files file heads owners refused before = record {
   all = before.all;
   each = λ place lt.
@@ -69,14 +69,14 @@ refused_more files file heads owners refused before = record {
       record { file = old.file; among = Contains-append_left files (file ∷ []) old.file old.among; class = old.class; owns = old.owns };
   whole = λ other c among good. elim (Contains-push_cases files file other among) [
     | inl old ↦ before.whole other c old good
-    | inr same ↦ absurd (refused_not_good other.bytes.now c good (subst (λ (f : PathFile). TellsPart f None) same refused))
+    | inr same ↦ absurd (refused_not_good other.bytes.now c good (subst (λ (f : PathFile). SaysPart f None) same refused))
   ];
 }
 
 -- and another has the one that is given
-good_more : (files : List PathFile) (file : PathFile) (path : Bor (List ℕ)) (part : GoodFile) (heads : List ClassHead) (owners : List Owner) → path.now ≡ file.path.now → TellsPart file (Some part) → AreOwned files heads owners
+good_more : (files : List PathFile) (file : PathFile) (path : Bor (List ℕ)) (part : GoodFile) (heads : List ClassHead) (owners : List Owner) → path.now ≡ file.path.now → SaysPart file (Some part) → AreOwned files heads owners
     → AreOwned (files ++ file ∷ []) (heads ++ part.head ∷ []) (owners ++ record { path = path; repeats = part.repeats } ∷ [])
-good_more files file path part heads owners same (class, good, told) before =
+good_more files file path part heads owners same (class, good, reported) before =
     let owner : Owner = record { path = path; repeats = part.repeats } in
     let here : (c : ClassFile) → IsGood file.bytes.now c → OwnsAt (heads ++ part.head ∷ []) (owners ++ owner ∷ []) file c (length heads) =
     λ c is. record {
@@ -85,8 +85,8 @@ good_more files file path part heads owners same (class, good, told) before =
       owner = owner;
       own = subst (λ (k : ℕ). slice_get (owners ++ owner ∷ []) k ≡ Some owner) before.all (last_at owners owner);
       is =
-          let part_is = subst (λ (d : ClassFile). IsGoodPart d part) (one_class_file tests_decide file.bytes.now class c good.file is.file) told in
-          record { good = is; path = same; head_is = part_is.head_is; told = part_is.told };
+          let part_is = subst (λ (d : ClassFile). IsGoodPart d part) (one_class_file tests_decide file.bytes.now class c good.file is.file) reported in
+          record { good = is; path = same; head_is = part_is.head_is; reported = part_is.reported };
     } in
     record {
       all = omega (arith, length-append owners (owner ∷ []), length-append heads (part.head ∷ []), before.all);
@@ -102,18 +102,18 @@ good_more files file path part heads owners same (class, good, told) before =
       ];
     }
 
-owned_more : (files : List PathFile) (file : PathFile) (path : Bor (List ℕ)) (part : Option GoodFile) (heads : List ClassHead) (owners : List Owner) → path.now ≡ file.path.now → TellsPart file part → AreOwned files heads owners
+owned_more : (files : List PathFile) (file : PathFile) (path : Bor (List ℕ)) (part : Option GoodFile) (heads : List ClassHead) (owners : List Owner) → path.now ≡ file.path.now → SaysPart file part → AreOwned files heads owners
     → AreOwned (files ++ file ∷ []) (heads ++ heads_in part) (owners ++ owners_in path part)
 owned_more files file path None heads owners same refused before =
     subst (λ (hs : List ClassHead). AreOwned (files ++ file ∷ []) hs (owners ++ [])) (sym (append-nil heads))
     (subst (λ (os : List Owner). AreOwned (files ++ file ∷ []) heads os) (sym (append-nil owners)) (refused_more files file heads owners refused before))
-owned_more files file path (Some part) heads owners same told before = good_more files file path part heads owners same told before
+owned_more files file path (Some part) heads owners same reported before = good_more files file path part heads owners same reported before
 
 -- ---- all that is kept
 
-named_part : (file : PathFile) (path : Bor (List ℕ)) (part : Option GoodFile) → path.now ≡ file.path.now → TellsPart file part → IsNamedAs file (named_as path part)
+named_part : (file : PathFile) (path : Bor (List ℕ)) (part : Option GoodFile) → path.now ≡ file.path.now → SaysPart file part → IsNamedAs file (named_as path part)
 named_part file path None same refused = record { path = same; name = refused }
-named_part file path (Some part) same (c, good, told) = record { path = same; name = (c, good, told.head_is.name) }
+named_part file path (Some part) same (c, good, reported) = record { path = same; name = (c, good, reported.head_is.name) }
 
 -- what is kept of the first n files
 pub record AreFirstKept (count : ℕ) (files : List PathFile) (kept : Kept) : Type 0 where
@@ -126,13 +126,13 @@ none_kept files kept named heads owners = record {
   owned = subst (λ (hs : List ClassHead). AreOwned [] hs kept.owners.items) (sym heads) (subst (λ (os : List Owner). AreOwned [] [] os) (sym owners) none_owned);
 }
 
-pub one_more_kept : (files : List PathFile) (i : ℕ) (d : PathFile) (part : Option GoodFile) (old new : Kept) → i < length files → TellsPart (get_or files i d) part → Keeps (get_or files i d).path part old new → AreFirstKept i files old
+pub one_more_kept : (files : List PathFile) (i : ℕ) (d : PathFile) (part : Option GoodFile) (old new : Kept) → i < length files → SaysPart (get_or files i d) part → Keeps (get_or files i d).path part old new → AreFirstKept i files old
     → AreFirstKept (i + 1) files new
-one_more_kept files i d part old new lt told keeps before =
+one_more_kept files i d part old new lt reported keeps before =
     let file = get_or files i d in
-    let owned : AreOwned (take i files ++ file ∷ []) (old.heads.items ++ heads_in part) (old.owners.items ++ owners_in file.path part) = owned_more (take i files) file file.path part old.heads.items old.owners.items refl told before.owned in
+    let owned : AreOwned (take i files ++ file ∷ []) (old.heads.items ++ heads_in part) (old.owners.items ++ owners_in file.path part) = owned_more (take i files) file file.path part old.heads.items old.owners.items refl reported before.owned in
     record {
-      named = one_more_named files i d (named_as file.path part) old.named.items new.named.items lt keeps.named (named_part file file.path part refl told) before.named;
+      named = one_more_named files i d (named_as file.path part) old.named.items new.named.items lt keeps.named (named_part file file.path part refl reported) before.named;
       owned =
           subst (λ (hs : List ClassHead). AreOwned (take (i + 1) files) hs new.owners.items) (sym keeps.heads)
           (subst (λ (os : List Owner). AreOwned (take (i + 1) files) (old.heads.items ++ heads_in part) os) (sym keeps.owners)

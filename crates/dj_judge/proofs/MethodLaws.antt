@@ -20,25 +20,25 @@ use Rattle.dj_check.specs.trusted.Methods.{MethodViolates}
 use Rattle.dj_check.specs.Passes.{IsWholeMethod}
 use Rattle.dj_link.specs.declared.known.Known.{Known}
 use Rattle.dj_link.specs.trusted.Lines.{MethodLinkViolates}
-use Rattle.dj_link.specs.Marks.{IsUntoldMethod}
+use Rattle.dj_link.specs.Marks.{IsUnreportedMethod}
 use Rattle.dj_judge.specs.declared.lent.Marks.{Marks}
-use Rattle.dj_judge.specs.trusted.Lines.{IsUntold}
-use Rattle.dj_judge.specs.Late.{HasKnown, ShapeViolates, MethodLateViolates, AreToldMarks}
-use Rattle.dj_judge.specs.Told.{IsToldMethod}
+use Rattle.dj_judge.specs.trusted.Lines.{IsUnreported}
+use Rattle.dj_judge.specs.Late.{HasKnown, ShapeViolates, MethodLateViolates, AreReportedMarks}
+use Rattle.dj_judge.specs.Reported.{IsReportedMethod}
 
 -- ---- whether there are marks
 
 module _ (names : ℕ × ℕ) (Violates : Option ℕ → ℕ → Type 0) where
   -- where there are none, nothing is violated
-  pub untold_by : (marks : List Mark) → Gains (MarksOf names Violates) [] marks → marks ≡ [] → (number : Option ℕ) (rule : ℕ) → Violates number rule → ⊥
-  untold_by marks gains none number rule is =
+  pub unreported_by : (marks : List Mark) → Gains (MarksOf names Violates) [] marks → marks ≡ [] → (number : Option ℕ) (rule : ℕ) → Violates number rule → ⊥
+  unreported_by marks gains none number rule is =
       let mark : Mark = record { place = place_of names number; rule = rule } in
       contains_none mark (subst (λ (xs : List Mark). Contains xs mark) none ((gains mark).1 (inr (refl, is))))
 
   -- and else something is
-  pub told_by : (marks : List Mark) → Gains (MarksOf names Violates) [] marks → marks ≢ [] → ((number : Option ℕ) (rule : ℕ) → Violates number rule → ⊥) → ⊥
-  told_by [] gains some never = some refl
-  told_by (mark ∷ marks) gains some never = elim ((gains mark).0 (0, omega arith, refl)) [
+  pub reported_by : (marks : List Mark) → Gains (MarksOf names Violates) [] marks → marks ≢ [] → ((number : Option ℕ) (rule : ℕ) → Violates number rule → ⊥) → ⊥
+  reported_by [] gains some never = some refl
+  reported_by (mark ∷ marks) gains some never = elim ((gains mark).0 (0, omega arith, refl)) [
     | inl none ↦ contains_none mark none
     | inr is ↦ never mark.place.number mark.rule is.1
   ]
@@ -56,40 +56,40 @@ some_body bodies body one none = absurd cc
 with_code : (pool : List Constant) (m : MemberInfo) (code : WholeCode) → IsWholeMethod pool m code → IsNative m → ⊥
 with_code pool m code is native = is.sound (inr (inl (inl native, some_body (codes_of pool m) is.body is.one)))
 
-abbrev pub IsTold : ClassFile → MemberInfo → List Mark → List Mark → Type 0
-IsTold c m early late = (early ≢ []) ⊎ ((late ≢ []) ⊎ IsFinalizer c.pool m)
+abbrev pub IsReported : ClassFile → MemberInfo → List Mark → List Mark → Type 0
+IsReported c m early late = (early ≢ []) ⊎ ((late ≢ []) ⊎ IsFinalizer c.pool m)
 
 module _ (program : Program) (c : ClassFile) (m : MemberInfo) (names : ℕ × ℕ) (early late : List Mark)
     (earlier : Gains (MarksOf names (MethodViolates c m)) [] early) (linked : Gains (MarksOf names (MethodLinkViolates program c m)) [] late) where
-  told : IsTold c m early late → IsUntold program c m → ⊥
-  told any untold = elim any [
-    | inl some ↦ told_by names (MethodViolates c m) early earlier some untold.early
-    | inr (inl some) ↦ told_by names (MethodLinkViolates program c m) late linked some untold.linked
-    | inr (inr finalizer) ↦ untold.finalizer finalizer
+  reported : IsReported c m early late → IsUnreported program c m → ⊥
+  reported any unreported = elim any [
+    | inl some ↦ reported_by names (MethodViolates c m) early earlier some unreported.early
+    | inr (inl some) ↦ reported_by names (MethodLinkViolates program c m) late linked some unreported.linked
+    | inr (inr finalizer) ↦ unreported.finalizer finalizer
   ]
 
-  untold : (code : WholeCode) → IsWholeMethod c.pool m code → (IsTold c m early late → ⊥) → IsUntold program c m
-  untold code whole never = record {
+  unreported : (code : WholeCode) → IsWholeMethod c.pool m code → (IsReported c m early late → ⊥) → IsUnreported program c m
+  unreported code whole never = record {
     native = with_code c.pool m code whole;
     finalizer = λ is. never (inr (inr is));
-    early = untold_by names (MethodViolates c m) early earlier (nothing early (λ some. never (inl some)));
-    linked = untold_by names (MethodLinkViolates program c m) late linked (nothing late (λ some. never (inr (inl some))));
+    early = unreported_by names (MethodViolates c m) early earlier (nothing early (λ some. never (inl some)));
+    linked = unreported_by names (MethodLinkViolates program c m) late linked (nothing late (λ some. never (inr (inl some))));
   }
 
-  pub late_told : IsTold c m early late → Gains (MarksOf names (MethodLateViolates program c m)) [] late
-  late_told any =
+  pub late_reported : IsReported c m early late → Gains (MarksOf names (MethodLateViolates program c m)) [] late
+  late_reported any =
       adds_same (MarksOf names (MethodLinkViolates program c m)) (MarksOf names (MethodLateViolates program c m)) [] late (λ mark. (
         λ is. (is.0, inl is.1),
-        λ is. elim is.1 [ inl l ↦ (is.0, l) | inr s ↦ absurd (told any s.untold) ],
+        λ is. elim is.1 [ inl l ↦ (is.0, l) | inr s ↦ absurd (reported any s.unreported) ],
       )) linked
 
-  pub late_shaped : (code : WholeCode) (all : List Mark) → IsWholeMethod c.pool m code → (IsTold c m early late → ⊥) → Gains (MarksOf names (ShapeViolates c.pool m)) late all
+  pub late_shaped : (code : WholeCode) (all : List Mark) → IsWholeMethod c.pool m code → (IsReported c m early late → ⊥) → Gains (MarksOf names (ShapeViolates c.pool m)) late all
       → Gains (MarksOf names (MethodLateViolates program c m)) [] all
   late_shaped code all whole never shaped =
       adds_same (λ mark. MarksOf names (MethodLinkViolates program c m) mark ⊎ MarksOf names (ShapeViolates c.pool m) mark) (MarksOf names (MethodLateViolates program c m)) [] all (λ mark. (
         λ any. elim any [
           | inl l ↦ (l.0, inl l.1)
-          | inr s ↦ (s.0, inr (record { untold = untold code whole never; lacks = s.1.0; rule_is = s.1.1 }))
+          | inr s ↦ (s.0, inr (record { unreported = unreported code whole never; lacks = s.1.0; rule_is = s.1.1 }))
         ],
         λ is. elim is.1 [
           | inl l ↦ inl (is.0, l)
@@ -99,7 +99,7 @@ module _ (program : Program) (c : ClassFile) (m : MemberInfo) (names : ℕ × �
 
 -- what doesn't violate rule 12 has no float or double in its descriptor
 pub plain_desc : (c : ClassFile) (m : MemberInfo) (names : ℕ × ℕ) (early : List Mark) → Gains (MarksOf names (MethodViolates c m)) [] early → (early ≢ [] → ⊥) → NamesFloat c.pool m.desc → ⊥
-plain_desc c m names early gains never float = untold_by names (MethodViolates c m) early gains (nothing early never) None 12 (inl (refl, inl (inl float, refl)))
+plain_desc c m names early gains never float = unreported_by names (MethodViolates c m) early gains (nothing early never) None 12 (inl (refl, inl (inl float, refl)))
 
 -- ---- the marks of one method among those of a class
 
@@ -116,12 +116,12 @@ appended : (P : Mark → Type 0) (old own new : List Mark) → Gains P [] own �
 appended P old own new gains is =
     adds_part P old own new gains (subst (λ (xs : List Mark). Gains (λ v. Contains own v) old xs) (sym is) (adds_members old own own (λ v. (λ x. x, λ x. x))))
 
-pub whole_method : (c : ClassFile) (Has : Program → Type 0) (texts : List JudgedText) (m : MemberInfo) (old own new : Marks) → (IsFaultyMethod c.pool m → ⊥) → AreToldMarks c Has (names_in texts m) m own
-    → new.early.items ≡ old.early.items ++ own.early.items → new.late.items ≡ old.late.items ++ own.late.items → IsToldMethod c Has texts m old new
-whole_method c Has texts m old own new sound told early late = record {
+pub whole_method : (c : ClassFile) (Has : Program → Type 0) (texts : List JudgedText) (m : MemberInfo) (old own new : Marks) → (IsFaultyMethod c.pool m → ⊥) → AreReportedMarks c Has (names_in texts m) m own
+    → new.early.items ≡ old.early.items ++ own.early.items → new.late.items ≡ old.late.items ++ own.late.items → IsReportedMethod c Has texts m old new
+whole_method c Has texts m old own new sound reported early late = record {
   sound = sound;
-  early = appended (MarksOf (names_in texts m) (MethodViolates c m)) old.early.items own.early.items new.early.items told.early early;
-  late = λ program has. appended (MarksOf (names_in texts m) (MethodLateViolates program c m)) old.late.items own.late.items new.late.items (told.late program has) late;
+  early = appended (MarksOf (names_in texts m) (MethodViolates c m)) old.early.items own.early.items new.early.items reported.early early;
+  late = λ program has. appended (MarksOf (names_in texts m) (MethodLateViolates program c m)) old.late.items own.late.items new.late.items (reported.late program has) late;
 }
 
 -- ---- what is known of a method with code
@@ -130,17 +130,17 @@ both_ways : (b : Bool) → IsTrue b → IsTrue (not b) → ⊥
 both_ways true t n = absurd cc
 both_ways false t n = absurd cc
 
-pub untold_where_none : (c : ClassFile) (m : MemberInfo) (names : ℕ × ℕ) (early first : List Mark) (some : Bool) → Gains (MarksOf names (MethodViolates c m)) [] early → first ≡ early → (IsTrue some ↔ (first ≢ [])) → IsTrue (not some)
-    → IsUntoldMethod c m
-untold_where_none c m names early first some gains same told none =
-    untold_by names (MethodViolates c m) early gains (nothing early (λ any. both_ways some (told.1 (λ e. any (sym same ∙ e))) none))
+pub unreported_where_none : (c : ClassFile) (m : MemberInfo) (names : ℕ × ℕ) (early first : List Mark) (some : Bool) → Gains (MarksOf names (MethodViolates c m)) [] early → first ≡ early → (IsTrue some ↔ (first ≢ [])) → IsTrue (not some)
+    → IsUnreportedMethod c m
+unreported_where_none c m names early first some gains same reported none =
+    unreported_by names (MethodViolates c m) early gains (nothing early (λ any. both_ways some (reported.1 (λ e. any (sym same ∙ e))) none))
 
 pub from_none : (P : Mark → Type 0) (start marks : List Mark) → start ≡ [] → Gains P start marks → Gains P [] marks
 from_none P start marks none = subst (λ (xs : List Mark). Gains P xs marks) none
 
 -- where nothing is lent
-pub told_nothing : (c : ClassFile) (known : Option (Bor Known)) (m : MemberInfo) (names : ℕ × ℕ) (marks : Marks) → known ≡ None → Gains (MarksOf names (MethodViolates c m)) [] marks.early.items → AreToldMarks c (HasKnown known) names m marks
-told_nothing c known m names marks none early = record {
+pub reported_nothing : (c : ClassFile) (known : Option (Bor Known)) (m : MemberInfo) (names : ℕ × ℕ) (marks : Marks) → known ≡ None → Gains (MarksOf names (MethodViolates c m)) [] marks.early.items → AreReportedMarks c (HasKnown known) names m marks
+reported_nothing c known m names marks none early = record {
   early = early;
   late = λ program has. absurd (subst (λ (k : Option (Bor Known)). HasKnown k program) none has);
 }
@@ -149,27 +149,27 @@ told_nothing c known m names marks none early = record {
 own_program : (known : Option (Bor Known)) (k : Bor Known) (program : Program) → known ≡ Some k → HasKnown known program → k.now.table.now ≡ program
 own_program known k program is has = subst (λ (o : Option (Bor Known)). HasKnown o program) is has
 
-by_lists : (c : ClassFile) (m : MemberInfo) (early late first second : List Mark) → first ≡ early → second ≡ late → IsTold c m first second → IsTold c m early late
+by_lists : (c : ClassFile) (m : MemberInfo) (early late first second : List Mark) → first ≡ early → second ≡ late → IsReported c m first second → IsReported c m early late
 by_lists c m early late first second a b any = elim any [
   | inl some ↦ inl (λ e. some (a ∙ e))
   | inr (inl some) ↦ inr (inl (λ e. some (b ∙ e)))
   | inr (inr finalizer) ↦ inr (inr finalizer)
 ]
 
-pub told_some : (c : ClassFile) (known : Option (Bor Known)) (k : Bor Known) (m : MemberInfo) (names : ℕ × ℕ) (early late : Vec Mark Global) (first second : List Mark) → known ≡ Some k → first ≡ early.items → second ≡ late.items
-    → Gains (MarksOf names (MethodViolates c m)) [] early.items → Gains (MarksOf names (MethodLinkViolates k.now.table.now c m)) [] late.items → IsTold c m first second
-    → AreToldMarks c (HasKnown known) names m (record { early = early; late = late })
-told_some c known k m names early late first second is a b earlier linked any = record {
+pub reported_some : (c : ClassFile) (known : Option (Bor Known)) (k : Bor Known) (m : MemberInfo) (names : ℕ × ℕ) (early late : Vec Mark Global) (first second : List Mark) → known ≡ Some k → first ≡ early.items → second ≡ late.items
+    → Gains (MarksOf names (MethodViolates c m)) [] early.items → Gains (MarksOf names (MethodLinkViolates k.now.table.now c m)) [] late.items → IsReported c m first second
+    → AreReportedMarks c (HasKnown known) names m (record { early = early; late = late })
+reported_some c known k m names early late first second is a b earlier linked any = record {
   early = earlier;
   late = λ program has.
       subst (λ (p : Program). Gains (MarksOf names (MethodLateViolates p c m)) [] late.items) (own_program known k program is has)
-      (late_told k.now.table.now c m names early.items late.items earlier linked (by_lists c m early.items late.items first second a b any));
+      (late_reported k.now.table.now c m names early.items late.items earlier linked (by_lists c m early.items late.items first second a b any));
 }
 
-pub told_shaped : (c : ClassFile) (known : Option (Bor Known)) (k : Bor Known) (m : MemberInfo) (names : ℕ × ℕ) (code : WholeCode) (early late all : Vec Mark Global) (first second : List Mark) (own : ℕ × ℕ) → known ≡ Some k → own ≡ names
+pub reported_shaped : (c : ClassFile) (known : Option (Bor Known)) (k : Bor Known) (m : MemberInfo) (names : ℕ × ℕ) (code : WholeCode) (early late all : Vec Mark Global) (first second : List Mark) (own : ℕ × ℕ) → known ≡ Some k → own ≡ names
     → first ≡ early.items → second ≡ late.items → Gains (MarksOf names (MethodViolates c m)) [] early.items → Gains (MarksOf names (MethodLinkViolates k.now.table.now c m)) [] late.items → IsWholeMethod c.pool m code
-    → (IsTold c m first second → ⊥) → Gains (MarksOf own (ShapeViolates c.pool m)) late.items all.items → AreToldMarks c (HasKnown known) names m (record { early = early; late = all })
-told_shaped c known k m names code early late all first second own is named a b earlier linked whole never shaped = record {
+    → (IsReported c m first second → ⊥) → Gains (MarksOf own (ShapeViolates c.pool m)) late.items all.items → AreReportedMarks c (HasKnown known) names m (record { early = early; late = all })
+reported_shaped c known k m names code early late all first second own is named a b earlier linked whole never shaped = record {
   early = earlier;
   late = λ program has.
       subst (λ (p : Program). Gains (MarksOf names (MethodLateViolates p c m)) [] all.items) (own_program known k program is has)

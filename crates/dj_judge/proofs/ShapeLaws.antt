@@ -23,7 +23,7 @@ use Rattle.dj_declared.specs.trusted.Files.{desc_in, name_in}
 use Rattle.dj_declared.specs.Members.{IsDescriptor}
 use Rattle.dj_declared.proofs.DescTests.{desc_in_is, is_descriptor}
 use Rattle.dj_check.specs.declared.code.WholeCode.{WholeCode}
-use Rattle.dj_check.specs.declared.marks.Place.{Place}
+use Rattle.dj_check.specs.declared.marks.MarkPlace.{MarkPlace}
 use Rattle.dj_check.specs.declared.marks.Mark.{Mark}
 use Rattle.dj_check.specs.trusted.Attributes.{codes_of}
 use Rattle.dj_check.specs.trusted.Floats.{IsFloating, HasFloating, MentionsFloat, HasFloat, NamesFloat}
@@ -134,8 +134,8 @@ module _ (pool : List Constant) (m : MemberInfo) (code : WholeCode) (parts : Cod
 
 own_place : (names : ℕ × ℕ) (mark : Mark) (number : Option ℕ) → mark.place ≡ place_of names number → (mark.place.number ≡ number) × (mark.place ≡ place_of names mark.place.number)
 own_place names mark number e =
-    let told = ap (λ (p : Place). p.number) e in
-    (told, e ∙ sym (ap (place_of names) told))
+    let reported = ap (λ (p : MarkPlace). p.number) e in
+    (reported, e ∙ sym (ap (place_of names) reported))
 
 pub fault_mark : (names : ℕ × ℕ) (fault : ShapeFault) (a b : List Mark) → Gains (λ mark. IsTrue true × (mark ≡ mark_at (place_of names fault.number) 19)) a b → Gains (MarksOf names (FaultViolates (Some fault))) a b
 fault_mark names fault a b =

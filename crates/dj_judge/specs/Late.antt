@@ -69,6 +69,6 @@ abbrev pub IsFileLateLine : Program → File → Violation → Type 0
 IsFileLateLine program file v = IsFileLinkLine program file v ⊎ IsFileShapeLine program file v
 
 -- the marks of a method with these names
-pub record AreToldMarks (c : ClassFile) (Has : Program → Type 0) (names : ℕ × ℕ) (m : MemberInfo) (marks : Marks) : Type 0 where
+pub record AreReportedMarks (c : ClassFile) (Has : Program → Type 0) (names : ℕ × ℕ) (m : MemberInfo) (marks : Marks) : Type 0 where
   pub early : Gains (MarksOf names (MethodViolates c m)) [] marks.early.items
   pub late : (program : Program) → Has program → Gains (MarksOf names (MethodLateViolates program c m)) [] marks.late.items

@@ -1,5 +1,5 @@
 pub mod Judged
 pub mod Late
-pub mod Told
+pub mod Reported
 pub mod Kept
 pub mod trusted

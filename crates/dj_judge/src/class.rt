@@ -7,7 +7,7 @@ ghost use Rattle.dj_check.specs.Marks.{AreMarksOf, IsMarkLine};
 ghost use Rattle.dj_check.specs.trusted.Methods.{MethodViolates};
 ghost use Rattle.dj_check.specs.trusted.Rules.{IsOwnLine};
 ghost use Rattle.dj_judge.specs.Late.{HasLent, AreLent, IsReady};
-ghost use Rattle.dj_judge.specs.Told.{AreJudgedMethods, IsJudgedClass};
+ghost use Rattle.dj_judge.specs.Reported.{AreJudgedMethods, IsJudgedClass};
 
 use crate::files::JudgedFiles;
 use crate::lent::{Lent, Marks};

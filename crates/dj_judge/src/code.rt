@@ -7,7 +7,7 @@ ghost use Rattle.dj_check.specs.Judged.{AreTexts};
 ghost use Rattle.dj_check.specs.Marks.{names_in};
 ghost use Rattle.dj_check.specs.Passes.{IsWholeMethod};
 ghost use Rattle.dj_shape.specs.Pools.{ArePoolKinds};
-ghost use Rattle.dj_judge.specs.Late.{HasKnown, IsKnownOf, AreToldMarks};
+ghost use Rattle.dj_judge.specs.Late.{HasKnown, IsKnownOf, AreReportedMarks};
 
 use crate::lent::Marks;
 use crate::shape_marks::add_shape_mark;
@@ -36,7 +36,7 @@ fn has_marks(marks: &[Mark]) -> bool
 }
 
 // Whether a method with code that has these marks violates one of the rules before 19.
-fn is_told(pool: &Pool<'_>, method: &MemberView<'_>, early: &[Mark], late: &[Mark]) -> bool
+fn is_reported(pool: &Pool<'_>, method: &MemberView<'_>, early: &[Mark], late: &[Mark]) -> bool
     ensures { IsTrue result ↔ ((early.now ≢ []) ⊎ ((late.now ≢ []) ⊎ IsFinalizer pool.now (member_of method.now))) }
 {
     has_marks(early) || has_marks(late) || is_finalizer(pool, method)
@@ -59,7 +59,7 @@ pub fn judge_code(
     requires method { IsMethod view.now.pool (member_of method.now) }
     requires code { IsWholeMethod view.now.pool (member_of method.now) code }
     ensures kinds { OnOk result (IfSome kinds.new (ArePoolKinds view.now.pool)) }
-    ensures marks { IfOk result (AreToldMarks (class_of view.now) (HasKnown known.entry) (names_in texts.now (member_of method.now)) (member_of method.now)) }
+    ensures marks { IfOk result (AreReportedMarks (class_of view.now) (HasKnown known.entry) (names_in texts.now (member_of method.now)) (member_of method.now)) }
 {
     let mut early = Vec::new(alloc);
     let mut late = Vec::new(alloc);
@@ -67,9 +67,9 @@ pub fn judge_code(
     let Some(known) = known else {
         return Ok(Marks { early, late });
     };
-    let untold = !has_marks(&early);
-    add_whole_marks(&mut late, view, texts, known, method, &code, untold)?;
-    if is_told(&view.pool, method, &early, &late) {
+    let unreported = !has_marks(&early);
+    add_whole_marks(&mut late, view, texts, known, method, &code, unreported)?;
+    if is_reported(&view.pool, method, &early, &late) {
         return Ok(Marks { early, late });
     }
     let names = names_of(&view.pool, texts, method);

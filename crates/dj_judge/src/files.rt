@@ -9,7 +9,7 @@ ghost use Rattle.dj_check.specs.Rules.{AreEarlyViolations};
 ghost use Rattle.dj_judge.specs.Judged.{HasLinker};
 ghost use Rattle.dj_judge.specs.trusted.Lines.{IsLinkedLine};
 ghost use Rattle.dj_judge.specs.Late.{HasLent, IsReady};
-ghost use Rattle.dj_judge.specs.Told.{IsToldFile};
+ghost use Rattle.dj_judge.specs.Reported.{IsReportedFile};
 ghost use Rattle.dj_judge.specs.Kept.{AreKept};
 
 use crate::kept::{Kept, keep_file};
@@ -41,7 +41,7 @@ fn judge_in_order<'a>(
 ) -> Result<Option<GoodFile<'a>>, RulesError>
     requires lent { IsReady lent }
     requires short { length file.now.bytes.now < 2 ^ 32 }
-    ensures { IfOk result (IsToldFile file.now (HasLent lent.entry) found.old found.new) }
+    ensures { IfOk result (IsReportedFile file.now (HasLent lent.entry) found.old found.new) }
 {
     let mut own = JudgedFiles {
         early: Vec::new(alloc),

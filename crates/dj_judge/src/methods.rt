@@ -5,11 +5,11 @@ ghost use Rattle.dj_class.specs.Views.{class_of};
 ghost use Rattle.dj_check.specs.Judged.{AreTexts};
 ghost use Rattle.dj_shape.specs.Pools.{ArePoolKinds};
 ghost use Rattle.dj_judge.specs.Late.{HasKnown, IsKnownOf};
-ghost use Rattle.dj_judge.specs.Told.{IsJudgedMethod, AreJudgedMethods};
+ghost use Rattle.dj_judge.specs.Reported.{IsJudgedMethod, AreJudgedMethods};
 
 use crate::code::judge_code;
 use crate::lent::Marks;
-use dj_check::{JudgedText, MethodCode, add_bodiless_marks, code_of_method};
+use dj_check::{JudgedText, MethodBody, add_bodiless_marks, code_of_method};
 use dj_class::{ClassView, MemberView};
 use dj_link::Known;
 use dj_rules::RulesError;
@@ -49,12 +49,12 @@ fn judge_method(
     ensures marks { IfOk result (IsJudgedMethod (class_of view.now) (HasKnown known.entry) texts.now (member_of method.now) marks.old marks.new) }
 {
     match code_of_method(alloc, &view.pool, method)? {
-        MethodCode::Faulty => Ok(false),
-        MethodCode::Bodiless => {
+        MethodBody::Faulty => Ok(false),
+        MethodBody::Bodiless => {
             add_bodiless_marks(&mut marks.early, view, texts, method)?;
             Ok(true)
         }
-        MethodCode::Whole(code) => {
+        MethodBody::Whole(code) => {
             let own = judge_code(alloc, kinds, view, texts, known, method, code)?;
             add_marks(marks, own)?;
             Ok(true)

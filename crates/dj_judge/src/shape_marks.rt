@@ -12,7 +12,7 @@ ghost use Rattle.dj_program.specs.Views.{parts_of};
 ghost use Rattle.dj_shape.specs.Pools.{ArePoolKinds};
 ghost use Rattle.dj_judge.specs.Late.{IsFaultOf, FaultViolates, ShapeViolates};
 
-use dj_check::{Mark, Place, WholeCode, add_mark_if};
+use dj_check::{Mark, MarkPlace, WholeCode, add_mark_if};
 use dj_class::{ClassView, MemberView};
 use dj_link::is_static;
 use dj_pool::Pool;
@@ -85,7 +85,7 @@ fn add_fault_mark(
     let Some(fault) = fault else {
         return Ok(());
     };
-    let place = Place {
+    let place = MarkPlace {
         name: names.0,
         desc: names.1,
         number: fault.number,

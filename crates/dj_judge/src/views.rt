@@ -3,7 +3,7 @@ ghost use Rattle.dj_class.specs.trusted.ClassFile.{IsClassFile};
 ghost use Rattle.dj_class.specs.Views.{class_of};
 ghost use Rattle.dj_rules.specs.Reads.{IsViewOf};
 ghost use Rattle.dj_judge.specs.Late.{HasLent, IsReady};
-ghost use Rattle.dj_judge.specs.Told.{IsJudgedFile};
+ghost use Rattle.dj_judge.specs.Reported.{IsJudgedFile};
 
 use crate::class::judge_class;
 use crate::files::JudgedFiles;

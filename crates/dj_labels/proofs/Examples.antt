@@ -184,11 +184,11 @@ reserved = record {
 
 -- ---- where a fault is: Op and Target have an address, and Range a number
 
-abbrev told : CodeError → ℕ
-told (errors.Op at) = at
-told (errors.Target at) = at
-told (errors.Range number) = number
-told errors.Memory = 0
+abbrev reported : CodeError → ℕ
+reported (errors.Op at) = at
+reported (errors.Target at) = at
+reported (errors.Range number) = number
+reported errors.Memory = 0
 
 -- sipush 5, which has three bytes, at the start of code
 abbrev pushed : Instr
@@ -210,7 +210,7 @@ reserved_behind = record {
 }
 
 not_by_number : Refuses (17 ∷ 0 ∷ 5 ∷ 255 ∷ []) [] (errors.Op 1) → ⊥
-not_by_number h = omega (arith, ap told (one_fault_is _ [] (errors.Op 3) (errors.Op 1) reserved_behind h))
+not_by_number h = omega (arith, ap reported (one_fault_is _ [] (errors.Op 3) (errors.Op 1) reserved_behind h))
 
 -- goto at 3 into its own bytes, likewise
 not_of_two : (k : ℕ) → k < 2 → get_or (pos 0 ∷ pos 3 ∷ []) k (pos 4) ≡ pos 4 → ⊥
@@ -237,7 +237,7 @@ goto_behind = record {
 }
 
 goto_not_by_number : Refuses (17 ∷ 0 ∷ 5 ∷ 167 ∷ 0 ∷ 1 ∷ []) [] (errors.Target 1) → ⊥
-goto_not_by_number h = omega (arith, ap told (one_fault_is _ [] (errors.Target 3) (errors.Target 1) goto_behind h))
+goto_not_by_number h = omega (arith, ap reported (one_fault_is _ [] (errors.Target 3) (errors.Target 1) goto_behind h))
 
 -- a row of nothing behind a good one
 second_row : Refuses (0 ∷ []) (row 0 1 0 ∷ row 0 0 0 ∷ row 0 0 0 ∷ []) (errors.Range 1)
@@ -257,10 +257,10 @@ second_row = record {
 
 -- not the good one, and not the one after it
 not_first_row : Refuses (0 ∷ []) (row 0 1 0 ∷ row 0 0 0 ∷ row 0 0 0 ∷ []) (errors.Range 0) → ⊥
-not_first_row h = omega (arith, ap told (one_fault_is _ _ (errors.Range 1) (errors.Range 0) second_row h))
+not_first_row h = omega (arith, ap reported (one_fault_is _ _ (errors.Range 1) (errors.Range 0) second_row h))
 
 not_third_row : Refuses (0 ∷ []) (row 0 1 0 ∷ row 0 0 0 ∷ row 0 0 0 ∷ []) (errors.Range 2) → ⊥
-not_third_row h = omega (arith, ap told (one_fault_is _ _ (errors.Range 1) (errors.Range 2) second_row h))
+not_third_row h = omega (arith, ap reported (one_fault_is _ _ (errors.Range 1) (errors.Range 2) second_row h))
 
 -- ---- of two faults
 
@@ -289,7 +289,7 @@ two_jumps = record {
 }
 
 not_the_second_jump : Refuses (167 ∷ 0 ∷ 1 ∷ 167 ∷ 0 ∷ 1 ∷ []) [] (errors.Target 3) → ⊥
-not_the_second_jump h = omega (arith, ap told (one_fault_is _ [] (errors.Target 0) (errors.Target 3) two_jumps h))
+not_the_second_jump h = omega (arith, ap reported (one_fault_is _ [] (errors.Target 0) (errors.Target 3) two_jumps h))
 
 -- a reserved opcode comes before a jump into its own bytes, wherever they stand
 op_first : Refuses (167 ∷ 0 ∷ 1 ∷ 255 ∷ []) (row 0 0 0 ∷ []) (errors.Op 3)
@@ -306,7 +306,7 @@ op_first = record {
 }
 
 not_its_target : Refuses (167 ∷ 0 ∷ 1 ∷ 255 ∷ []) (row 0 0 0 ∷ []) (errors.Target 0) → ⊥
-not_its_target h = omega (arith, ap told (one_fault_is _ (row 0 0 0 ∷ []) (errors.Op 3) (errors.Target 0) op_first h))
+not_its_target h = omega (arith, ap reported (one_fault_is _ (row 0 0 0 ∷ []) (errors.Op 3) (errors.Target 0) op_first h))
 
 -- and a jump before a row
 target_first : Refuses (17 ∷ 0 ∷ 5 ∷ 167 ∷ 0 ∷ 1 ∷ []) (row 0 0 0 ∷ []) (errors.Target 3)
@@ -314,7 +314,7 @@ unfolding goto_behind
 target_first = goto_behind
 
 not_its_row : Refuses (17 ∷ 0 ∷ 5 ∷ 167 ∷ 0 ∷ 1 ∷ []) (row 0 0 0 ∷ []) (errors.Range 0) → ⊥
-not_its_row h = omega (arith, ap told (one_fault_is _ _ (errors.Target 3) (errors.Range 0) target_first h))
+not_its_row h = omega (arith, ap reported (one_fault_is _ _ (errors.Target 3) (errors.Range 0) target_first h))
 
 -- ---- rows, in code of four bytes whose instructions start at 0 and 3
 

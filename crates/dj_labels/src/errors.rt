@@ -1,6 +1,6 @@
 ghost use Rattle.std.specs.Prelude.{◌≡◌};
 
-use crate::labelled::NoMemory;
+use dj_bytes::NoMemory;
 use std::alloc::{AllocError, AllocFailed};
 use thiserror::Error;
 
@@ -27,16 +27,6 @@ impl From<NoMemory> for CodeError {
     ghost from_gives = { λ _ e. e ≡ causes.Memory };
 
     fn from(_error: NoMemory) -> CodeError {
-        CodeError::Memory
-    }
-}
-
-impl From<dj_ops::NoMemory> for CodeError {
-    ghost use Rattle.dj_labels.specs.declared.errors.CodeError.TheVariants as causes;
-
-    ghost from_gives = { λ _ e. e ≡ causes.Memory };
-
-    fn from(_error: dj_ops::NoMemory) -> CodeError {
         CodeError::Memory
     }
 }

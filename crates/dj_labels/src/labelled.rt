@@ -1,36 +1,9 @@
 ghost use Rattle.std.specs.Prelude.{◌≡◌, [], ◌∷◌, ◌++◌, OnOk, OnErr};
 
+use dj_bytes::NoMemory;
 use dj_ops::Instrs;
-use std::alloc::{AllocError, AllocFailed, Global};
+use std::alloc::Global;
 use std::marker::Model;
-use thiserror::Error;
-
-/// There was no memory.
-#[derive(Clone, Copy, Debug, PartialEq, Eq, Error)]
-pub enum NoMemory {
-    #[error("out of memory")]
-    Memory,
-}
-
-impl From<AllocError> for NoMemory {
-    ghost use Rattle.dj_labels.specs.declared.labelled.NoMemory.TheVariants.{Memory};
-
-    ghost from_gives = { λ _ e. e ≡ Memory };
-
-    fn from(_error: AllocError) -> NoMemory {
-        NoMemory::Memory
-    }
-}
-
-impl<T: Drop> From<AllocFailed<T>> for NoMemory {
-    ghost use Rattle.dj_labels.specs.declared.labelled.NoMemory.TheVariants.{Memory};
-
-    ghost from_gives = { λ _ e. e ≡ Memory };
-
-    fn from(_error: AllocFailed<T>) -> NoMemory {
-        NoMemory::Memory
-    }
-}
 
 /// A range of instructions and its handler (JVMS 4.7.3, exception_table), all by the numbers of the instructions.
 #[derive(Clone, Copy, Debug, PartialEq, Eq)]

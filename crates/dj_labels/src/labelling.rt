@@ -66,8 +66,6 @@ pub fn label(alloc: Global, code: &[u8], table: &[CatchRow]) -> Result<Labelled,
     // Where there is a cause, there is that refusal.
     ensures all_refused { (e : CodeError) → Refuses code.now table.now e → Yields result (Err e) }
 {
-    match label_with_starts(alloc, code, table) {
-        Ok(labelling) => Ok(labelling.labelled),
-        Err(error) => Err(error),
-    }
+    let labelling = label_with_starts(alloc, code, table)?;
+    Ok(labelling.labelled)
 }

@@ -9,8 +9,9 @@ mod rows;
 mod starts;
 mod targets;
 
+pub use dj_bytes::NoMemory;
 pub use errors::CodeError;
-pub use labelled::{Labelled, Labelling, NoMemory, Protected, Ranges};
+pub use labelled::{Labelled, Labelling, Protected, Ranges};
 pub use labelling::{label, label_with_starts};
 pub use laws::{
     labelled_is_well_formed, labels_or_fault, no_labels_where_refused, one_fault, one_labelling,

@@ -211,11 +211,11 @@ pub record WrittenTo (starts : List ℕ) (instrs : List Instr) (k : ℕ) (bytes 
 pub written_more : (starts : List ℕ) (instrs : List Instr) (k : ℕ) (old new : List ℕ) (p : ℕ × Instr) → slice_get (placed starts instrs) k ≡ Some p → WrittenTo starts instrs k old → new ≡ old ++ placed_bytes p → Reaches p
     → WrittenTo starts instrs (k + 1) new
 written_more starts instrs k old new p found before e reach =
-    let front : List (ℕ × Instr) = take k (placed starts instrs) in
-    let more : take (k + 1) (placed starts instrs) ≡ front ++ p ∷ [] = taken_more (placed starts instrs) k p found in
+    let prefix : List (ℕ × Instr) = take k (placed starts instrs) in
+    let more : take (k + 1) (placed starts instrs) ≡ prefix ++ p ∷ [] = taken_more (placed starts instrs) k p found in
     record {
-      bytes_are = e ∙ ap (λ (b : List ℕ). b ++ placed_bytes p) before.bytes_are ∙ flat_map_more placed_bytes [] front p ∙ ap (flat_map placed_bytes) (sym more);
-      reach = subst (AllByRecursion Reaches) (sym more) (each_more Reaches front p before.reach reach);
+      bytes_are = e ∙ ap (λ (b : List ℕ). b ++ placed_bytes p) before.bytes_are ∙ flat_map_more placed_bytes [] prefix p ∙ ap (flat_map placed_bytes) (sym more);
+      reach = subst (AllByRecursion Reaches) (sym more) (each_more Reaches prefix p before.reach reach);
     }
 
 pub written_whole : (starts : List ℕ) (instrs : List Instr) (k : ℕ) (bytes : List ℕ) → length starts ≡ length instrs → length instrs ≤ k → WrittenTo starts instrs k bytes → AreBytes starts instrs bytes

@@ -18,14 +18,3 @@ impl From<dj_names::NoMemory> for LibraryError {
         LibraryError::Memory
     }
 }
-
-impl From<dj_natives::NoMemory> for LibraryError {
-    ghost use Rattle.std.specs.Prelude.{◌≡◌};
-    ghost use Rattle.dj_library.specs.declared.errors.LibraryError.TheVariants.{Memory};
-
-    ghost from_gives = { λ _ e. e ≡ Memory };
-
-    fn from(_e: dj_natives::NoMemory) -> LibraryError {
-        LibraryError::Memory
-    }
-}

@@ -125,9 +125,9 @@ far_decides own pool known instr k m is there =
     (Decides-and (not n.is_constructor) far (Decides-not n.is_constructor (names_decide m.name constructor_name))
     (Decides-at far (not (is_own_or_above program own m.class)) (ap not (own_same own pool known m.class is there)) (not_decides (is_own_or_above program own m.class)))))
 
-member_told : (own : Name) (pool : List Constant) (known : Known) (instr : Instr) (k : Constant) (m : Member) → IsKnown own pool known → class_at known.table.now (class_of_type m.class) ≢ None
+member_reported : (own : Name) (pool : List Constant) (known : Known) (instr : Instr) (k : Constant) (m : Member) → IsKnown own pool known → class_at known.table.now (class_of_type m.class) ≢ None
     → Decides (is_misused_member instr (judged_member known.table.now k m) || is_far_special known.own instr (judged_class known.table.now m.class) (judged_member known.table.now k m)) (IsUnlinkedMember known.table.now own instr k m)
-member_told own pool known instr k m is there =
+member_reported own pool known instr k m is there =
     let program = known.table.now in
     let misused = is_misused_member instr (judged_member program k m) in
     let far = is_far_special known.own instr (judged_class program m.class) (judged_member program k m) in
@@ -151,7 +151,7 @@ member_both : (own : Name) (pool : List Constant) (known : Known) (instr : Instr
 member_both own pool known instr k None None is there = (λ e. absurd cc, λ none. absurd none)
 member_both own pool known instr k None (Some names) is there = (λ e. absurd cc, λ none. absurd none)
 member_both own pool known instr k (Some ty) None is there = (λ e. absurd cc, λ none. absurd none)
-member_both own pool known instr k (Some ty) (Some names) is there = member_told own pool known instr k (member_of (ty, names)) is there
+member_both own pool known instr k (Some ty) (Some names) is there = member_reported own pool known instr k (member_of (ty, names)) is there
 
 -- ---- rule 18, of classes
 
@@ -167,10 +167,10 @@ deep_decides : (instr : Instr) (ty : Ty) → Decides (makes_array instr && nat_e
 deep_decides (instrs.Class op index) ty = Decides-and (nat_eq op 189) (nat_eq ty.dims 255) (Decides-eqb op 189) (Decides-eqb ty.dims 255)
 deep_decides instr ty = (λ e. absurd cc, λ none. absurd none)
 
-type_told : (program : Program) (instr : Instr) (k : Constant) (ty : Option Ty)
+type_reported : (program : Program) (instr : Instr) (k : Constant) (ty : Option Ty)
     → Decides (is_unlinked_class program instr (tag_of k) (option_map (judged_class program) ty)) (IsSomeAnd ty (IsUnlinkedType program instr k))
-type_told program instr k None = (λ e. absurd cc, λ none. absurd none)
-type_told program instr k (Some ty) =
+type_reported program instr k None = (λ e. absurd cc, λ none. absurd none)
+type_reported program instr k (Some ty) =
     Decides-or (has_wrong_kind program (tag_of k) (judged_class program ty)) (makes_array instr && nat_eq ty.dims 255) (kind_decides program k ty) (deep_decides instr ty)
 
 -- ---- rule 18, of a constant
@@ -178,9 +178,9 @@ type_told program instr k (Some ty) =
 abbrev UnlinkedOrMade : Name → List Constant → Known → Instr → Constant → Type 0
 UnlinkedOrMade own pool known instr = SuchOrMade (IsUnlinkedConstant known.table.now own instr pool) (NamesAbstract known.table.now pool) instr
 
-constant_told : (own : Name) (pool : List Constant) (known : Known) (instr : Instr) (k : Constant) → IsKnown own pool known
+constant_reported : (own : Name) (pool : List Constant) (known : Known) (instr : Instr) (k : Constant) → IsKnown own pool known
     → Decides (is_unlinked_named known instr (judged known.table.now pool k)) (UnlinkedOrMade own pool known instr k)
-constant_told own pool known instr k is =
+constant_reported own pool known instr k is =
     let program = known.table.now in
     let n = judged program pool k in
     let made = makes instr && is_abstract_class program n.class in
@@ -190,7 +190,7 @@ constant_told own pool known instr k is =
     (or_else (lacks_class n.class || lacks_member n.member) (member || (class || made))
     (Decides-or (lacks_class n.class) (lacks_member n.member) (class_decides program pool k) (member_decides program pool k))
     (λ there. Decides-or member (class || made) (member_both own pool known instr k (named_type pool k) (names_at pool k) is (λ none. there (inl none)))
-    (Decides-or class made (type_told program instr k (named_type pool k))
+    (Decides-or class made (type_reported program instr k (named_type pool k))
     (Decides-and (makes instr) (is_abstract_class program n.class) (itself (makes instr)) (abstract_decides program pool k))))) where
       to : (NamesNoClass known.table.now pool k ⊎ NamesNoMember known.table.now pool k) ⊎ (IsSomeAnd (named_member pool k) (IsUnlinkedMember known.table.now own instr k) ⊎ (IsSomeAnd (named_type pool k) (IsUnlinkedType known.table.now instr k) ⊎ (IsTrue (makes instr) × NamesAbstract known.table.now pool k))) → UnlinkedOrMade own pool known instr k
       to (inl (inl a)) = inl (inl a)
@@ -218,7 +218,7 @@ unlinked_of own pool known instr (Some k) is =
     let n = judged known.table.now pool k in
     Decides-or (not (takes_tag instr n.tag)) (is_unlinked_named known instr n)
     (Decides-at (not (takes_tag instr n.tag)) (not (takes instr k)) (ap not (takes_same instr k)) (Decides-not (takes instr k) (itself (takes instr k))))
-    (constant_told own pool known instr k is)
+    (constant_reported own pool known instr k is)
 
 unlinked_at : (own : Name) (pool : List Constant) (known : Known) (instr : Instr) (index : Option ℕ) → IsKnown own pool known
     → Decides (is_unlinked_at known instr index) (IsSomeAnd index (λ i. IsMissing instr (constant_at pool i)) ⊎ IsSomeAnd (option_and_then (constant_at pool) index) (UnlinkedOrMade own pool known instr))

@@ -10,7 +10,7 @@ use Rattle.dj_model.specs.trusted.Program.{Program}
 use Rattle.dj_declared.specs.trusted.Files.{type_in}
 use Rattle.dj_check.specs.trusted.Methods.{CatchesError}
 use Rattle.dj_link.specs.trusted.Lines.{IsFirstOf, LinkViolates, HandlerLinkViolates}
-use Rattle.dj_link.proofs.RuleNumbers.{catch_told}
+use Rattle.dj_link.proofs.RuleNumbers.{catch_reported}
 
 -- ---- what silences
 
@@ -33,8 +33,8 @@ unfolding pool
 reflected program own rule v = v.0 10 (inr (inl (inl (refl, tt), refl)))
 
 -- checkcast isn't
-cast_untold : (rule : ℕ) → LinkViolates [] (codes "D") pool (instrs.Class 192 2) rule → (rule ≡ 17) ⊎ (rule ≡ 18)
-cast_untold rule v = no_other _ _ rule v.1
+cast_unreported : (rule : ℕ) → LinkViolates [] (codes "D") pool (instrs.Class 192 2) rule → (rule ≡ 17) ⊎ (rule ≡ 18)
+cast_unreported rule v = no_other _ _ rule v.1
 
 -- ---- where a handler's line stands
 
@@ -53,7 +53,7 @@ no_error (inr (inr (inr e))) = (let few : 1 ≡ 26 = ap (λ (t : List ℕ). leng
 
 handler_line : HandlerLinkViolates [] pool labelled 1 18
 unfolding pool range labelled type_in
-handler_line = record { range = range; own = (0, omega arith, refl); begins = refl; such = (no_error, catch_told [] pool 2 18 refl (λ e. absurd (omega (arith, e)))) }
+handler_line = record { range = range; own = (0, omega arith, refl); begins = refl; such = (no_error, catch_reported [] pool 2 18 refl (λ e. absurd (omega (arith, e)))) }
 
 only_range : (r : Protected) → Contains (range ∷ []) r → range ≡ r
 only_range r m = elim (contains_cases range [] r m) [ inl is ↦ is | inr none ↦ absurd (contains_none r none) ]

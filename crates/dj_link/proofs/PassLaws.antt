@@ -13,7 +13,7 @@ use Rattle.dj_report.specs.Lines.{Gains}
 use Rattle.dj_report.proofs.Adding.{adds_same, adds_nothing, adds_both, not_both}
 use Rattle.dj_rules.specs.trusted.Violations.{this_name}
 use Rattle.dj_check.specs.declared.code.WholeCode.{WholeCode}
-use Rattle.dj_check.specs.declared.marks.Place.{Place}
+use Rattle.dj_check.specs.declared.marks.MarkPlace.{MarkPlace}
 use Rattle.dj_check.specs.declared.marks.Mark.{Mark}
 use Rattle.dj_check.specs.trusted.Attributes.{codes_of}
 use Rattle.dj_check.specs.trusted.Instructions.{index_of}
@@ -21,11 +21,11 @@ use Rattle.dj_check.specs.trusted.Methods.{InstrViolates, CatchesError}
 use Rattle.dj_check.specs.Passes.{IsWholeMethod}
 use Rattle.dj_check.specs.Marks.{mark_at, place_of, MarksAt, MarksOf}
 use Rattle.dj_check.proofs.MethodLaws.{one_labelled, labelled_own, no_code_of}
-use Rattle.dj_link.specs.trusted.Lines.{IsUntold, IsFirstOf, LinkViolates, CatchViolates, CodeLinkViolates, MethodLinkViolates}
+use Rattle.dj_link.specs.trusted.Lines.{IsUnreported, IsFirstOf, LinkViolates, CatchViolates, CodeLinkViolates, MethodLinkViolates}
 use Rattle.dj_link.specs.declared.known.Known.{Known}
 use Rattle.dj_link.specs.Judged.{kept_at}
 use Rattle.dj_link.specs.Known.{is_foreign, is_foreign_by, is_unlinked, is_unlinked_at, is_foreign_catch, is_unlinked_catch, IsKnown, IsRuled, KnownInstr, KnownCatch, KnownBelow, KnownRange, KnownCode}
-use Rattle.dj_link.specs.Marks.{AreRangeMarks, AreUntold, IsUntoldMethod}
+use Rattle.dj_link.specs.Marks.{AreRangeMarks, AreUnreported, IsUnreportedMethod}
 use Rattle.dj_link.proofs.Judging.{foreign_instr, unlinked_instr, foreign_catch, unlinked_catch}
 
 -- ---- one mark
@@ -35,7 +35,7 @@ named_none known instr None none = (refl, refl)
 named_none known instr (Some index) none = absurd cc
 
 -- an instruction that names no constant violates neither rule
-pub unnamed_mark : (place : Place) (known : Known) (pool : List Constant) (instr : Instr) (a : List Mark) → index_of instr ≡ None → Gains (MarksAt place (KnownInstr known pool instr)) a a
+pub unnamed_mark : (place : MarkPlace) (known : Known) (pool : List Constant) (instr : Instr) (a : List Mark) → index_of instr ≡ None → Gains (MarksAt place (KnownInstr known pool instr)) a a
 unnamed_mark place known pool instr a none =
     let both = named_none known instr (index_of instr) none in
     adds_nothing (MarksAt place (KnownInstr known pool instr)) a (λ mark m. elim m.1.1 [
@@ -43,25 +43,25 @@ unnamed_mark place known pool instr a none =
       | inr u ↦ not_both (is_unlinked known instr) u.1 both.1
     ])
 
-pub told_mark : (place : Place) (told foreign unlinked : Bool) (a : List Mark) → told ≡ true → Gains (MarksAt place (IsRuled told foreign unlinked)) a a
-told_mark place told foreign unlinked a is = adds_nothing (MarksAt place (IsRuled told foreign unlinked)) a (λ mark m. not_both told is m.1.0)
+pub reported_mark : (place : MarkPlace) (reported foreign unlinked : Bool) (a : List Mark) → reported ≡ true → Gains (MarksAt place (IsRuled reported foreign unlinked)) a a
+reported_mark place reported foreign unlinked a is = adds_nothing (MarksAt place (IsRuled reported foreign unlinked)) a (λ mark m. not_both reported is m.1.0)
 
-pub foreign_mark : (place : Place) (told foreign unlinked : Bool) (a b : List Mark) → told ≡ false → foreign ≡ true
-    → Gains (λ mark. IsTrue foreign × (mark ≡ mark_at place 17)) a b → Gains (MarksAt place (IsRuled told foreign unlinked)) a b
-foreign_mark place told foreign unlinked a b untold is =
-    adds_same (λ mark. IsTrue foreign × (mark ≡ mark_at place 17)) (MarksAt place (IsRuled told foreign unlinked)) a b (λ mark. (
-      λ m. (ap (λ (x : Mark). x.place) m.1, (untold, inl (m.0, ap (λ (x : Mark). x.rule) m.1))),
+pub foreign_mark : (place : MarkPlace) (reported foreign unlinked : Bool) (a b : List Mark) → reported ≡ false → foreign ≡ true
+    → Gains (λ mark. IsTrue foreign × (mark ≡ mark_at place 17)) a b → Gains (MarksAt place (IsRuled reported foreign unlinked)) a b
+foreign_mark place reported foreign unlinked a b unreported is =
+    adds_same (λ mark. IsTrue foreign × (mark ≡ mark_at place 17)) (MarksAt place (IsRuled reported foreign unlinked)) a b (λ mark. (
+      λ m. (ap (λ (x : Mark). x.place) m.1, (unreported, inl (m.0, ap (λ (x : Mark). x.rule) m.1))),
       λ m. elim m.1.1 [
         | inl f ↦ (f.0, λ i. record { place = m.0 i; rule = f.1 i })
         | inr u ↦ absurd (u.0 is)
       ],
     ))
 
-pub unlinked_mark : (place : Place) (told foreign unlinked : Bool) (a b : List Mark) → told ≡ false → foreign ≡ false
-    → Gains (λ mark. IsTrue unlinked × (mark ≡ mark_at place 18)) a b → Gains (MarksAt place (IsRuled told foreign unlinked)) a b
-unlinked_mark place told foreign unlinked a b untold known =
-    adds_same (λ mark. IsTrue unlinked × (mark ≡ mark_at place 18)) (MarksAt place (IsRuled told foreign unlinked)) a b (λ mark. (
-      λ m. (ap (λ (x : Mark). x.place) m.1, (untold, inr ((λ f. not_both foreign f known), m.0, ap (λ (x : Mark). x.rule) m.1))),
+pub unlinked_mark : (place : MarkPlace) (reported foreign unlinked : Bool) (a b : List Mark) → reported ≡ false → foreign ≡ false
+    → Gains (λ mark. IsTrue unlinked × (mark ≡ mark_at place 18)) a b → Gains (MarksAt place (IsRuled reported foreign unlinked)) a b
+unlinked_mark place reported foreign unlinked a b unreported known =
+    adds_same (λ mark. IsTrue unlinked × (mark ≡ mark_at place 18)) (MarksAt place (IsRuled reported foreign unlinked)) a b (λ mark. (
+      λ m. (ap (λ (x : Mark). x.place) m.1, (unreported, inr ((λ f. not_both foreign f known), m.0, ap (λ (x : Mark). x.rule) m.1))),
       λ m. elim m.1.1 [
         | inl f ↦ absurd (not_both foreign f.0 known)
         | inr u ↦ (u.1, λ i. record { place = m.0 i; rule = u.2 i })
@@ -69,34 +69,34 @@ unlinked_mark place told foreign unlinked a b untold known =
     ))
 
 -- the same by what decides it
-ruled_by : (place : Place) (told foreign unlinked f u : Bool) (Untold : Type 0) (a b : List Mark) → (IsFalse told ↔ Untold) → foreign ≡ f → unlinked ≡ u
-    → Gains (MarksAt place (IsRuled told foreign unlinked)) a b → Gains (MarksAt place (λ rule. Untold × IsFirstOf (IsTrue f) (IsTrue u) rule)) a b
-ruled_by place told foreign unlinked f u Untold a b means is_f is_u gains =
-    let known : Gains (MarksAt place (IsRuled told f u)) a b =
-    subst (λ (x : Bool). Gains (MarksAt place (IsRuled told x u)) a b) is_f (subst (λ (y : Bool). Gains (MarksAt place (IsRuled told foreign y)) a b) is_u gains) in
-    adds_same (MarksAt place (IsRuled told f u)) (MarksAt place (λ rule. Untold × IsFirstOf (IsTrue f) (IsTrue u) rule)) a b (λ mark. (
+ruled_by : (place : MarkPlace) (reported foreign unlinked f u : Bool) (Unreported : Type 0) (a b : List Mark) → (IsFalse reported ↔ Unreported) → foreign ≡ f → unlinked ≡ u
+    → Gains (MarksAt place (IsRuled reported foreign unlinked)) a b → Gains (MarksAt place (λ rule. Unreported × IsFirstOf (IsTrue f) (IsTrue u) rule)) a b
+ruled_by place reported foreign unlinked f u Unreported a b means is_f is_u gains =
+    let known : Gains (MarksAt place (IsRuled reported f u)) a b =
+    subst (λ (x : Bool). Gains (MarksAt place (IsRuled reported x u)) a b) is_f (subst (λ (y : Bool). Gains (MarksAt place (IsRuled reported foreign y)) a b) is_u gains) in
+    adds_same (MarksAt place (IsRuled reported f u)) (MarksAt place (λ rule. Unreported × IsFirstOf (IsTrue f) (IsTrue u) rule)) a b (λ mark. (
       λ m. (m.0, (means.0 m.1.0, m.1.1)),
       λ m. (m.0, (means.1 m.1.0, m.1.1)),
     )) known
 
-untold_instr : (pool : List Constant) (instr : Instr) (told : Bool) → (IsTrue told ↔ ((rule : ℕ) × InstrViolates pool instr rule)) → IsFalse told ↔ IsUntold pool instr
-untold_instr pool instr told means = (
-  λ e rule is. not_both told (means.1 (rule, is)) e,
-  λ none. false_from_ne_true told (λ t. let is = means.0 t in none is.0 is.1),
+unreported_instr : (pool : List Constant) (instr : Instr) (reported : Bool) → (IsTrue reported ↔ ((rule : ℕ) × InstrViolates pool instr rule)) → IsFalse reported ↔ IsUnreported pool instr
+unreported_instr pool instr reported means = (
+  λ e rule is. not_both reported (means.1 (rule, is)) e,
+  λ none. false_from_ne_true reported (λ t. let is = means.0 t in none is.0 is.1),
 )
 
-pub instr_mark : (place : Place) (known : Known) (pool : List Constant) (instr : Instr) (told foreign unlinked : Bool) (a b : List Mark) → (IsTrue told ↔ ((rule : ℕ) × InstrViolates pool instr rule))
-    → foreign ≡ is_foreign known instr → unlinked ≡ is_unlinked known instr → Gains (MarksAt place (IsRuled told foreign unlinked)) a b → Gains (MarksAt place (KnownInstr known pool instr)) a b
-instr_mark place known pool instr told foreign unlinked a b means is_f is_u =
-    ruled_by place told foreign unlinked (is_foreign known instr) (is_unlinked known instr) (IsUntold pool instr) a b (untold_instr pool instr told means) is_f is_u
+pub instr_mark : (place : MarkPlace) (known : Known) (pool : List Constant) (instr : Instr) (reported foreign unlinked : Bool) (a b : List Mark) → (IsTrue reported ↔ ((rule : ℕ) × InstrViolates pool instr rule))
+    → foreign ≡ is_foreign known instr → unlinked ≡ is_unlinked known instr → Gains (MarksAt place (IsRuled reported foreign unlinked)) a b → Gains (MarksAt place (KnownInstr known pool instr)) a b
+instr_mark place known pool instr reported foreign unlinked a b means is_f is_u =
+    ruled_by place reported foreign unlinked (is_foreign known instr) (is_unlinked known instr) (IsUnreported pool instr) a b (unreported_instr pool instr reported means) is_f is_u
 
 -- ---- instructions one after the other
 
 -- a place of these names, by its own number
 own_place : (names : ℕ × ℕ) (mark : Mark) (number : Option ℕ) → mark.place ≡ place_of names number → (mark.place.number ≡ number) × (mark.place ≡ place_of names mark.place.number)
 own_place names mark number e =
-    let told = ap (λ (p : Place). p.number) e in
-    (told, e ∙ sym (ap (place_of names) told))
+    let reported = ap (λ (p : MarkPlace). p.number) e in
+    (reported, e ∙ sym (ap (place_of names) reported))
 
 some_instr : (a b : Instr) → Some a ≡ Some b → a ≡ b
 some_instr a b e = cc
@@ -127,22 +127,22 @@ more_below names known pool code i instr a b c stands before here =
 
 -- ---- handlers
 
-untold_catch : (pool : List Constant) (index : ℕ) (told : Bool) → (IsTrue told ↔ CatchesError pool index) → IsFalse told ↔ (CatchesError pool index → ⊥)
-untold_catch pool index told means = (
-  λ e is. not_both told (means.1 is) e,
-  λ none. false_from_ne_true told (λ t. none (means.0 t)),
+unreported_catch : (pool : List Constant) (index : ℕ) (reported : Bool) → (IsTrue reported ↔ CatchesError pool index) → IsFalse reported ↔ (CatchesError pool index → ⊥)
+unreported_catch pool index reported means = (
+  λ e is. not_both reported (means.1 is) e,
+  λ none. false_from_ne_true reported (λ t. none (means.0 t)),
 )
 
-pub handler_mark : (names : ℕ × ℕ) (known : Known) (pool : List Constant) (range : Protected) (told foreign unlinked : Bool) (a b : List Mark) → (IsTrue told ↔ CatchesError pool range.catch_type)
+pub handler_mark : (names : ℕ × ℕ) (known : Known) (pool : List Constant) (range : Protected) (reported foreign unlinked : Bool) (a b : List Mark) → (IsTrue reported ↔ CatchesError pool range.catch_type)
     → foreign ≡ is_foreign_catch known range.catch_type → unlinked ≡ is_unlinked_catch known range.catch_type
-    → Gains (MarksAt (place_of names (Some range.handler)) (IsRuled told foreign unlinked)) a b → Gains (MarksOf names (KnownRange known pool range)) a b
-handler_mark names known pool range told foreign unlinked a b means is_f is_u gains =
+    → Gains (MarksAt (place_of names (Some range.handler)) (IsRuled reported foreign unlinked)) a b → Gains (MarksOf names (KnownRange known pool range)) a b
+handler_mark names known pool range reported foreign unlinked a b means is_f is_u gains =
     let place = place_of names (Some range.handler) in
     adds_same (MarksAt place (KnownCatch known pool range.catch_type)) (MarksOf names (KnownRange known pool range)) a b (λ mark. (
       λ m. let own = own_place names mark (Some range.handler) m.0 in (own.1, (own.0, m.1)),
       λ m. (m.0 ∙ ap (place_of names) m.1.0, m.1.1),
-    )) (ruled_by place told foreign unlinked (is_foreign_catch known range.catch_type) (is_unlinked_catch known range.catch_type) (CatchesError pool range.catch_type → ⊥) a b
-    (untold_catch pool range.catch_type told means) is_f is_u gains)
+    )) (ruled_by place reported foreign unlinked (is_foreign_catch known range.catch_type) (is_unlinked_catch known range.catch_type) (CatchesError pool range.catch_type → ⊥) a b
+    (unreported_catch pool range.catch_type reported means) is_f is_u gains)
 
 -- ---- labelled code
 
@@ -219,8 +219,8 @@ to_known c m known code number rule is whole v =
     (subst (λ (l : Labelled). CodeLinkViolates known.table.now (this_name c) c.pool l v.at rule) (one_labelled c.pool m code v.labelled whole v.code) v.such)
 
 -- a method that violates no rule has no instruction that does
-pub untold_code : (c : ClassFile) (m : MemberInfo) (code : WholeCode) → IsWholeMethod c.pool m code → IsUntoldMethod c m → AreUntold c.pool code.labelled.code
-untold_code c m code is never number instr stands rule violates =
+pub unreported_code : (c : ClassFile) (m : MemberInfo) (code : WholeCode) → IsWholeMethod c.pool m code → IsUnreportedMethod c m → AreUnreported c.pool code.labelled.code
+unreported_code c m code is never number instr stands rule violates =
     never (Some number) rule (inr (record {
       labelled = code.labelled;
       code = labelled_own c.pool m code is;

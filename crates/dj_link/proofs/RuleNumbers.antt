@@ -55,42 +55,42 @@ rule_of true unlinked = 17
 rule_of false true = 18
 rule_of false false = 0
 
-told_rule : (f u : Bool) (F U : Type 0) (rule : ℕ) → Decides f F → Decides u U → rule_of f u ≡ rule → rule ≢ 0 → IsFirstOf F U rule
-told_rule true u F U rule df du e some = inl (df.0 refl, sym e)
-told_rule false true F U rule df du e some = inr ((λ is. let none = df.1 is in absurd cc), du.0 refl, sym e)
-told_rule false false F U rule df du e some = absurd (some (sym e))
+reported_rule : (f u : Bool) (F U : Type 0) (rule : ℕ) → Decides f F → Decides u U → rule_of f u ≡ rule → rule ≢ 0 → IsFirstOf F U rule
+reported_rule true u F U rule df du e some = inl (df.0 refl, sym e)
+reported_rule false true F U rule df du e some = inr ((λ is. let none = df.1 is in absurd cc), du.0 refl, sym e)
+reported_rule false false F U rule df du e some = absurd (some (sym e))
 
-rule_told : (f u : Bool) (F U : Type 0) (rule : ℕ) → Decides f F → Decides u U → IsFirstOf F U rule → rule_of f u ≡ rule
-rule_told true u F U rule df du (inl is) = sym is.1
-rule_told true u F U rule df du (inr is) = absurd (is.0 (df.0 refl))
-rule_told false u F U rule df du (inl is) = (let e = df.1 is.0 in absurd cc)
-rule_told false true F U rule df du (inr is) = sym is.2
-rule_told false false F U rule df du (inr is) = (let e = du.1 is.1 in absurd cc)
+rule_reported : (f u : Bool) (F U : Type 0) (rule : ℕ) → Decides f F → Decides u U → IsFirstOf F U rule → rule_of f u ≡ rule
+rule_reported true u F U rule df du (inl is) = sym is.1
+rule_reported true u F U rule df du (inr is) = absurd (is.0 (df.0 refl))
+rule_reported false u F U rule df du (inl is) = (let e = df.1 is.0 in absurd cc)
+rule_reported false true F U rule df du (inr is) = sym is.2
+rule_reported false false F U rule df du (inr is) = (let e = du.1 is.1 in absurd cc)
 
 abbrev pub instr_rule : Program → Name → List Constant → Instr → ℕ
 instr_rule program own pool instr = rule_of (is_foreign (known_of program own pool) instr) (is_unlinked (known_of program own pool) instr)
 
 -- an instruction violates this one of the two rules, and no other
-pub instr_told : (program : Program) (own : Name) (pool : List Constant) (instr : Instr) (rule : ℕ) → instr_rule program own pool instr ≡ rule → rule ≢ 0 → IsFirstOf (IsForeign program pool instr) (IsUnlinked program own pool instr) rule
-instr_told program own pool instr rule =
+pub instr_reported : (program : Program) (own : Name) (pool : List Constant) (instr : Instr) (rule : ℕ) → instr_rule program own pool instr ≡ rule → rule ≢ 0 → IsFirstOf (IsForeign program pool instr) (IsUnlinked program own pool instr) rule
+instr_reported program own pool instr rule =
     let is = is_known program own pool in
-    told_rule _ _ _ _ rule (foreign_instr own pool (known_of program own pool) instr is) (unlinked_instr own pool (known_of program own pool) instr is)
+    reported_rule _ _ _ _ rule (foreign_instr own pool (known_of program own pool) instr is) (unlinked_instr own pool (known_of program own pool) instr is)
 
-pub told_instr : (program : Program) (own : Name) (pool : List Constant) (instr : Instr) (rule : ℕ) → IsFirstOf (IsForeign program pool instr) (IsUnlinked program own pool instr) rule → instr_rule program own pool instr ≡ rule
-told_instr program own pool instr rule =
+pub reported_instr : (program : Program) (own : Name) (pool : List Constant) (instr : Instr) (rule : ℕ) → IsFirstOf (IsForeign program pool instr) (IsUnlinked program own pool instr) rule → instr_rule program own pool instr ≡ rule
+reported_instr program own pool instr rule =
     let is = is_known program own pool in
-    rule_told _ _ _ _ rule (foreign_instr own pool (known_of program own pool) instr is) (unlinked_instr own pool (known_of program own pool) instr is)
+    rule_reported _ _ _ _ rule (foreign_instr own pool (known_of program own pool) instr is) (unlinked_instr own pool (known_of program own pool) instr is)
 
 abbrev pub catch_rule : Program → List Constant → ℕ → ℕ
 catch_rule program pool index = rule_of (is_foreign_catch (known_of program [] pool) index) (is_unlinked_catch (known_of program [] pool) index)
 
 -- the same for a handler's type
-pub catch_told : (program : Program) (pool : List Constant) (index rule : ℕ) → catch_rule program pool index ≡ rule → rule ≢ 0 → IsFirstOf (IsSomeAnd (constant_at pool index) (IsForeignConstant program pool)) (IsUnlinkedCatch program pool index) rule
-catch_told program pool index rule =
+pub catch_reported : (program : Program) (pool : List Constant) (index rule : ℕ) → catch_rule program pool index ≡ rule → rule ≢ 0 → IsFirstOf (IsSomeAnd (constant_at pool index) (IsForeignConstant program pool)) (IsUnlinkedCatch program pool index) rule
+catch_reported program pool index rule =
     let is = is_known program [] pool in
-    told_rule _ _ _ _ rule (foreign_catch [] pool (known_of program [] pool) index is) (unlinked_catch [] pool (known_of program [] pool) index is)
+    reported_rule _ _ _ _ rule (foreign_catch [] pool (known_of program [] pool) index is) (unlinked_catch [] pool (known_of program [] pool) index is)
 
-pub told_catch : (program : Program) (pool : List Constant) (index rule : ℕ) → IsFirstOf (IsSomeAnd (constant_at pool index) (IsForeignConstant program pool)) (IsUnlinkedCatch program pool index) rule → catch_rule program pool index ≡ rule
-told_catch program pool index rule =
+pub reported_catch : (program : Program) (pool : List Constant) (index rule : ℕ) → IsFirstOf (IsSomeAnd (constant_at pool index) (IsForeignConstant program pool)) (IsUnlinkedCatch program pool index) rule → catch_rule program pool index ≡ rule
+reported_catch program pool index rule =
     let is = is_known program [] pool in
-    rule_told _ _ _ _ rule (foreign_catch [] pool (known_of program [] pool) index is) (unlinked_catch [] pool (known_of program [] pool) index is)
+    rule_reported _ _ _ _ rule (foreign_catch [] pool (known_of program [] pool) index is) (unlinked_catch [] pool (known_of program [] pool) index is)

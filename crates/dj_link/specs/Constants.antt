@@ -10,7 +10,7 @@ use Rattle.dj_declared.specs.Members.{IsDescriptor}
 use Rattle.dj_directory.specs.Numberings.{Numbering, number_of}
 use Rattle.dj_linking.specs.Linked.{Linked, resolved_method, resolved_field}
 use Rattle.dj_linking.specs.Numbered.{AreNumbersOf}
-use Rattle.dj_link.specs.declared.name_numbers.MemberName.{MemberName}
+use Rattle.dj_link.specs.declared.name_numbers.NumberedName.{NumberedName}
 use Rattle.dj_link.specs.trusted.Named.{is_static_field, is_static_method}
 use Rattle.dj_link.specs.Judged.{judged_class}
 use Rattle.dj_link.specs.declared.named.NamedClass.{NamedClass}
@@ -43,7 +43,7 @@ AreNumbersSeenBy None pool seen = ⊤
 AreNumbersSeenBy (Some directory) pool seen = AreNumbersSeen directory.now pool seen
 
 -- the numbers are those of the texts, the second of which is a descriptor; without a directory texts have no numbers
-abbrev pub IsNumbered : Option (Bor Numbering) → MemberName → Type 0
+abbrev pub IsNumbered : Option (Bor Numbering) → NumberedName → Type 0
 IsNumbered None named = IsDescriptor named.desc.now
 IsNumbered (Some directory) named = AreNumbersOf directory.now named.name_number named.desc_number named.name.now named.desc.now
 

@@ -15,7 +15,7 @@ use Rattle.dj_classes.specs.Tables.{name_at}
 use Rattle.dj_check.specs.trusted.Instructions.{index_of}
 use Rattle.dj_check.specs.trusted.Methods.{CatchesError}
 use Rattle.dj_link.specs.trusted.Unlinked.{differ, asks_static, is_special}
-use Rattle.dj_link.specs.trusted.Lines.{IsUntold, IsFirstOf}
+use Rattle.dj_link.specs.trusted.Lines.{IsUnreported, IsFirstOf}
 use Rattle.dj_link.specs.Judged.{AreJudged, kept_at}
 use Rattle.dj_link.specs.declared.above.OwnClass.{OwnClass}
 use Rattle.dj_link.specs.declared.named.Tag.{Tag}
@@ -228,10 +228,10 @@ pub record IsKnown (own : Name) (pool : List Constant) (known : Known) : Type 0 
 
 -- rule 17 or rule 18, unless another rule is reported in its place
 abbrev pub IsRuled : Bool → Bool → Bool → ℕ → Type 0
-IsRuled told foreign unlinked rule = IsFalse told × IsFirstOf (IsTrue foreign) (IsTrue unlinked) rule
+IsRuled reported foreign unlinked rule = IsFalse reported × IsFirstOf (IsTrue foreign) (IsTrue unlinked) rule
 
 abbrev pub KnownInstr : Known → List Constant → Instr → ℕ → Type 0
-KnownInstr known pool instr rule = IsUntold pool instr × IsFirstOf (IsTrue (is_foreign known instr)) (IsTrue (is_unlinked known instr)) rule
+KnownInstr known pool instr rule = IsUnreported pool instr × IsFirstOf (IsTrue (is_foreign known instr)) (IsTrue (is_unlinked known instr)) rule
 
 abbrev pub KnownCatch : Known → List Constant → ℕ → ℕ → Type 0
 KnownCatch known pool index rule = (CatchesError pool index → ⊥) × IsFirstOf (IsTrue (is_foreign_catch known index)) (IsTrue (is_unlinked_catch known index)) rule

@@ -7,17 +7,17 @@ use Rattle.dj_labels.specs.declared.labelled.Protected.{Protected}
 use Rattle.dj_check.specs.declared.marks.Mark.{Mark}
 use Rattle.dj_check.specs.Marks.{MarksOf}
 use Rattle.dj_check.specs.trusted.Methods.{MethodViolates}
-use Rattle.dj_link.specs.trusted.Lines.{IsUntold}
+use Rattle.dj_link.specs.trusted.Lines.{IsUnreported}
 use Rattle.dj_link.specs.declared.known.Known.{Known}
 use Rattle.dj_link.specs.Known.{KnownRange}
 
 -- no instruction of the code violates one of the rules 9 to 15
-abbrev pub AreUntold : List Constant → List Instr → Type 0
-AreUntold pool code = (number : ℕ) (instr : Instr) → slice_get code number ≡ Some instr → IsUntold pool instr
+abbrev pub AreUnreported : List Constant → List Instr → Type 0
+AreUnreported pool code = (number : ℕ) (instr : Instr) → slice_get code number ≡ Some instr → IsUnreported pool instr
 
 -- the method violates none of the rules 9 to 16
-abbrev pub IsUntoldMethod : ClassFile → MemberInfo → Type 0
-IsUntoldMethod c m = (number : Option ℕ) (rule : ℕ) → MethodViolates c m number rule → ⊥
+abbrev pub IsUnreportedMethod : ClassFile → MemberInfo → Type 0
+IsUnreportedMethod c m = (number : Option ℕ) (rule : ℕ) → MethodViolates c m number rule → ⊥
 
 -- marks of the handlers of a method with these names
 abbrev pub AreRangeMarks : ℕ × ℕ → Known → List Constant → List Protected → Mark → Type 0

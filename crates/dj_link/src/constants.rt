@@ -11,7 +11,7 @@ ghost use Rattle.dj_link.specs.Constants.{text_class, static_in, AreSeen, AreNum
 
 use crate::class_text::{class_text, is_of_library, object_name};
 use crate::error::LinkError;
-use crate::name_numbers::{MemberName, member_name, unseen_numbers};
+use crate::name_numbers::{NumberedName, member_name, unseen_numbers};
 use crate::named::{NamedClass, NamedConstant, NamedMember, Tag};
 use crate::statics::is_static_at;
 use dj_directory::Directory;
@@ -131,7 +131,7 @@ fn is_static_in(
     directory: Option<&Directory<'_>>,
     entry: Entry<'_>,
     class: Option<u32>,
-    named: MemberName<'_>,
+    named: NumberedName<'_>,
 ) -> Option<bool>
     requires same { IsDirectoryOf linker.now.program directory }
     requires there { IfSome class (λ number. number < length linker.now.program) }

@@ -11,12 +11,12 @@ ghost use Rattle.dj_check.specs.Marks.{names_in, MarksOf, AreMarksOf};
 ghost use Rattle.dj_check.specs.Passes.{IsWholeMethod};
 ghost use Rattle.dj_link.specs.trusted.Lines.{MethodLinkViolates};
 ghost use Rattle.dj_link.specs.Known.{IsKnown};
-ghost use Rattle.dj_link.specs.Marks.{IsUntoldMethod};
+ghost use Rattle.dj_link.specs.Marks.{IsUnreportedMethod};
 
 use crate::error::LinkError;
 use crate::known::Known;
 use crate::passes::add_code_marks;
-use dj_check::{JudgedText, Mark, MethodCode, WholeCode, code_of_method, names_of};
+use dj_check::{JudgedText, Mark, MethodBody, WholeCode, code_of_method, names_of};
 use dj_class::{ClassView, MemberView};
 use std::alloc::Global;
 
@@ -28,9 +28,9 @@ pub fn add_whole_marks(
     known: &Known<'_>,
     method: &MemberView<'_>,
     code: &WholeCode<'_>,
-    untold: bool,
+    unreported: bool,
 ) -> Result<(), LinkError>
-    requires untold { IsTrue untold → IsUntoldMethod (class_of view.now) (member_of method.now) }
+    requires unreported { IsTrue unreported → IsUnreportedMethod (class_of view.now) (member_of method.now) }
     requires texts { AreTexts view.now.pool texts.now }
     requires known { IsKnown (this_name (class_of view.now)) view.now.pool known.now }
     requires code { IsWholeMethod view.now.pool (member_of method.now) code.now }
@@ -44,7 +44,7 @@ pub fn add_whole_marks(
         texts,
         known,
         &code.labelled,
-        untold,
+        unreported,
     )
 }
 
@@ -64,9 +64,9 @@ fn add_method_mark(
     ensures { OnOk result (Gains (MarksOf (names_in texts.now (member_of method.now)) (MethodLinkViolates known.now.table.now (class_of view.now) (member_of method.now))) marks.old.items marks.new.items) }
 {
     match code_of_method(alloc, &view.pool, method)? {
-        MethodCode::Faulty => unreachable!(),
-        MethodCode::Bodiless => Ok(()),
-        MethodCode::Whole(code) => {
+        MethodBody::Faulty => unreachable!(),
+        MethodBody::Bodiless => Ok(()),
+        MethodBody::Whole(code) => {
             add_whole_marks(marks, view, texts, known, method, &code, false)
         }
     }

@@ -13,7 +13,7 @@ use std::alloc::{AllocError, Global};
 
 /// The name and the descriptor of a member, and their numbers, where they have numbers.
 #[derive(Clone, Copy)]
-pub struct MemberName<'a> {
+pub struct NumberedName<'a> {
     pub name: &'a [u8],
     pub desc: &'a [u8],
     pub name_number: Option<u32>,
@@ -97,7 +97,7 @@ pub fn member_name<'p>(
     pool: &Pool<'p>,
     seen: &mut [Option<Option<u32>>],
     entry: Entry<'_>,
-) -> Option<MemberName<'p>>
+) -> Option<NumberedName<'p>>
     requires seen { AreNumbersSeenBy directory pool.now seen.old }
     requires linked { IsLinked pool.now (constant_of entry) }
     ensures seen { AreNumbersSeenBy directory.entry pool.now seen.new }
@@ -108,7 +108,7 @@ pub fn member_name<'p>(
     let name = pool.text(name_index)?;
     let desc = pool.text(desc_index)?;
     let (name_number, desc_number) = see_numbers(directory, pool, seen, name_index, desc_index);
-    Some(MemberName {
+    Some(NumberedName {
         name,
         desc,
         name_number,

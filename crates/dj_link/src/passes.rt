@@ -4,14 +4,14 @@ ghost use Rattle.dj_check.specs.Judged.{AreTexts};
 ghost use Rattle.dj_check.specs.Marks.{MarksAt, MarksOf};
 ghost use Rattle.dj_check.specs.trusted.Methods.{InstrViolates};
 ghost use Rattle.dj_link.specs.Known.{IsRuled, KnownInstr, KnownBelow, KnownRange, KnownCode};
-ghost use Rattle.dj_link.specs.trusted.Lines.{IsUntold};
-ghost use Rattle.dj_link.specs.Marks.{AreRangeMarks, AreUntold};
+ghost use Rattle.dj_link.specs.trusted.Lines.{IsUnreported};
+ghost use Rattle.dj_link.specs.Marks.{AreRangeMarks, AreUnreported};
 
 use crate::asks::index_of;
 use crate::error::LinkError;
 use crate::judge::{is_foreign, is_foreign_catch, is_unlinked, is_unlinked_catch};
 use crate::known::Known;
-use dj_check::{JudgedText, Mark, Place, add_mark_if, catches_error, violates_instr};
+use dj_check::{JudgedText, Mark, MarkPlace, add_mark_if, catches_error, violates_instr};
 use dj_labels::{Labelled, Protected};
 use dj_ops::Instr;
 use dj_pool::Pool;
@@ -24,14 +24,14 @@ const UNRESOLVED: u8 = 18;
 // Appends the mark of the first of the two rules that is violated, unless a mark of another rule hides it.
 fn add_rule_mark(
     marks: &mut Vec<Mark>,
-    place: Place,
-    told: bool,
+    place: MarkPlace,
+    reported: bool,
     foreign: bool,
     unlinked: bool,
 ) -> Result<(), LinkError>
-    ensures { OnOk result (Gains (MarksAt place (IsRuled told foreign unlinked)) marks.old.items marks.new.items) }
+    ensures { OnOk result (Gains (MarksAt place (IsRuled reported foreign unlinked)) marks.old.items marks.new.items) }
 {
-    if told {
+    if reported {
         return Ok(());
     }
     if foreign {
@@ -41,12 +41,12 @@ fn add_rule_mark(
 }
 
 // Whether the instruction violates one of the rules 9 to 15. Where the caller knows that it doesn't, it isn't looked at.
-fn is_told(pool: &Pool<'_>, texts: &[JudgedText], instr: &Instr, untold: bool) -> bool
+fn is_reported(pool: &Pool<'_>, texts: &[JudgedText], instr: &Instr, unreported: bool) -> bool
     requires texts { AreTexts pool.now texts.now }
-    requires untold { IsTrue untold → IsUntold pool.now instr.now }
+    requires unreported { IsTrue unreported → IsUnreported pool.now instr.now }
     ensures { IsTrue result ↔ ((rule : ℕ) × InstrViolates pool.now instr.now rule) }
 {
-    if untold {
+    if unreported {
         return false;
     }
     violates_instr(pool, texts, instr)
@@ -55,40 +55,40 @@ fn is_told(pool: &Pool<'_>, texts: &[JudgedText], instr: &Instr, untold: bool) -
 // Appends the mark of an instruction at its place, where it names a constant.
 fn add_named_mark(
     marks: &mut Vec<Mark>,
-    place: Place,
+    place: MarkPlace,
     pool: &Pool<'_>,
     texts: &[JudgedText],
     known: &Known<'_>,
     instr: &Instr,
-    untold: bool,
+    unreported: bool,
 ) -> Result<(), LinkError>
     requires texts { AreTexts pool.now texts.now }
-    requires untold { IsTrue untold → IsUntold pool.now instr.now }
+    requires unreported { IsTrue unreported → IsUnreported pool.now instr.now }
     ensures { OnOk result (Gains (MarksAt place (KnownInstr known.now pool.now instr.now)) marks.old.items marks.new.items) }
 {
-    let told = is_told(pool, texts, instr, untold);
+    let reported = is_reported(pool, texts, instr, unreported);
     let foreign = is_foreign(known, instr);
     let unlinked = is_unlinked(known, instr);
-    add_rule_mark(marks, place, told, foreign, unlinked)
+    add_rule_mark(marks, place, reported, foreign, unlinked)
 }
 
 // Appends the mark of an instruction at its place. Most instructions name no constant and have none.
 fn add_instr_mark(
     marks: &mut Vec<Mark>,
-    place: Place,
+    place: MarkPlace,
     pool: &Pool<'_>,
     texts: &[JudgedText],
     known: &Known<'_>,
     instr: &Instr,
-    untold: bool,
+    unreported: bool,
 ) -> Result<(), LinkError>
     requires texts { AreTexts pool.now texts.now }
-    requires untold { IsTrue untold → IsUntold pool.now instr.now }
+    requires unreported { IsTrue unreported → IsUnreported pool.now instr.now }
     ensures { OnOk result (Gains (MarksAt place (KnownInstr known.now pool.now instr.now)) marks.old.items marks.new.items) }
 {
     match index_of(instr) {
         None => Ok(()),
-        Some(_) => add_named_mark(marks, place, pool, texts, known, instr, untold),
+        Some(_) => add_named_mark(marks, place, pool, texts, known, instr, unreported),
     }
 }
 
@@ -100,20 +100,20 @@ fn add_instr_marks(
     texts: &[JudgedText],
     known: &Known<'_>,
     code: &[Instr],
-    untold: bool,
+    unreported: bool,
 ) -> Result<(), LinkError>
     requires texts { AreTexts pool.now texts.now }
-    requires untold { IsTrue untold → AreUntold pool.now code.now }
+    requires unreported { IsTrue unreported → AreUnreported pool.now code.now }
     requires few { length code.now < 2 ^ 32 }
     ensures { OnOk result (Gains (MarksOf names (KnownBelow (length code.now) known.now pool.now code.now)) marks.old.items marks.new.items) }
 {
     for at in 0..code.len() {
-        let place = Place {
+        let place = MarkPlace {
             name: names.0,
             desc: names.1,
             number: Some(at as u32),
         };
-        add_instr_mark(marks, place, pool, texts, known, &code[at], untold)?;
+        add_instr_mark(marks, place, pool, texts, known, &code[at], unreported)?;
     }
     Ok(())
 }
@@ -128,15 +128,15 @@ fn add_handler_mark(
 ) -> Result<(), LinkError>
     ensures { OnOk result (Gains (MarksOf names (KnownRange known.now pool.now range)) marks.old.items marks.new.items) }
 {
-    let place = Place {
+    let place = MarkPlace {
         name: names.0,
         desc: names.1,
         number: Some(range.handler),
     };
-    let told = catches_error(pool, range.catch_type);
+    let reported = catches_error(pool, range.catch_type);
     let foreign = is_foreign_catch(known, range.catch_type);
     let unlinked = is_unlinked_catch(known, range.catch_type);
-    add_rule_mark(marks, place, told, foreign, unlinked)
+    add_rule_mark(marks, place, reported, foreign, unlinked)
 }
 
 // Appends the marks of all handlers of a method with these names.
@@ -163,10 +163,10 @@ pub fn add_code_marks(
     texts: &[JudgedText],
     known: &Known<'_>,
     labelled: &Labelled,
-    untold: bool,
+    unreported: bool,
 ) -> Result<(), LinkError>
     requires texts { AreTexts pool.now texts.now }
-    requires untold { IsTrue untold → AreUntold pool.now labelled.now.code }
+    requires unreported { IsTrue unreported → AreUnreported pool.now labelled.now.code }
     requires few { length labelled.now.code < 2 ^ 32 }
     ensures { OnOk result (Gains (MarksOf names (KnownCode known.now pool.now labelled.now)) marks.old.items marks.new.items) }
 {
@@ -177,7 +177,7 @@ pub fn add_code_marks(
         texts,
         known,
         labelled.code.as_slice(),
-        untold,
+        unreported,
     )?;
     add_handler_marks(marks, names, pool, known, labelled.ranges.as_slice())
 }

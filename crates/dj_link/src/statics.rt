@@ -8,7 +8,7 @@ ghost use Rattle.dj_linking.specs.Numbered.{AreNumbersOf};
 ghost use Rattle.dj_link.specs.trusted.Named.{is_static_field, is_static_method};
 ghost use Rattle.dj_link.specs.Constants.{static_at, IsDirectoryOf, IsNumbered};
 
-use crate::name_numbers::MemberName;
+use crate::name_numbers::NumberedName;
 use dj_directory::Directory;
 use dj_linking::{Linker, Place, resolve_field_of, resolve_method_of};
 use dj_pool::Entry;
@@ -28,7 +28,7 @@ fn field_numbered(
     linker: &Linker,
     directory: &Directory<'_>,
     class: u32,
-    named: MemberName<'_>,
+    named: NumberedName<'_>,
 ) -> Option<Place>
     requires same { directory.now.program ≡ linker.now.program }
     requires there { class < length linker.now.program }
@@ -49,7 +49,7 @@ fn field_named(
     linker: &Linker,
     directory: Option<&Directory<'_>>,
     class: u32,
-    named: MemberName<'_>,
+    named: NumberedName<'_>,
 ) -> Option<Place>
     requires same { IsDirectoryOf linker.now.program directory }
     requires there { class < length linker.now.program }
@@ -67,7 +67,7 @@ fn method_numbered(
     linker: &Linker,
     directory: &Directory<'_>,
     class: u32,
-    named: MemberName<'_>,
+    named: NumberedName<'_>,
 ) -> Option<Place>
     requires same { directory.now.program ≡ linker.now.program }
     requires there { class < length linker.now.program }
@@ -88,7 +88,7 @@ fn method_named(
     linker: &Linker,
     directory: Option<&Directory<'_>>,
     class: u32,
-    named: MemberName<'_>,
+    named: NumberedName<'_>,
 ) -> Option<Place>
     requires same { IsDirectoryOf linker.now.program directory }
     requires there { class < length linker.now.program }
@@ -106,7 +106,7 @@ fn is_static_field(
     linker: &Linker,
     directory: Option<&Directory<'_>>,
     class: u32,
-    named: MemberName<'_>,
+    named: NumberedName<'_>,
 ) -> Option<bool>
     requires same { IsDirectoryOf linker.now.program directory }
     requires there { class < length linker.now.program }
@@ -123,7 +123,7 @@ fn is_static_method(
     linker: &Linker,
     directory: Option<&Directory<'_>>,
     class: u32,
-    named: MemberName<'_>,
+    named: NumberedName<'_>,
 ) -> Option<bool>
     requires same { IsDirectoryOf linker.now.program directory }
     requires there { class < length linker.now.program }
@@ -141,7 +141,7 @@ pub fn is_static_at(
     directory: Option<&Directory<'_>>,
     entry: Entry<'_>,
     class: u32,
-    named: MemberName<'_>,
+    named: NumberedName<'_>,
 ) -> Option<bool>
     requires same { IsDirectoryOf linker.now.program directory }
     requires there { class < length linker.now.program }

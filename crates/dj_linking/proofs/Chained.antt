@@ -117,18 +117,18 @@ rows_below program row bound class lt each z there = elim (all_cases [] (flat_ma
   | inr h ↦ (let above = has_flat row (numbers_up most_classes program (Some class)) z h in each above.0 (up_within most_classes program (Some class) lt above.0 above.1) z above.2)
 ]
 
-told_within : (places : List (Option ℕ)) (k place : ℕ) → get_or places k None ≡ Some place → k < length places
-told_within [] k place told = absurd (none-some place told)
-told_within (o ∷ places) zero place told = omega arith
-told_within (o ∷ places) (suc k) place told = let rest = told_within places k place told in omega (arith, rest)
+reported_within : (places : List (Option ℕ)) (k place : ℕ) → get_or places k None ≡ Some place → k < length places
+reported_within [] k place reported = absurd (none-some place reported)
+reported_within (o ∷ places) zero place reported = omega arith
+reported_within (o ∷ places) (suc k) place reported = let rest = reported_within places k place reported in omega (arith, rest)
 
 -- rows that are the same have the same lists
 pub chained_alike : (program : Program) (row other : ℕ → List ℕ) (lists : List (List ℕ)) (places : List (Option ℕ)) → ((k : ℕ) → k < length program → row k ≡ other k) → AreChained program row lists places → AreChained program other lists places
 chained_alike program row other lists places same are = record {
   count = are.count;
-  each = λ k p told.
-      (let lt : k < length program = (let within = told_within places k p told in omega (arith, within, are.count)) in
-      are.each k p told
+  each = λ k p reported.
+      (let lt : k < length program = (let within = reported_within places k p reported in omega (arith, within, are.count)) in
+      are.each k p reported
       ∙ ap (λ (xs : List ℕ). Some (first_places xs)) (flat_alike row other (numbers_up most_classes program (Some k)) (λ x there. same x (up_within most_classes program (Some k) lt x there))));
 }
 
@@ -167,18 +167,18 @@ learnt_share program row lists places class place are lt new there short =
     record {
       chained = record {
         count = length-set places class (Some place) ∙ are.chained.count;
-        each = λ k p told. elim (either (nat_eq k class)) [
+        each = λ k p reported. elim (either (nat_eq k class)) [
           | inl e ↦
               (let same : k ≡ class = eqb-true k class e in
-              let at : place ≡ p = same_Some place p (sym own ∙ ap (λ (j : ℕ). get_or (set places class (Some place)) j None) (sym same) ∙ told) in
+              let at : place ≡ p = same_Some place p (sym own ∙ ap (λ (j : ℕ). get_or (set places class (Some place)) j None) (sym same) ∙ reported) in
               ap (slice_get lists) (sym at) ∙ there ∙ ap (λ (j : ℕ). Some (once_up program row j)) (sym same))
-          | inr e ↦ are.chained.each k p (sym (get_or-set_other places class k (Some place) None (eqb-false k class e)) ∙ told)
+          | inr e ↦ are.chained.each k p (sym (get_or-set_other places class k (Some place) None (eqb-false k class e)) ∙ reported)
         ];
       };
-      short = λ k p told.
+      short = λ k p reported.
           subst (λ (n : ℕ). IsShort program n k) (sym (more_known places class place within new)) (elim (either (nat_eq k class)) [
             | inl e ↦ subst (IsShort program (known_count places + 1)) (sym (eqb-true k class e)) short
-            | inr e ↦ short_more program (known_count places) k (are.short k p (sym (get_or-set_other places class k (Some place) None (eqb-false k class e)) ∙ told))
+            | inr e ↦ short_more program (known_count places) k (are.short k p (sym (get_or-set_other places class k (Some place) None (eqb-false k class e)) ∙ reported))
           ]);
     }
 
@@ -197,7 +197,7 @@ pub learnt_put : (program : Program) (row : ℕ → List ℕ) (lists : List (Lis
 learnt_put program row lists places class list are lt new is short =
     learnt_share program row (lists ++ list ∷ []) places class (length lists)
     (record {
-      chained = record { count = are.chained.count; each = λ k p told. still_there lists (list ∷ []) p (once_up program row k) (are.chained.each k p told) };
+      chained = record { count = are.chained.count; each = λ k p reported. still_there lists (list ∷ []) p (once_up program row k) (are.chained.each k p reported) };
       short = are.short;
     })
     lt new (at_end lists list ∙ ap Some is) short
@@ -206,28 +206,28 @@ pub learnt_none : (program : Program) (row : ℕ → List ℕ) (lists : List (Li
 learnt_none program row lists places n count none = record {
   chained = record {
     count = ap length none ∙ length-replicate n None ∙ count;
-    each = λ k p told. absurd (none-some p (sym (ap (λ (os : List (Option ℕ)). get_or os k None) none ∙ get_none n k None) ∙ told));
+    each = λ k p reported. absurd (none-some p (sym (ap (λ (os : List (Option ℕ)). get_or os k None) none ∙ get_none n k None) ∙ reported));
   };
-  short = λ k p told. absurd (none-some p (sym (ap (λ (os : List (Option ℕ)). get_or os k None) none ∙ get_none n k None) ∙ told));
+  short = λ k p reported. absurd (none-some p (sym (ap (λ (os : List (Option ℕ)). get_or os k None) none ∙ get_none n k None) ∙ reported));
 }
 
 -- ---- what is there
 
 -- a list that is found is the class's
-pub list_told : (program : Program) (row : ℕ → List ℕ) (lists : List (List ℕ)) (places : List (Option ℕ)) (class : ℕ) (list : List ℕ) → AreChained program row lists places
+pub list_reported : (program : Program) (row : ℕ → List ℕ) (lists : List (List ℕ)) (places : List (Option ℕ)) (class : ℕ) (list : List ℕ) → AreChained program row lists places
     → Some list ≡ option_and_then (slice_get lists) (get_or places class None) → list ≡ once_up program row class
-list_told program row lists places class list are told = go (get_or places class None) refl told where
+list_reported program row lists places class list are reported = go (get_or places class None) refl reported where
   go : (o : Option ℕ) → get_or places class None ≡ o → Some list ≡ option_and_then (slice_get lists) o → list ≡ once_up program row class
-  go None is told = absurd (none-some list (sym told))
-  go (Some p) is told = same_Some list (once_up program row class) (told ∙ are.each class p is)
+  go None is reported = absurd (none-some list (sym reported))
+  go (Some p) is reported = same_Some list (once_up program row class) (reported ∙ are.each class p is)
 
 -- whether it has a number
-pub has_told : (program : Program) (row : ℕ → List ℕ) (lists : List (List ℕ)) (places : List (Option ℕ)) (class number : ℕ) (there : Bool) → AreChained program row lists places
+pub has_reported : (program : Program) (row : ℕ → List ℕ) (lists : List (List ℕ)) (places : List (Option ℕ)) (class number : ℕ) (there : Bool) → AreChained program row lists places
     → Some there ≡ option_map (λ list. has list number) (option_and_then (slice_get lists) (get_or places class None)) → there ≡ has (once_up program row class) number
-has_told program row lists places class number there are told = go (option_and_then (slice_get lists) (get_or places class None)) refl told where
+has_reported program row lists places class number there are reported = go (option_and_then (slice_get lists) (get_or places class None)) refl reported where
   go : (o : Option (List ℕ)) → option_and_then (slice_get lists) (get_or places class None) ≡ o → Some there ≡ option_map (λ list. has list number) o → there ≡ has (once_up program row class) number
-  go None is told = absurd (none-some there (sym told))
-  go (Some list) is told = same_Some there (has list number) told ∙ ap (λ (xs : List ℕ). has xs number) (list_told program row lists places class list are (sym is))
+  go None is reported = absurd (none-some there (sym reported))
+  go (Some list) is reported = same_Some there (has list number) reported ∙ ap (λ (xs : List ℕ). has xs number) (list_reported program row lists places class list are (sym is))
 
 -- ---- one class
 
@@ -240,18 +240,18 @@ module _ (program : Program) (rows lists : List (List ℕ)) (places : List (Opti
       learnt_put program (row_at rows) lists places class list are lt new (is ∙ sym (once_first program (row_at rows) class first)) (short_first program (known_count places) class first)
 
   pub shared_below : (next place : ℕ) → super_number program class ≡ Some next → get_or places next None ≡ Some place → get_or rows class [] ≡ [] → AreLearnt program (row_at rows) lists (set places class (Some place))
-  shared_below next place is told empty =
+  shared_below next place is reported empty =
       learnt_share program (row_at rows) lists places class place are lt new
-      (are.chained.each next place told
-      ∙ ap Some (once_shared program (row_at rows) (known_count places) class next is (are.short next place told) (few_levels program (row_at rows) lists places are few) empty))
-      (short_next program (known_count places) class next is (are.short next place told))
+      (are.chained.each next place reported
+      ∙ ap Some (once_shared program (row_at rows) (known_count places) class next is (are.short next place reported) (few_levels program (row_at rows) lists places are few) empty))
+      (short_next program (known_count places) class next is (are.short next place reported))
 
   pub put_below : (list : List ℕ) (next place : ℕ) → super_number program class ≡ Some next → get_or places next None ≡ Some place
       → list ≡ with_all (first_places (get_or rows class [])) (once_up program (row_at rows) next) → AreLearnt program (row_at rows) (lists ++ list ∷ []) (set places class (Some (length lists)))
-  put_below list next place is told joined =
+  put_below list next place is reported joined =
       learnt_put program (row_at rows) lists places class list are lt new
-      (joined ∙ sym (once_next program (row_at rows) (known_count places) class next is (are.short next place told) (few_levels program (row_at rows) lists places are few)))
-      (short_next program (known_count places) class next is (are.short next place told))
+      (joined ∙ sym (once_next program (row_at rows) (known_count places) class next is (are.short next place reported) (few_levels program (row_at rows) lists places are few)))
+      (short_next program (known_count places) class next is (are.short next place reported))
 
 -- ---- lists and places as the code holds them
 
@@ -264,8 +264,8 @@ item_at (y ∷ xs) zero x d lt is = sym is
 item_at (y ∷ xs) (suc k) x d lt is = item_at xs k x d (omega (arith, lt)) is
 
 -- the place that the superclass has
-pub place_told : (program : Program) (places : List (Option ℕ)) (class next place : ℕ) (o : Option ℕ) → length places ≡ length program → super_number program class ≡ Some next → o ≡ get_or places next o → o ≡ Some place → get_or places next None ≡ Some place
-place_told program places class next place o count is at told = item_at places next o None (next_place program places class next count is) at ∙ told
+pub place_reported : (program : Program) (places : List (Option ℕ)) (class next place : ℕ) (o : Option ℕ) → length places ≡ length program → super_number program class ≡ Some next → o ≡ get_or places next o → o ≡ Some place → get_or places next None ≡ Some place
+place_reported program places class next place o count is at reported = item_at places next o None (next_place program places class next count is) at ∙ reported
 
 no_place : (o : Option ℕ) → is_some o ≡ false → o ≡ None
 no_place None none = refl

@@ -7,8 +7,8 @@ use Rattle.dj_model.specs.trusted.Program.{Program, method_in, is_static}
 use Rattle.dj_model.specs.trusted.Linking.{most_classes, or_else, is_not_static}
 use Rattle.dj_declared.specs.Members.{method_flags}
 use Rattle.dj_classes.specs.Tables.{super_number, methods_at}
-use Rattle.dj_linking.specs.Numbers.{numbers_up, first_some, method_found, TellsMethod, most_above}
-use Rattle.dj_linking.proofs.Finding.{told_first, told_next, super_within, named, Is, static_clear, static_set}
+use Rattle.dj_linking.specs.Numbers.{numbers_up, first_some, method_found, SaysMethod, most_above}
+use Rattle.dj_linking.proofs.Finding.{reported_first, reported_next, super_within, named, Is, static_clear, static_set}
 use Rattle.dj_linking.proofs.Walks.{no_numbers_up}
 
 pub record IsClimbed {A : Type 0} (f : ℕ → Option A) (program : Program) (levels : ℕ) (first : Option ℕ) (i : ℕ) (next : Option ℕ) : Type 0 where
@@ -32,13 +32,13 @@ one_level f program levels i at lt =
 
 pub climbed_here : {A : Type 0} (f : ℕ → Option A) (program : Program) (levels : ℕ) (first : Option ℕ) (i at : ℕ) (t : Option A) → IsClimbed f program levels first i (Some at) → i < levels → Some t ≡ option_map Some (f at)
     → Some t ≡ option_map Some (first_some f (numbers_up levels program first))
-climbed_here f program levels first i at t climbed lt told =
-    told_first t (f at) (first_some f (numbers_up (levels - (i + 1)) program (super_number program at))) told ∙ ap (option_map Some) (sym (climbed.same ∙ one_level f program levels i at lt))
+climbed_here f program levels first i at t climbed lt reported =
+    reported_first t (f at) (first_some f (numbers_up (levels - (i + 1)) program (super_number program at))) reported ∙ ap (option_map Some) (sym (climbed.same ∙ one_level f program levels i at lt))
 
 pub climbed_more : {A : Type 0} (f : ℕ → Option A) (program : Program) (levels : ℕ) (first : Option ℕ) (i at : ℕ) (next : Option ℕ) → IsClimbed f program levels first i (Some at) → i < levels → None ≡ option_map Some (f at) → next ≡ super_number program at
     → IsClimbed f program levels first (i + 1) next
-climbed_more f program levels first i at next climbed lt told is = record {
-  same = climbed.same ∙ one_level f program levels i at lt ∙ told_next (f at) (first_some f (numbers_up (levels - (i + 1)) program (super_number program at))) told
+climbed_more f program levels first i at next climbed lt reported is = record {
+  same = climbed.same ∙ one_level f program levels i at lt ∙ reported_next (f at) (first_some f (numbers_up (levels - (i + 1)) program (super_number program at))) reported
       ∙ ap (λ (o : Option ℕ). first_some f (numbers_up (levels - (i + 1)) program o)) (sym is);
   within = subst (λ (o : Option ℕ). IfSome o (λ k. k < length program)) (sym is) (super_within program (slice_get program at));
 }
@@ -66,14 +66,14 @@ one_more_level = refl
 
 pub instance_there : (program : Program) (class member : ℕ) (name : Name) (desc : Desc) (flags : ℕ) → Some (slice_get (methods_at program class) member) ≡ option_map Some (method_in (methods_at program class) name desc)
     → Some flags ≡ option_map method_flags (slice_get (methods_at program class) member) → bit_and flags 8 ≡ 0
-    → TellsMethod program (Some (record { class = class; member = member })) (method_found program is_not_static name desc class)
-instance_there program class member name desc flags told flagged static = elim (named (slice_get program class) member name desc flags told flagged) [
+    → SaysMethod program (Some (record { class = class; member = member })) (method_found program is_not_static name desc class)
+instance_there program class member name desc flags reported flagged static = elim (named (slice_get program class) member name desc flags reported flagged) [
   | Is c m o at is same ↦ (let s : is_static m.flags ≡ false = rw (← same) (static_clear flags static) in rw (o, at, is, s) refl)
 ]
 
 pub static_there : (program : Program) (class member : ℕ) (name : Name) (desc : Desc) (flags : ℕ) → Some (slice_get (methods_at program class) member) ≡ option_map Some (method_in (methods_at program class) name desc)
     → Some flags ≡ option_map method_flags (slice_get (methods_at program class) member) → (bit_and flags 8 ≡ 0 → ⊥)
-    → TellsMethod program None (method_found program is_not_static name desc class)
-static_there program class member name desc flags told flagged static = elim (named (slice_get program class) member name desc flags told flagged) [
+    → SaysMethod program None (method_found program is_not_static name desc class)
+static_there program class member name desc flags reported flagged static = elim (named (slice_get program class) member name desc flags reported flagged) [
   | Is c m o at is same ↦ (let s : is_static m.flags ≡ true = rw (← same) (static_set flags static) in rw (o, is, s) refl)
 ]

@@ -28,9 +28,9 @@ use Rattle.dj_linking.specs.Numbers.{field_found, first_some, has, method_found,
 use Rattle.dj_linking.specs.Ranked.{AreRanks, HasRow, rank_in}
 use Rattle.dj_linking.specs.Shared.{AreRankMarks, HasTexts, IsFieldMarked, IsFieldNumbered, IsMethodNumbered, IsPlainMarked, IsRankMarked, declares_method}
 use Rattle.dj_linking.proofs.Chained.{up_within}
-use Rattle.dj_linking.proofs.Marking.{told_some}
+use Rattle.dj_linking.proofs.Marking.{reported_some}
 use Rattle.dj_linking.proofs.Nearing.{first_near, no_method, none_found}
-use Rattle.dj_linking.proofs.Numbered.{field_found_at, method_found_at, method_told}
+use Rattle.dj_linking.proofs.Numbered.{field_found_at, method_found_at, method_reported}
 use Rattle.dj_linking.proofs.Ranking.{all_have, has_mapped, mapped_has}
 use Rattle.dj_linking.proofs.Tops.{both, first_of, second_if, second_of}
 
@@ -74,7 +74,7 @@ ranks_marked program ranks name desc rows bound old marks declare there few clea
   declared_by : (row : MemberRow) → Contains rows row → (o : Option ℕ) → method_place (methods_at program row.class) name desc ≡ o → declares_method program name desc row.class ≡ true
   declared_by row within None none = absurd (declare.each row within none)
   declared_by row within (Some member) is =
-      told_some (method_found program any_method name desc row.class) (method_there program (record { class = row.class; member = member })) (method_told program row.class name desc member (sym is))
+      reported_some (method_found program any_method name desc row.class) (method_there program (record { class = row.class; member = member })) (method_reported program row.class name desc member (sym is))
 
 -- ---- the numbers of the texts of a member
 
@@ -107,8 +107,8 @@ record IsMethod (methods : List Method) (member : ℕ) (name : Name) (desc : Des
 method_at : (program : Program) (class member : ℕ) (name : Name) (desc : Desc) → method_place (methods_at program class) name desc ≡ Some member → IsMethod (methods_at program class) member name desc
 method_at program class member name desc placed = by (method_in (methods_at program class) name desc) refl (method_found_at program class name desc (Some member) (sym placed)) where
   by : (o : Option Method) → method_in (methods_at program class) name desc ≡ o → Some (slice_get (methods_at program class) member) ≡ option_map Some o → IsMethod (methods_at program class) member name desc
-  by None is told = absurd (none-some (slice_get (methods_at program class) member) (sym told))
-  by (Some m) is told = record { method = m; there = same_Some (slice_get (methods_at program class) member) (Some m) told; names = method_names (methods_at program class) name desc m is }
+  by None is reported = absurd (none-some (slice_get (methods_at program class) member) (sym reported))
+  by (Some m) is reported = record { method = m; there = same_Some (slice_get (methods_at program class) member) (Some m) reported; names = method_names (methods_at program class) name desc m is }
 
 record IsField (fields : List Field) (member : ℕ) (name : Name) (desc : Desc) : Type 0 where
   field : Field
@@ -118,8 +118,8 @@ record IsField (fields : List Field) (member : ℕ) (name : Name) (desc : Desc) 
 field_at : (program : Program) (class member : ℕ) (name : Name) (desc : Desc) → field_place (fields_at program class) name desc ≡ Some member → IsField (fields_at program class) member name desc
 field_at program class member name desc placed = by (field_in (fields_at program class) name desc) refl (field_found_at program class name desc (Some member) (sym placed)) where
   by : (o : Option Field) → field_in (fields_at program class) name desc ≡ o → Some (slice_get (fields_at program class) member) ≡ option_map Some o → IsField (fields_at program class) member name desc
-  by None is told = absurd (none-some (slice_get (fields_at program class) member) (sym told))
-  by (Some f) is told = record { field = f; there = same_Some (slice_get (fields_at program class) member) (Some f) told; names = field_names (fields_at program class) name desc f is }
+  by None is reported = absurd (none-some (slice_get (fields_at program class) member) (sym reported))
+  by (Some f) is reported = record { field = f; there = same_Some (slice_get (fields_at program class) member) (Some f) reported; names = field_names (fields_at program class) name desc f is }
 
 pub method_of_row : (directory : Numbering) (row : MemberRow) → row.class < length directory.program → IsRow (number_of directory) (methods_named directory.program) row → IsMethodNumbered directory row.class row.place row.name row.desc
 method_of_row directory row lt is = record {
@@ -195,22 +195,22 @@ module _ (directory : Numbering) (marked : MarkedMember) (name desc : ℕ) where
   abbrev pub OwnField : Type 0
   OwnField = (n d : List ℕ) → AreTexts directory name desc n d → field_place (fields_at directory.program marked.class) n (desc_in d) ≡ Some marked.member
 
-  pub plain_told : (result : Option (Bor (List ℕ))) → IsPlainMarked directory.program marked → IfSome result (λ words. words.now ≡ marked.words.items) → IfSome result (λ _. OwnMethod)
+  pub plain_reported : (result : Option (Bor (List ℕ))) → IsPlainMarked directory.program marked → IfSome result (λ words. words.now ≡ marked.words.items) → IfSome result (λ _. OwnMethod)
       → (n d : List ℕ) → AreTexts directory name desc n d → IfSome result (λ words. AreMarks (method_found directory.program is_plain n (desc_in d)) (length directory.program) words.now)
-  plain_told None are is own n d h = tt
-  plain_told (Some words) are is own n d h =
+  plain_reported None are is own n d h = tt
+  plain_reported (Some words) are is own n d h =
       subst (λ (ws : List ℕ). AreMarks (method_found directory.program is_plain n (desc_in d)) (length directory.program) ws) (sym is) (are.marks_are n (desc_in d) (own n d h))
 
-  pub rank_told : (ranks : List ℕ) (result : Option (Bor (List ℕ))) → IsRankMarked directory.program ranks marked → IfSome result (λ words. words.now ≡ marked.words.items) → IfSome result (λ _. OwnMethod)
+  pub rank_reported : (ranks : List ℕ) (result : Option (Bor (List ℕ))) → IsRankMarked directory.program ranks marked → IfSome result (λ words. words.now ≡ marked.words.items) → IfSome result (λ _. OwnMethod)
       → (n d : List ℕ) → AreTexts directory name desc n d → IfSome result (λ words. AreRankMarks (declares_method directory.program n (desc_in d)) ranks (length directory.program) words.now)
-  rank_told ranks None are is own n d h = tt
-  rank_told ranks (Some words) are is own n d h =
+  rank_reported ranks None are is own n d h = tt
+  rank_reported ranks (Some words) are is own n d h =
       subst (λ (ws : List ℕ). AreRankMarks (declares_method directory.program n (desc_in d)) ranks (length directory.program) ws) (sym is) (are.marks_are n (desc_in d) (own n d h))
 
-  pub field_told : (result : Option (Bor (List ℕ))) → IsFieldMarked directory.program marked → IfSome result (λ words. words.now ≡ marked.words.items) → IfSome result (λ _. OwnField)
+  pub field_reported : (result : Option (Bor (List ℕ))) → IsFieldMarked directory.program marked → IfSome result (λ words. words.now ≡ marked.words.items) → IfSome result (λ _. OwnField)
       → (n d : List ℕ) → AreTexts directory name desc n d → IfSome result (λ words. AreMarks (field_found directory.program n (desc_in d)) (length directory.program) words.now)
-  field_told None are is own n d h = tt
-  field_told (Some words) are is own n d h =
+  field_reported None are is own n d h = tt
+  field_reported (Some words) are is own n d h =
       subst (λ (ws : List ℕ). AreMarks (field_found directory.program n (desc_in d)) (length directory.program) ws) (sym is) (are.marks_are n (desc_in d) (own n d h))
 
 -- ---- the nearest class

@@ -13,7 +13,7 @@ use Rattle.dj_model.specs.trusted.Linking.{most_classes, or_else, is_plain}
 use Rattle.dj_model.proofs.MappedNames.{either}
 use Rattle.dj_declared.specs.Members.{method_flags}
 use Rattle.dj_classes.specs.Tables.{class_number, super_number, methods_of, methods_at, flags_in}
-use Rattle.dj_linking.specs.Numbers.{numbers_up, first_some, has, method_found, TellsMethod}
+use Rattle.dj_linking.specs.Numbers.{numbers_up, first_some, has, method_found, SaysMethod}
 use Rattle.dj_linking.proofs.Lists.{has_self, has_more}
 use Rattle.dj_linking.proofs.Levels.{most_is}
 use Rattle.dj_linking.proofs.Searches.{or_else_none}
@@ -21,16 +21,16 @@ use Rattle.dj_linking.proofs.Walks.{Missing, There, looked, no_numbers_up}
 
 -- ---- what is answered
 
-pub told_first : {A : Type 0} (t a b : Option A) → Some t ≡ option_map Some a → Some t ≡ option_map Some (or_else a b)
-told_first t None b told = absurd (none-some t (sym told))
-told_first t (Some x) b told = told
+pub reported_first : {A : Type 0} (t a b : Option A) → Some t ≡ option_map Some a → Some t ≡ option_map Some (or_else a b)
+reported_first t None b reported = absurd (none-some t (sym reported))
+reported_first t (Some x) b reported = reported
 
-pub told_none : {A : Type 0} (a : Option A) → None ≡ option_map Some a → a ≡ None
-told_none None told = refl
-told_none (Some x) told = absurd (none-some (Some x) told)
+pub reported_none : {A : Type 0} (a : Option A) → None ≡ option_map Some a → a ≡ None
+reported_none None reported = refl
+reported_none (Some x) reported = absurd (none-some (Some x) reported)
 
-pub told_next : {A : Type 0} (a b : Option A) → None ≡ option_map Some a → or_else a b ≡ b
-told_next a b told = rw (told_none a told) refl
+pub reported_next : {A : Type 0} (a b : Option A) → None ≡ option_map Some a → or_else a b ≡ b
+reported_next a b reported = rw (reported_none a reported) refl
 
 -- ---- along a list
 
@@ -43,11 +43,11 @@ one_more f xs i lt =
     ap (first_some f) (drop-cons xs i 0 lt) ∙ ap (λ (n : ℕ). or_else (f (get_or xs i 0)) (first_some f (drop n xs))) next
 
 pub searched_here : {A : Type 0} (f : ℕ → Option A) (xs : List ℕ) (i : ℕ) (t : Option A) → IsSearched f xs i → i < length xs → Some t ≡ option_map Some (f (get_or xs i 0)) → Some t ≡ option_map Some (first_some f xs)
-searched_here f xs i t searched lt told =
-    told_first t (f (get_or xs i 0)) (first_some f (drop (i + 1) xs)) told ∙ ap (option_map Some) (sym (searched.same ∙ one_more f xs i lt))
+searched_here f xs i t searched lt reported =
+    reported_first t (f (get_or xs i 0)) (first_some f (drop (i + 1) xs)) reported ∙ ap (option_map Some) (sym (searched.same ∙ one_more f xs i lt))
 
 pub searched_more : {A : Type 0} (f : ℕ → Option A) (xs : List ℕ) (i : ℕ) → IsSearched f xs i → i < length xs → None ≡ option_map Some (f (get_or xs i 0)) → IsSearched f xs (i + 1)
-searched_more f xs i searched lt told = record { same = searched.same ∙ one_more f xs i lt ∙ told_next (f (get_or xs i 0)) (first_some f (drop (i + 1) xs)) told }
+searched_more f xs i searched lt reported = record { same = searched.same ∙ one_more f xs i lt ∙ reported_next (f (get_or xs i 0)) (first_some f (drop (i + 1) xs)) reported }
 
 pub drop_none : (xs : List ℕ) (i : ℕ) → length xs ≤ i → drop i xs ≡ []
 drop_none [] zero le = refl
@@ -84,8 +84,8 @@ one_level f program i at lt =
 
 pub walked_here : {A : Type 0} (f : ℕ → Option A) (program : Program) (start i at : ℕ) (t : Option A) → IsWalked f program start i (Some at) → i < 4294967296 → Some t ≡ option_map Some (f at)
     → Some t ≡ option_map Some (first_some f (numbers_up most_classes program (Some start)))
-walked_here f program start i at t walked lt told =
-    told_first t (f at) (first_some f (numbers_up (most_classes - (i + 1)) program (super_number program at))) told ∙ ap (option_map Some) (sym (walked.same ∙ one_level f program i at lt))
+walked_here f program start i at t walked lt reported =
+    reported_first t (f at) (first_some f (numbers_up (most_classes - (i + 1)) program (super_number program at))) reported ∙ ap (option_map Some) (sym (walked.same ∙ one_level f program i at lt))
 
 pub number_within : (program : Program) (name : Name) → IfSome (class_number program name) (λ k. k < length program)
 number_within program name = elim (looked program name) [
@@ -102,8 +102,8 @@ super_within program (Some c) = go c.superclass where
 
 pub walked_more : {A : Type 0} (f : ℕ → Option A) (program : Program) (start i at : ℕ) (next : Option ℕ) → IsWalked f program start i (Some at) → i < 4294967296 → None ≡ option_map Some (f at) → next ≡ super_number program at
     → IsWalked f program start (i + 1) next
-walked_more f program start i at next walked lt told is = record {
-  same = walked.same ∙ one_level f program i at lt ∙ told_next (f at) (first_some f (numbers_up (most_classes - (i + 1)) program (super_number program at))) told
+walked_more f program start i at next walked lt reported is = record {
+  same = walked.same ∙ one_level f program i at lt ∙ reported_next (f at) (first_some f (numbers_up (most_classes - (i + 1)) program (super_number program at))) reported
       ∙ ap (λ (o : Option ℕ). first_some f (numbers_up (most_classes - (i + 1)) program o)) (sym is);
   within = subst (λ (o : Option ℕ). IfSome o (λ k. k < length program)) (sym is) (super_within program (slice_get program at));
 }
@@ -135,14 +135,14 @@ pub data Named (o : Option Class) (member : ℕ) (name : Name) (desc : Desc) (fl
 
 named_in : (c : Class) (member : ℕ) (name : Name) (desc : Desc) (flags : ℕ) (there found : Option Method) → slice_get c.methods member ≡ there → method_in c.methods name desc ≡ found
     → Some there ≡ option_map Some found → Some flags ≡ option_map method_flags there → Named (Some c) member name desc flags
-named_in c member name desc flags there None at is told flagged = absurd (none-some there (sym told))
-named_in c member name desc flags None (Some m) at is told flagged = absurd (none-some flags (sym flagged))
-named_in c member name desc flags (Some n) (Some m) at is told flagged = Is c m refl (at ∙ same_Some (Some n) (Some m) told) is (same_Some flags n.flags flagged ∙ ap method_flags (same_Some n m (same_Some (Some n) (Some m) told)))
+named_in c member name desc flags there None at is reported flagged = absurd (none-some there (sym reported))
+named_in c member name desc flags None (Some m) at is reported flagged = absurd (none-some flags (sym flagged))
+named_in c member name desc flags (Some n) (Some m) at is reported flagged = Is c m refl (at ∙ same_Some (Some n) (Some m) reported) is (same_Some flags n.flags flagged ∙ ap method_flags (same_Some n m (same_Some (Some n) (Some m) reported)))
 
 pub named : (o : Option Class) (member : ℕ) (name : Name) (desc : Desc) (flags : ℕ) → Some (slice_get (methods_of o) member) ≡ option_map Some (method_in (methods_of o) name desc)
     → Some flags ≡ option_map method_flags (slice_get (methods_of o) member) → Named o member name desc flags
-named None member name desc flags told flagged = absurd (none-some flags (sym flagged))
-named (Some c) member name desc flags told flagged = named_in c member name desc flags (slice_get c.methods member) (method_in c.methods name desc) refl refl told flagged
+named None member name desc flags reported flagged = absurd (none-some flags (sym flagged))
+named (Some c) member name desc flags reported flagged = named_in c member name desc flags (slice_get c.methods member) (method_in c.methods name desc) refl refl reported flagged
 
 cleared : (b : Bool) (n : ℕ) → nat_eq n 0 ≡ not b → n ≡ 0 → b ≡ false
 cleared true n test none = absurd (false≢true (sym test ∙ eq-eqb n 0 none))
@@ -150,8 +150,8 @@ cleared false n test none = refl
 
 pub plain_there : (program : Program) (class member : ℕ) (name : Name) (desc : Desc) (flags : ℕ) → Some (slice_get (methods_at program class) member) ≡ option_map Some (method_in (methods_at program class) name desc)
     → Some flags ≡ option_map method_flags (slice_get (methods_at program class) member) → bit_and flags 2 ≡ 0 → bit_and flags 8 ≡ 0
-    → TellsMethod program (Some (record { class = class; member = member })) (method_found program is_plain name desc class)
-plain_there program class member name desc flags told flagged private static = elim (named (slice_get program class) member name desc flags told flagged) [
+    → SaysMethod program (Some (record { class = class; member = member })) (method_found program is_plain name desc class)
+plain_there program class member name desc flags reported flagged private static = elim (named (slice_get program class) member name desc flags reported flagged) [
   | Is c m o at is same ↦
       (let p : is_private m.flags ≡ false = rw (← same) (cleared (is_private flags) (bit_and flags 2) (private_test flags) private) in
       let s : is_static m.flags ≡ false = rw (← same) (cleared (is_static flags) (bit_and flags 8) (static_test flags) static) in
@@ -160,8 +160,8 @@ plain_there program class member name desc flags told flagged private static = e
 
 pub plain_not_there : (program : Program) (class member : ℕ) (name : Name) (desc : Desc) (flags : ℕ) → Some (slice_get (methods_at program class) member) ≡ option_map Some (method_in (methods_at program class) name desc)
     → Some flags ≡ option_map method_flags (slice_get (methods_at program class) member) → (is_private flags ≡ true) ⊎ (is_static flags ≡ true)
-    → TellsMethod program None (method_found program is_plain name desc class)
-plain_not_there program class member name desc flags told flagged which = elim (named (slice_get program class) member name desc flags told flagged) [
+    → SaysMethod program None (method_found program is_plain name desc class)
+plain_not_there program class member name desc flags reported flagged which = elim (named (slice_get program class) member name desc flags reported flagged) [
   | Is c m o at is same ↦ rw (o, is, go m (subst (λ (f : ℕ). (is_private f ≡ true) ⊎ (is_static f ≡ true)) same which)) refl
 ] where
   go : (m : Method) → (is_private m.flags ≡ true) ⊎ (is_static m.flags ≡ true) → is_plain m ≡ false
@@ -179,31 +179,31 @@ pub static_set : (flags : ℕ) → (bit_and flags 8 ≡ 0 → ⊥) → is_static
 static_set flags some = set_bit (is_static flags) (bit_and flags 8) (static_test flags) some
 
 flags_there : (o : Option Class) (flags : ℕ) → Some flags ≡ option_map flags_in o → flags_of o ≡ flags
-flags_there None flags told = absurd (none-some flags (sym told))
-flags_there (Some c) flags told = sym (same_Some flags c.flags told)
+flags_there None flags reported = absurd (none-some flags (sym reported))
+flags_there (Some c) flags reported = sym (same_Some flags c.flags reported)
 
 pub interface_set : (o : Option Class) (flags : ℕ) → Some flags ≡ option_map flags_in o → (bit_and flags 512 ≡ 0 → ⊥) → is_interface (flags_of o) ≡ true
-interface_set o flags told some = rw (flags_there o flags told) (set_bit (is_interface flags) (bit_and flags 512) (interface_test flags) some)
+interface_set o flags reported some = rw (flags_there o flags reported) (set_bit (is_interface flags) (bit_and flags 512) (interface_test flags) some)
 
 pub interface_clear : (o : Option Class) (flags : ℕ) → Some flags ≡ option_map flags_in o → bit_and flags 512 ≡ 0 → is_interface (flags_of o) ≡ false
-interface_clear o flags told none = rw (flags_there o flags told) (cleared (is_interface flags) (bit_and flags 512) (interface_test flags) none)
+interface_clear o flags reported none = rw (flags_there o flags reported) (cleared (is_interface flags) (bit_and flags 512) (interface_test flags) none)
 
 -- ---- an interface, and then Object
 
 pub first_of_class : {A : Type 0} (f : ℕ → Option A) (test : Bool) (class : ℕ) (classes others : List ℕ) (t : Option A) → test ≡ true → Some t ≡ option_map Some (f class)
     → Some t ≡ option_map Some (first_some f (if test then class ∷ classes else others))
-first_of_class f test class classes others t is told = rw is (told_first t (f class) (first_some f classes) told)
+first_of_class f test class classes others t is reported = rw is (reported_first t (f class) (first_some f classes) reported)
 
 pub then_of_object : {A : Type 0} (f : ℕ → Option A) (test : Bool) (class object : ℕ) (others : List ℕ) (t : Option (Option A)) → test ≡ true → None ≡ option_map Some (f class) → t ≡ option_map Some (f object)
     → t ≡ option_map Some (first_some f (if test then class ∷ object ∷ [] else others))
-then_of_object f test class object others t is none told = rw is (told ∙ ap (option_map Some) (sym (told_next (f class) (or_else (f object) None) none ∙ or_else_none (f object))))
+then_of_object f test class object others t is none reported = rw is (reported ∙ ap (option_map Some) (sym (reported_next (f class) (or_else (f object) None) none ∙ or_else_none (f object))))
 
 pub no_object : {A : Type 0} (f : ℕ → Option A) (test : Bool) (class : ℕ) (others : List ℕ) → test ≡ true → None ≡ option_map Some (f class) → None ≡ option_map Some (first_some f (if test then class ∷ [] else others))
-no_object f test class others is none = rw is (ap (option_map Some) (sym (told_next (f class) None none)))
+no_object f test class others is none = rw is (ap (option_map Some) (sym (reported_next (f class) None none)))
 
 pub of_superclasses : {A : Type 0} (f : ℕ → Option A) (test : Bool) (interfaces others : List ℕ) (t : Option (Option A)) → test ≡ false → t ≡ option_map Some (first_some f others)
     → t ≡ option_map Some (first_some f (if test then interfaces else others))
-of_superclasses f test interfaces others t is told = rw is told
+of_superclasses f test interfaces others t is reported = rw is reported
 
 pub static_clear : (flags : ℕ) → bit_and flags 8 ≡ 0 → is_static flags ≡ false
 static_clear flags none = cleared (is_static flags) (bit_and flags 8) (static_test flags) none

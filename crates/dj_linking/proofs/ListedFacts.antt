@@ -14,7 +14,7 @@ use Rattle.dj_classes.specs.declared.place.Place.{Place}
 use Rattle.dj_linking.specs.Bits.{in_bits, AreBits, words_for, HaveBits, HaveRows}
 use Rattle.dj_linking.specs.Chained.{AreRows, has_field, field_row, once_up, known_count, AreChained, row_at}
 use Rattle.dj_linking.specs.Marked.{is_plain_at, IsCovered}
-use Rattle.dj_linking.specs.Numbers.{has, with_new, first_places, numbers_from, numbers_above, once_above, numbers_up, with_above, AreAbove, marked_count, AreBelow, first_some, method_found, field_found, TellsMethod, TellsField, AreInside, IsNamed}
+use Rattle.dj_linking.specs.Numbers.{has, with_new, first_places, numbers_from, numbers_above, once_above, numbers_up, with_above, AreAbove, marked_count, AreBelow, first_some, method_found, field_found, SaysMethod, SaysField, AreInside, IsNamed}
 
 -- ---- a program
 
@@ -255,16 +255,16 @@ none_passes = refl
 fields_found : map (field_found program (codes "x") (described_as.Field int)) (0 ∷ 1 ∷ 9 ∷ []) ≡ Some found_x ∷ None ∷ None ∷ []
 fields_found = refl
 
-told : TellsMethod program (Some (place 0 0)) (Some found_m) × TellsMethod program None None × TellsField program (Some (place 0 0)) (Some found_x)
-told = (refl, refl, refl)
+reported : SaysMethod program (Some (place 0 0)) (Some found_m) × SaysMethod program None None × SaysField program (Some (place 0 0)) (Some found_x)
+reported = (refl, refl, refl)
 
-not_told : TellsMethod program None (Some found_m) → ⊥
-not_told e = none-some (Some found_m) e
+not_reported : SaysMethod program None (Some found_m) → ⊥
+not_reported e = none-some (Some found_m) e
 
-told_of_none : TellsMethod program (Some (place 0 0)) None → ⊥
-told_of_none e = none-some (Some found_m) (sym e)
+reported_of_none : SaysMethod program (Some (place 0 0)) None → ⊥
+reported_of_none e = none-some (Some found_m) (sym e)
 
-field_past_end : TellsField program (Some (place 1 0)) (Some found_x) → ⊥
+field_past_end : SaysField program (Some (place 1 0)) (Some found_x) → ⊥
 field_past_end e = none-some found_x (same_Some None (Some found_x) e)
 
 -- one that isn't there is not plain

@@ -20,9 +20,9 @@ use Rattle.dj_directory.specs.Numberings.{ClassesDiffer, DeclareFields, DeclareM
 use Rattle.dj_linking.specs.Bits.{AreBits, in_bits}
 use Rattle.dj_linking.specs.Marked.{AddsMarks, AreMarks, IsCovered, IsOfRow, is_plain_at, is_plain_one}
 use Rattle.dj_linking.specs.Numbers.{AreBelow, field_found, first_some, method_found, method_in_class}
-use Rattle.dj_linking.proofs.Finding.{private_clear, private_set, private_test, static_test, told_none}
+use Rattle.dj_linking.proofs.Finding.{private_clear, private_set, private_test, static_test, reported_none}
 use Rattle.dj_linking.proofs.Nearing.{none_found}
-use Rattle.dj_linking.proofs.Numbered.{field_told, method_found_at, no_field_told, no_plain_told}
+use Rattle.dj_linking.proofs.Numbered.{field_reported, method_found_at, no_field_reported, no_plain_reported}
 
 -- ---- one method
 
@@ -33,36 +33,36 @@ private_decides : (m : Method) → is_private m.flags ≡ true → not (is_priva
 private_decides m set = rw set refl
 
 pub by_static : (o : Option Method) (flags : ℕ) → Some flags ≡ option_map method_flags o → bit_and flags 2 ≡ 0 → nat_eq (bit_and flags 8) 0 ≡ is_plain_one o
-by_static None flags told private = absurd (none-some flags (sym told))
-by_static (Some m) flags told private =
-    let same : flags ≡ m.flags = same_Some flags m.flags told in
+by_static None flags reported private = absurd (none-some flags (sym reported))
+by_static (Some m) flags reported private =
+    let same : flags ≡ m.flags = same_Some flags m.flags reported in
     ap (λ (f : ℕ). nat_eq (bit_and f 8) 0) same ∙ static_test m.flags ∙ static_decides m (private_clear m.flags (subst (λ (f : ℕ). bit_and f 2 ≡ 0) same private))
 
 pub by_private : (o : Option Method) (flags : ℕ) → Some flags ≡ option_map method_flags o → (bit_and flags 2 ≡ 0 → ⊥) → nat_eq (bit_and flags 2) 0 ≡ is_plain_one o
-by_private None flags told private = absurd (none-some flags (sym told))
-by_private (Some m) flags told private =
-    let same : flags ≡ m.flags = same_Some flags m.flags told in
+by_private None flags reported private = absurd (none-some flags (sym reported))
+by_private (Some m) flags reported private =
+    let same : flags ≡ m.flags = same_Some flags m.flags reported in
     ap (λ (f : ℕ). nat_eq (bit_and f 2) 0) same ∙ private_test m.flags ∙ private_decides m (private_set m.flags (λ e. private (ap (λ (f : ℕ). bit_and f 2) same ∙ e)))
 
 plain_in : (o : Option Class) (member : ℕ) (name : Name) (desc : Desc) → Some (slice_get (methods_of o) member) ≡ option_map Some (method_in (methods_of o) name desc) → is_plain_one (slice_get (methods_of o) member) ≡ false
     → method_in_class is_plain name desc o ≡ None
-plain_in None member name desc told none = refl
-plain_in (Some c) member name desc told none = by (slice_get c.methods member) (method_in c.methods name desc) told none where
+plain_in None member name desc reported none = refl
+plain_in (Some c) member name desc reported none = by (slice_get c.methods member) (method_in c.methods name desc) reported none where
   by : (there found : Option Method) → Some there ≡ option_map Some found → is_plain_one there ≡ false → method_or c.name is_plain found None ≡ None
-  by there None told none = refl
-  by there (Some m) told none = let e : is_plain m ≡ false = sym (ap is_plain_one (same_Some there (Some m) told)) ∙ none in rw e refl
+  by there None reported none = refl
+  by there (Some m) reported none = let e : is_plain m ≡ false = sym (ap is_plain_one (same_Some there (Some m) reported)) ∙ none in rw e refl
 
 plain_there : (o : Option Class) (member : ℕ) (name : Name) (desc : Desc) → Some (slice_get (methods_of o) member) ≡ option_map Some (method_in (methods_of o) name desc) → is_plain_one (slice_get (methods_of o) member) ≡ true
     → is_some (method_in_class is_plain name desc o) ≡ true
-plain_there None member name desc told plain = absurd (none-some (slice_get [] member) (sym told))
-plain_there (Some c) member name desc told plain = by (slice_get c.methods member) (method_in c.methods name desc) told plain where
+plain_there None member name desc reported plain = absurd (none-some (slice_get [] member) (sym reported))
+plain_there (Some c) member name desc reported plain = by (slice_get c.methods member) (method_in c.methods name desc) reported plain where
   by : (there found : Option Method) → Some there ≡ option_map Some found → is_plain_one there ≡ true → is_some (method_or c.name is_plain found None) ≡ true
-  by there None told plain = absurd (none-some there (sym told))
-  by there (Some m) told plain = let e : is_plain m ≡ true = sym (ap is_plain_one (same_Some there (Some m) told)) ∙ plain in rw e refl
+  by there None reported plain = absurd (none-some there (sym reported))
+  by there (Some m) reported plain = let e : is_plain m ≡ true = sym (ap is_plain_one (same_Some there (Some m) reported)) ∙ plain in rw e refl
 
-pub told_some : {A : Type 0} (a x : Option A) → Some x ≡ option_map Some a → is_some a ≡ true
-told_some None x told = absurd (none-some x (sym told))
-told_some (Some y) x told = refl
+pub reported_some : {A : Type 0} (a x : Option A) → Some x ≡ option_map Some a → is_some a ≡ true
+reported_some None x reported = absurd (none-some x (sym reported))
+reported_some (Some y) x reported = refl
 
 -- ---- what marks say
 
@@ -80,7 +80,7 @@ pub methods_covered : (program : Program) (name : Name) (desc : Desc) (rows : Li
     → ((row : MemberRow) → Contains rows row → is_plain_at program row.class row.place ≡ true → in_bits marks row.class ≡ true) → IsCovered (method_found program is_plain name desc) (length program) marks
 methods_covered program name desc rows marks declare marked class lt unset = go (method_place (methods_at program class) name desc) refl where
   go : (o : Option ℕ) → method_place (methods_at program class) name desc ≡ o → method_found program is_plain name desc class ≡ None
-  go None is = told_none (method_found program is_plain name desc class) (no_plain_told program class name desc (sym is))
+  go None is = reported_none (method_found program is_plain name desc class) (no_plain_reported program class name desc (sym is))
   go (Some place) is =
       let there = declare.first class place lt is in
       plain_in (slice_get program class) place name desc (method_found_at program class name desc (Some place) (sym is)) (elim (either (is_plain_at program class place)) [
@@ -94,7 +94,7 @@ methods_covered program name desc rows marks declare marked class lt unset = go 
 pub fields_covered : (program : Program) (name : Name) (desc : Desc) (rows : List MemberRow) (marks : List ℕ) → DeclareFields program name desc rows
     → ((row : MemberRow) → Contains rows row → in_bits marks row.class ≡ true) → IsCovered (field_found program name desc) (length program) marks
 fields_covered program name desc rows marks declare marked class lt unset =
-    told_none (field_found program name desc class) (no_field_told program class name desc (sym (declare.all class lt (λ row there same.
+    reported_none (field_found program name desc class) (no_field_reported program class name desc (sym (declare.all class lt (λ row there same.
     false≢true (sym unset ∙ ap (in_bits marks) (sym same) ∙ marked row there)))))
 
 -- nothing is found where no class is marked
@@ -205,7 +205,7 @@ pub fields_marked : (program : Program) (name : Name) (desc : Desc) (rows : List
 fields_marked program name desc rows old marks declare clear adds class lt = by (in_bits marks class) refl where
   here : IsOfRow (λ row. true) (λ row. row.class) rows class → (o : Option ℕ) → field_place (fields_at program class) name desc ≡ o → is_some (field_found program name desc class) ≡ true
   here found None none = absurd (declare.each found.row found.within (ap (λ (k : ℕ). field_place (fields_at program k) name desc) found.number_is ∙ none))
-  here found (Some member) is = told_some (field_found program name desc class) (field_there program (record { class = class; member = member })) (field_told program class name desc member (sym is))
+  here found (Some member) is = reported_some (field_found program name desc class) (field_there program (record { class = class; member = member })) (field_reported program class name desc member (sym is))
 
   by : (b : Bool) → in_bits marks class ≡ b → in_bits marks class ≡ is_some (field_found program name desc class)
   by false unset = unset ∙ sym (ap is_some (fields_covered program name desc rows marks declare (λ row there. adds.marked row there refl) class lt unset))

@@ -18,9 +18,9 @@ use Rattle.dj_linking.specs.Nearest.{IsNear, IsNearest, nearer}
 use Rattle.dj_linking.specs.Numbers.{first_some, has, method_found, numbers_up}
 use Rattle.dj_linking.specs.Ranked.{AreRanks, HasRow, rank_in}
 use Rattle.dj_linking.proofs.Chained.{up_within}
-use Rattle.dj_linking.proofs.Finding.{told_none}
+use Rattle.dj_linking.proofs.Finding.{reported_none}
 use Rattle.dj_linking.proofs.Lists.{has_cases, has_more, has_self}
-use Rattle.dj_linking.proofs.Numbered.{method_told, no_method_told}
+use Rattle.dj_linking.proofs.Numbered.{method_reported, no_method_reported}
 
 -- ---- the first of classes whose ranks fall
 
@@ -167,10 +167,10 @@ method_some : (program : Program) (name : Name) (desc : Desc) (class : ℕ) → 
 method_some program name desc class some none = go (method_place (methods_at program class) name desc) refl where
   go : (place : Option ℕ) → method_place (methods_at program class) name desc ≡ place → ⊥
   go None is = some is
-  go (Some member) is = none-some (method_there program (record { class = class; member = member })) (sym (method_told program class name desc member (sym is) ∙ ap (option_map Some) none))
+  go (Some member) is = none-some (method_there program (record { class = class; member = member })) (sym (method_reported program class name desc member (sym is) ∙ ap (option_map Some) none))
 
 pub no_method : (program : Program) (name : Name) (desc : Desc) (class : ℕ) → method_place (methods_at program class) name desc ≡ None → method_found program any_method name desc class ≡ None
-no_method program name desc class none = told_none (method_found program any_method name desc class) (no_method_told program class name desc (sym none))
+no_method program name desc class none = reported_none (method_found program any_method name desc class) (no_method_reported program class name desc (sym none))
 
 module _ (program : Program) (order ranks : List ℕ) (bits : List (List ℕ)) (are : AreRanks program order ranks bits) (class : ℕ) (lt : class < length program) (have : HasRow bits class)
     (rows : List MemberRow) (name : Name) (desc : Desc) (declare : DeclareMethods program name desc rows) where
@@ -180,9 +180,9 @@ module _ (program : Program) (order ranks : List ℕ) (bits : List (List ℕ)) (
   abbrev found : ℕ → Option FoundMethod
   found = method_found program any_method name desc
 
-  pub nearest_told : (near : Near) → IsNearest (numbers_up most_classes program (Some class)) ranks rows (length rows) (Some near)
+  pub nearest_reported : (near : Near) → IsNearest (numbers_up most_classes program (Some class)) ranks rows (length rows) (Some near)
       → first_some (method_found program any_method name desc) (numbers_up most_classes program (Some class)) ≡ method_found program any_method name desc near.class
-  nearest_told near is =
+  nearest_reported near is =
       first_near FoundMethod (method_found program any_method name desc) program (HasRow bits) (rank_in ranks) (λ k j known next. (are.ranked.each k known).next j next) most_classes (Some class) near.class have is.among
       (method_some program name desc near.class (λ none. declare.each is.row (is.at, is.before, is.row_is) (ap (λ (k : ℕ). method_place (methods_at program k) name desc) (sym is.class_is) ∙ none)))
       (λ z there some. elim (cases_lt (rank_in ranks near.class) (rank_in ranks z)) [
@@ -194,7 +194,7 @@ module _ (program : Program) (order ranks : List ℕ) (bits : List (List ℕ)) (
         | inr le ↦ le
       ])
 
-  pub none_told : IsNearest (numbers_up most_classes program (Some class)) ranks rows (length rows) None → first_some (method_found program any_method name desc) (numbers_up most_classes program (Some class)) ≡ None
-  none_told none = none_found (method_found program any_method name desc) (numbers_up most_classes program (Some class))
+  pub none_reported : IsNearest (numbers_up most_classes program (Some class)) ranks rows (length rows) None → first_some (method_found program any_method name desc) (numbers_up most_classes program (Some class)) ≡ None
+  none_reported none = none_found (method_found program any_method name desc) (numbers_up most_classes program (Some class))
       (λ z there. no_method program name desc z (declare.all z (up_within most_classes program (Some class) lt z there) (λ row contained same.
       false≢true (sym (none contained.0 row contained.1 contained.2) ∙ ap (has (numbers_up most_classes program (Some class))) same ∙ there))))

@@ -10,8 +10,8 @@ use Rattle.dj_model.specs.trusted.Linking.{any_method, is_plain, method_or, fiel
 use Rattle.dj_declared.specs.Members.{method_place, field_place}
 use Rattle.dj_classes.specs.Tables.{methods_of, methods_at, fields_at, method_of_class, field_of_class}
 use Rattle.dj_classes.specs.declared.place.Place.{Place}
-use Rattle.dj_linking.specs.Numbers.{first_some, numbers_above, numbers_up, TellsMethod, TellsField, method_found, field_found, method_in_class, field_in_class}
-use Rattle.dj_linking.proofs.Finding.{told_none}
+use Rattle.dj_linking.specs.Numbers.{first_some, numbers_above, numbers_up, SaysMethod, SaysField, method_found, field_found, method_in_class, field_in_class}
+use Rattle.dj_linking.proofs.Finding.{reported_none}
 
 abbrev later : ℕ → ℕ
 later place = place + 1
@@ -40,63 +40,63 @@ field_found_at program class name desc place is = ap (option_map (slice_get (fie
 
 -- ---- methods
 
-told_method : (o : Option Class) (member : ℕ) (name : Name) (desc : Desc) → Some (slice_get (methods_of o) member) ≡ option_map Some (method_in (methods_of o) name desc)
+reported_method : (o : Option Class) (member : ℕ) (name : Name) (desc : Desc) → Some (slice_get (methods_of o) member) ≡ option_map Some (method_in (methods_of o) name desc)
     → Some (option_and_then (method_of_class member) o) ≡ option_map Some (method_in_class any_method name desc o)
-told_method None member name desc told = absurd (none-some (slice_get [] member) (sym told))
-told_method (Some c) member name desc told = by (slice_get c.methods member) (method_in c.methods name desc) told where
+reported_method None member name desc reported = absurd (none-some (slice_get [] member) (sym reported))
+reported_method (Some c) member name desc reported = by (slice_get c.methods member) (method_in c.methods name desc) reported where
   by : (there found : Option Method) → Some there ≡ option_map Some found → Some (option_map (λ m. record { class = c.name; method = m }) there) ≡ option_map Some (method_or c.name any_method found None)
-  by there None told = absurd (none-some there (sym told))
-  by there (Some m) told = rw (same_Some there (Some m) told) refl
+  by there None reported = absurd (none-some there (sym reported))
+  by there (Some m) reported = rw (same_Some there (Some m) reported) refl
 
-pub method_told : (program : Program) (class : ℕ) (name : Name) (desc : Desc) (member : ℕ) → Some member ≡ method_place (methods_at program class) name desc
-    → TellsMethod program (Some (record { class = class; member = member })) (method_found program any_method name desc class)
-method_told program class name desc member is = told_method (slice_get program class) member name desc (method_found_at program class name desc (Some member) is)
+pub method_reported : (program : Program) (class : ℕ) (name : Name) (desc : Desc) (member : ℕ) → Some member ≡ method_place (methods_at program class) name desc
+    → SaysMethod program (Some (record { class = class; member = member })) (method_found program any_method name desc class)
+method_reported program class name desc member is = reported_method (slice_get program class) member name desc (method_found_at program class name desc (Some member) is)
 
 pub none_in_class : (test : Method → Bool) (o : Option Class) (name : Name) (desc : Desc) → method_in (methods_of o) name desc ≡ None → None ≡ option_map Some (method_in_class test name desc o)
 none_in_class test None name desc none = refl
 none_in_class test (Some c) name desc none = rw none refl
 
 pub no_method : (program : Program) (class : ℕ) (name : Name) (desc : Desc) → None ≡ method_place (methods_at program class) name desc → method_in (methods_at program class) name desc ≡ None
-no_method program class name desc is = told_none (method_in (methods_at program class) name desc) (method_found_at program class name desc None is)
+no_method program class name desc is = reported_none (method_in (methods_at program class) name desc) (method_found_at program class name desc None is)
 
-pub no_method_told : (program : Program) (class : ℕ) (name : Name) (desc : Desc) → None ≡ method_place (methods_at program class) name desc → TellsMethod program None (method_found program any_method name desc class)
-no_method_told program class name desc is = none_in_class any_method (slice_get program class) name desc (no_method program class name desc is)
+pub no_method_reported : (program : Program) (class : ℕ) (name : Name) (desc : Desc) → None ≡ method_place (methods_at program class) name desc → SaysMethod program None (method_found program any_method name desc class)
+no_method_reported program class name desc is = none_in_class any_method (slice_get program class) name desc (no_method program class name desc is)
 
-pub no_plain_told : (program : Program) (class : ℕ) (name : Name) (desc : Desc) → None ≡ method_place (methods_at program class) name desc → TellsMethod program None (method_found program is_plain name desc class)
-no_plain_told program class name desc is = none_in_class is_plain (slice_get program class) name desc (no_method program class name desc is)
+pub no_plain_reported : (program : Program) (class : ℕ) (name : Name) (desc : Desc) → None ≡ method_place (methods_at program class) name desc → SaysMethod program None (method_found program is_plain name desc class)
+no_plain_reported program class name desc is = none_in_class is_plain (slice_get program class) name desc (no_method program class name desc is)
 
 -- ---- fields
 
-told_field : (o : Option Class) (member : ℕ) (name : Name) (desc : Desc) → Some (slice_get (fields_of o) member) ≡ option_map Some (field_in (fields_of o) name desc)
+reported_field : (o : Option Class) (member : ℕ) (name : Name) (desc : Desc) → Some (slice_get (fields_of o) member) ≡ option_map Some (field_in (fields_of o) name desc)
     → Some (option_and_then (field_of_class member) o) ≡ option_map Some (field_in_class name desc o)
-told_field None member name desc told = absurd (none-some (slice_get [] member) (sym told))
-told_field (Some c) member name desc told = by (slice_get c.fields member) (field_in c.fields name desc) told where
+reported_field None member name desc reported = absurd (none-some (slice_get [] member) (sym reported))
+reported_field (Some c) member name desc reported = by (slice_get c.fields member) (field_in c.fields name desc) reported where
   by : (there found : Option Field) → Some there ≡ option_map Some found → Some (option_map (λ f. record { class = c.name; field = f }) there) ≡ option_map Some (field_or c.name found None)
-  by there None told = absurd (none-some there (sym told))
-  by there (Some f) told = rw (same_Some there (Some f) told) refl
+  by there None reported = absurd (none-some there (sym reported))
+  by there (Some f) reported = rw (same_Some there (Some f) reported) refl
 
-pub field_told : (program : Program) (class : ℕ) (name : Name) (desc : Desc) (member : ℕ) → Some member ≡ field_place (fields_at program class) name desc
-    → TellsField program (Some (record { class = class; member = member })) (field_found program name desc class)
-field_told program class name desc member is = told_field (slice_get program class) member name desc (field_found_at program class name desc (Some member) is)
+pub field_reported : (program : Program) (class : ℕ) (name : Name) (desc : Desc) (member : ℕ) → Some member ≡ field_place (fields_at program class) name desc
+    → SaysField program (Some (record { class = class; member = member })) (field_found program name desc class)
+field_reported program class name desc member is = reported_field (slice_get program class) member name desc (field_found_at program class name desc (Some member) is)
 
 no_field_in_class : (o : Option Class) (name : Name) (desc : Desc) → field_in (fields_of o) name desc ≡ None → None ≡ option_map Some (field_in_class name desc o)
 no_field_in_class None name desc none = refl
 no_field_in_class (Some c) name desc none = rw none refl
 
-pub no_field_told : (program : Program) (class : ℕ) (name : Name) (desc : Desc) → None ≡ field_place (fields_at program class) name desc → TellsField program None (field_found program name desc class)
-no_field_told program class name desc is =
-    no_field_in_class (slice_get program class) name desc (told_none (field_in (fields_at program class) name desc) (field_found_at program class name desc None is))
+pub no_field_reported : (program : Program) (class : ℕ) (name : Name) (desc : Desc) → None ≡ field_place (fields_at program class) name desc → SaysField program None (field_found program name desc class)
+no_field_reported program class name desc is =
+    no_field_in_class (slice_get program class) name desc (reported_none (field_in (fields_at program class) name desc) (field_found_at program class name desc None is))
 
 -- ---- what searches answer, by the program
 
-abbrev pub FirstTells : Option ℕ → ℕ → Name → Desc → Option Place → Program → Type 0
-FirstTells object class name desc place program = TellsMethod program place (first_some (method_found program any_method name desc)
+abbrev pub FirstSays : Option ℕ → ℕ → Name → Desc → Option Place → Program → Type 0
+FirstSays object class name desc place program = SaysMethod program place (first_some (method_found program any_method name desc)
     (if is_interface (flags_of (slice_get program class)) then class ∷ option_list object else numbers_up most_classes program (Some class)))
 
-abbrev pub AboveTells : ℕ → Name → Desc → Option Place → Program → Type 0
-AboveTells class name desc place program =
-    TellsMethod program place (first_some (λ k. first_some (method_found program is_plain name desc) (numbers_above program k)) (numbers_up most_classes program (Some class)))
+abbrev pub AboveSays : ℕ → Name → Desc → Option Place → Program → Type 0
+AboveSays class name desc place program =
+    SaysMethod program place (first_some (λ k. first_some (method_found program is_plain name desc) (numbers_above program k)) (numbers_up most_classes program (Some class)))
 
-abbrev pub FieldTells : ℕ → Name → Desc → Option Place → Program → Type 0
-FieldTells class name desc place program =
-    TellsField program place (first_some (λ k. first_some (field_found program name desc) (k ∷ numbers_above program k)) (numbers_up most_classes program (Some class)))
+abbrev pub FieldSays : ℕ → Name → Desc → Option Place → Program → Type 0
+FieldSays class name desc place program =
+    SaysField program place (first_some (λ k. first_some (field_found program name desc) (k ∷ numbers_above program k)) (numbers_up most_classes program (Some class)))

@@ -13,10 +13,10 @@ use Rattle.dj_directory.specs.declared.rows.MemberRow.{MemberRow}
 use Rattle.dj_linking.specs.declared.nearest.Near.{Near}
 use Rattle.dj_linking.specs.declared.ranked.Ranks.{Ranks}
 use Rattle.dj_linking.specs.Bits.{AreBits}
-use Rattle.dj_linking.specs.Called.{TellsOwn, TellsFirst, TellsUp}
+use Rattle.dj_linking.specs.Called.{SaysOwn, SaysFirst, SaysUp}
 use Rattle.dj_linking.specs.Chained.{IsShort}
 use Rattle.dj_linking.specs.Nearest.{IsNear, HasNearest, IsNearest, nearer}
-use Rattle.dj_linking.specs.Numbers.{TellsMethod, first_some, has, lists_of, method_found, most_above, numbers_up}
+use Rattle.dj_linking.specs.Numbers.{SaysMethod, first_some, has, lists_of, method_found, most_above, numbers_up}
 use Rattle.dj_linking.specs.Ranked.{rank_in, HasRow, IsRow, IsRanked, AreRanked, IsRowAbove, AreRanks, AreRanksOf}
 use Rattle.dj_linking.proofs.Bits.{bit_put, bits_more, bits_none}
 
@@ -255,60 +255,60 @@ not_the_same e =
     other_name (codes "A") (codes "B") refl (ap (λ (f : FoundMethod). f.class) same)
 
 abbrev Own : ℕ → Option Place → FoundMethod → Type 0
-Own class told f = TellsMethod program told (method_found program is_plain f.method.name f.method.desc class)
+Own class reported f = SaysMethod program reported (method_found program is_plain f.method.name f.method.desc class)
 
 -- like m of B is that of A, and that of C is static
-own_of_a : TellsOwn program is_plain (place 1 1) 0 (Some (place 0 0))
+own_of_a : SaysOwn program is_plain (place 1 1) 0 (Some (place 0 0))
 own_of_a f at = subst (Own 0 (Some (place 0 0))) (same_Some (found (codes "B")) f at) refl
 
-own_of_c : TellsOwn program is_plain (place 1 1) 2 None
+own_of_c : SaysOwn program is_plain (place 1 1) 2 None
 own_of_c f at = subst (Own 2 None) (same_Some (found (codes "B")) f at) refl
 
-not_own_of_c : TellsOwn program is_plain (place 1 1) 2 (Some (place 2 0)) → ⊥
+not_own_of_c : SaysOwn program is_plain (place 1 1) 2 (Some (place 2 0)) → ⊥
 not_own_of_c own = none-some (Some (record { class = codes "C"; method = method 9 (codes "m") })) (sym (own (found (codes "B")) refl))
 
-none_of_a : TellsOwn program is_plain (place 1 1) 0 None → ⊥
+none_of_a : SaysOwn program is_plain (place 1 1) 0 None → ⊥
 none_of_a own = none-some (Some (found (codes "A"))) (own (found (codes "B")) refl)
 
 abbrev First : ℕ → Option ℕ → Option Place → FoundMethod → Type 0
-First levels class told f = TellsMethod program told (first_some (method_found program is_plain f.method.name f.method.desc) (numbers_up levels program class))
+First levels class reported f = SaysMethod program reported (first_some (method_found program is_plain f.method.name f.method.desc) (numbers_up levels program class))
 
 -- of B it is its own, of C that of A, which is a level more, and of no class none
-first_of_b : TellsFirst program is_plain (place 0 0) 1 (Some 1) (Some (place 1 1))
+first_of_b : SaysFirst program is_plain (place 0 0) 1 (Some 1) (Some (place 1 1))
 unfolding numbers_up
 first_of_b f at = subst (First 1 (Some 1) (Some (place 1 1))) (same_Some (found (codes "A")) f at) refl
 
-first_of_c : TellsFirst program is_plain (place 0 0) 2 (Some 2) (Some (place 0 0))
+first_of_c : SaysFirst program is_plain (place 0 0) 2 (Some 2) (Some (place 0 0))
 unfolding numbers_up
 first_of_c f at = subst (First 2 (Some 2) (Some (place 0 0))) (same_Some (found (codes "A")) f at) refl
 
-one_level : TellsFirst program is_plain (place 0 0) 1 (Some 2) None
+one_level : SaysFirst program is_plain (place 0 0) 1 (Some 2) None
 unfolding numbers_up
 one_level f at = subst (First 1 (Some 2) None) (same_Some (found (codes "A")) f at) refl
 
-first_of_none : TellsFirst program is_plain (place 0 0) 2 None None
+first_of_none : SaysFirst program is_plain (place 0 0) 2 None None
 unfolding numbers_up
 first_of_none f at = subst (First 2 None None) (same_Some (found (codes "A")) f at) refl
 
-passed_over : TellsFirst program is_plain (place 0 0) 2 (Some 1) (Some (place 0 0)) → ⊥
+passed_over : SaysFirst program is_plain (place 0 0) 2 (Some 1) (Some (place 0 0)) → ⊥
 unfolding numbers_up
 passed_over first = not_the_same (first (found (codes "A")) refl)
 
-none_of_c : TellsFirst program is_plain (place 0 0) 2 (Some 2) None → ⊥
+none_of_c : SaysFirst program is_plain (place 0 0) 2 (Some 2) None → ⊥
 unfolding numbers_up
 none_of_c first = none-some (Some (found (codes "A"))) (first (found (codes "A")) refl)
 
 -- however many levels are looked at
-up_of_c : TellsUp program is_plain (place 0 0) 2 (Some (place 0 0))
+up_of_c : SaysUp program is_plain (place 0 0) 2 (Some (place 0 0))
 unfolding most_above numbers_up
 up_of_c levels many f at =
     let two : suc (suc (levels - 2)) ≡ levels = omega (arith, many) in
     subst (λ (n : ℕ). First n (Some 2) (Some (place 0 0)) f) two (subst (First (suc (suc (levels - 2))) (Some 2) (Some (place 0 0))) (same_Some (found (codes "A")) f at) refl)
 
-superclass_of_b : TellsUp program is_plain (place 0 0) 1 (Some (place 0 0)) → ⊥
+superclass_of_b : SaysUp program is_plain (place 0 0) 1 (Some (place 0 0)) → ⊥
 unfolding most_above numbers_up
 superclass_of_b up = not_the_same (up most_above (omega arith) (found (codes "A")) refl)
 
-none_up : TellsUp program is_plain (place 0 0) 2 None → ⊥
+none_up : SaysUp program is_plain (place 0 0) 2 None → ⊥
 unfolding most_above numbers_up
 none_up up = none-some (Some (found (codes "A"))) (up most_above (omega arith) (found (codes "A")) refl)

@@ -79,11 +79,11 @@ module _ (program : Program) (order ranks : List ℕ) (rows : List (List ℕ)) (
     | inr e ↦ sym e
   ]
 
-pub up_told : (program : Program) (order ranks : List ℕ) (rows : List (List ℕ)) (class other rank : ℕ) (row : List ℕ) (b : Bool) → AreRanks program order ranks rows → row ≡ get_or rows class [] → 0 < length row
+pub up_reported : (program : Program) (order ranks : List ℕ) (rows : List (List ℕ)) (class other rank : ℕ) (row : List ℕ) (b : Bool) → AreRanks program order ranks rows → row ≡ get_or rows class [] → 0 < length row
     → HasRow rows other → rank ≡ rank_in ranks other → b ≡ in_bits row rank → b ≡ has (numbers_up most_above program (Some class)) other
-up_told program order ranks rows class other rank row b are is some there same told =
+up_reported program order ranks rows class other rank row b are is some there same reported =
     let own : HasRow rows class = subst (λ (ws : List ℕ). 0 < length ws) is some in
-    told
+    reported
     ∙ ap (λ (ws : List ℕ). in_bits ws rank) is
     ∙ ap (in_bits (get_or rows class [])) same
     ∙ row_decides program order ranks rows are.levels are.ranked class other own there
@@ -124,7 +124,7 @@ next_above program ranks rows class rank next row is same some each lower few =
           ∙ ap (λ (ks : List ℕ). has (map (rank_in ranks) ks) z) (sym (ap (numbers_up most_above program) is ∙ above_same program rank next known.short few));
       words = ap length same ∙ known.words;
       short = short_next program rank class next is known.short;
-      next = λ other told. (let e : next ≡ other = same_Some next other (sym is ∙ told) in (subst (HasRow rows) e own, subst (λ (k : ℕ). rank_in ranks k < rank) e lower));
+      next = λ other reported. (let e : next ≡ other = same_Some next other (sym is ∙ reported) in (subst (HasRow rows) e own, subst (λ (k : ℕ). rank_in ranks k < rank) e lower));
     }
 
 -- ---- a class more
@@ -216,10 +216,10 @@ learnt_rows program order ranks rows rank class above row ranked lt below at is 
     subst (λ (ls : List (List ℕ)). AreRanked program order ranks ls (rank + 1)) (sym (map-set (λ (l : Vec ℕ). l.items) rows class row))
     (learnt program order ranks (lists_of rows) rank class above row.items ranked lt below at is known put count)
 
-pub bit_told : (program : Program) (order ranks : List ℕ) (rows : List (List ℕ)) (class other rank : ℕ) (row : List ℕ) (b : Bool) → AreRanks program order ranks rows → row ≡ get_or rows class [] → HasRow rows class
+pub bit_reported : (program : Program) (order ranks : List ℕ) (rows : List (List ℕ)) (class other rank : ℕ) (row : List ℕ) (b : Bool) → AreRanks program order ranks rows → row ≡ get_or rows class [] → HasRow rows class
     → HasRow rows other → rank ≡ rank_in ranks other → b ≡ in_bits row rank → b ≡ has (numbers_up most_classes program (Some class)) other
-bit_told program order ranks rows class other rank row b are is own there same told =
-    told ∙ ap (λ (ws : List ℕ). in_bits ws rank) is ∙ ap (in_bits (get_or rows class [])) same ∙ row_decides program order ranks rows are.levels are.ranked class other own there
+bit_reported program order ranks rows class other rank row b are is own there same reported =
+    reported ∙ ap (λ (ws : List ℕ). in_bits ws rank) is ∙ ap (in_bits (get_or rows class [])) same ∙ row_decides program order ranks rows are.levels are.ranked class other own there
 
 pub not_among : (program : Program) (order ranks : List ℕ) (rows : List (List ℕ)) (class other : ℕ) → AreRanks program order ranks rows → HasRow rows class → (HasRow rows other → ⊥)
     → has (numbers_up most_classes program (Some class)) other ≡ false

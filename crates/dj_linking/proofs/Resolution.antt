@@ -13,7 +13,7 @@ use Rattle.dj_declared.specs.trusted.Files.{desc_in}
 use Rattle.dj_classes.specs.Tables.{class_number, class_numbers, name_at}
 use Rattle.dj_linking.specs.Linked.{Linked, resolved_method, resolved_field}
 use Rattle.dj_linking.specs.Numbers.{numbers_above, numbers_up, first_some, method_found, field_found}
-use Rattle.dj_linking.proofs.Finding.{told_first, told_next, number_within}
+use Rattle.dj_linking.proofs.Finding.{reported_first, reported_next, number_within}
 use Rattle.dj_linking.proofs.Searches.{first_some_flat}
 use Rattle.dj_linking.proofs.Walks.{Missing, There, looked, numbers_of_chain, numbers_of_all, numbers_of_order, first_method_found, first_field_found}
 
@@ -96,11 +96,11 @@ pub method_here : (linked : Linked) (class : ℕ) (name : Name) (desc : List ℕ
     → Some t ≡ option_map Some (first_some (method_found linked.program any_method name (desc_in desc))
     (if is_interface (flags_of (slice_get linked.program class)) then class ∷ option_list object else numbers_up most_classes linked.program (Some class)))
     → Some t ≡ option_map Some (resolved_method linked class name desc)
-method_here linked class name desc object t differ lt is told =
+method_here linked class name desc object t differ lt is reported =
     let found : List ℕ → Option FoundMethod = first_some (method_found linked.program any_method name (desc_in desc)) in
     let plain : Option FoundMethod = first_some (λ k. first_some (method_found linked.program is_plain name (desc_in desc)) (numbers_above linked.program k)) (numbers_up most_classes linked.program (Some class)) in
-    told_first t (found (if is_interface (flags_of (slice_get linked.program class)) then class ∷ option_list (class_number linked.program (object_name linked.prefix)) else numbers_up most_classes linked.program (Some class))) plain
-    (told ∙ ap (λ (o : Option ℕ). option_map Some (found (if is_interface (flags_of (slice_get linked.program class)) then class ∷ option_list o else numbers_up most_classes linked.program (Some class)))) is)
+    reported_first t (found (if is_interface (flags_of (slice_get linked.program class)) then class ∷ option_list (class_number linked.program (object_name linked.prefix)) else numbers_up most_classes linked.program (Some class))) plain
+    (reported ∙ ap (λ (o : Option ℕ). option_map Some (found (if is_interface (flags_of (slice_get linked.program class)) then class ∷ option_list o else numbers_up most_classes linked.program (Some class)))) is)
     ∙ ap (option_map Some) (sym (method_resolved linked class name desc differ lt))
 
 pub method_above : (linked : Linked) (class : ℕ) (name : Name) (desc : List ℕ) (object : Option ℕ) (t : Option (Option FoundMethod)) → DoNamesDiffer linked.program → class < length linked.program
@@ -109,11 +109,11 @@ pub method_above : (linked : Linked) (class : ℕ) (name : Name) (desc : List �
     (if is_interface (flags_of (slice_get linked.program class)) then class ∷ option_list object else numbers_up most_classes linked.program (Some class)))
     → t ≡ option_map Some (first_some (λ k. first_some (method_found linked.program is_plain name (desc_in desc)) (numbers_above linked.program k)) (numbers_up most_classes linked.program (Some class)))
     → t ≡ option_map Some (resolved_method linked class name desc)
-method_above linked class name desc object t differ lt is none told =
+method_above linked class name desc object t differ lt is none reported =
     let found : List ℕ → Option FoundMethod = first_some (method_found linked.program any_method name (desc_in desc)) in
     let plain : Option FoundMethod = first_some (λ k. first_some (method_found linked.program is_plain name (desc_in desc)) (numbers_above linked.program k)) (numbers_up most_classes linked.program (Some class)) in
-    told
-    ∙ ap (option_map Some) (sym (told_next
+    reported
+    ∙ ap (option_map Some) (sym (reported_next
     (found (if is_interface (flags_of (slice_get linked.program class)) then class ∷ option_list (class_number linked.program (object_name linked.prefix)) else numbers_up most_classes linked.program (Some class))) plain
     (none ∙ ap (λ (o : Option ℕ). option_map Some (found (if is_interface (flags_of (slice_get linked.program class)) then class ∷ option_list o else numbers_up most_classes linked.program (Some class)))) is)))
     ∙ ap (option_map Some) (sym (method_resolved linked class name desc differ lt))

@@ -59,5 +59,5 @@ found_all {A} f xs (y ∷ ys) =
 pub first_places_found : {A : Type 0} (f : ℕ → Option A) (xs : List ℕ) → first_some f (first_places xs) ≡ first_some f xs
 first_places_found f xs = found_all f [] xs
 
-pub told_above : {A : Type 0} (f : ℕ → Option A) (xs above : List ℕ) (t : Option (Option A)) → xs ≡ first_places above → t ≡ option_map Some (first_some f xs) → t ≡ option_map Some (first_some f above)
-told_above f xs above t is told = told ∙ ap (option_map Some) (ap (first_some f) is ∙ first_places_found f above)
+pub reported_above : {A : Type 0} (f : ℕ → Option A) (xs above : List ℕ) (t : Option (Option A)) → xs ≡ first_places above → t ≡ option_map Some (first_some f xs) → t ≡ option_map Some (first_some f above)
+reported_above f xs above t is reported = reported ∙ ap (option_map Some) (ap (first_some f) is ∙ first_places_found f above)

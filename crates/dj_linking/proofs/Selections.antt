@@ -18,7 +18,7 @@ use Rattle.dj_declared.specs.Members.{IsDescriptor, method_flags, method_name, m
 use Rattle.dj_declared.proofs.DescTests.{desc_in_is, is_descriptor}
 use Rattle.dj_classes.specs.Tables.{class_number, methods_of, methods_at, method_of_class, method_there}
 use Rattle.dj_classes.specs.declared.place.Place.{Place}
-use Rattle.dj_linking.specs.Numbers.{first_some, method_found, numbers_up, TellsMethod}
+use Rattle.dj_linking.specs.Numbers.{first_some, method_found, numbers_up, SaysMethod}
 use Rattle.dj_linking.proofs.Climbs.{IsClimbed}
 use Rattle.dj_linking.proofs.Finding.{private_set}
 use Rattle.dj_linking.proofs.Walks.{numbers_of_chain, first_method_found}
@@ -43,9 +43,9 @@ found_in : (program : Program) (place : Place) (found : FoundMethod) (o : Option
 found_in program place found None at there = absurd (none-some found there)
 found_in program place found (Some c) at there = by (slice_get c.methods place.member) refl there where
   by : (m : Option Method) → slice_get c.methods place.member ≡ m → option_map (λ (x : Method). record { class = c.name; method = x }) m ≡ Some found → Found program place found
-  by None is told = absurd (none-some found told)
-  by (Some m) is told =
-      let method : m ≡ found.method = ap (λ (f : FoundMethod). f.method) (same_Some (record { class = c.name; method = m }) found told) in
+  by None is reported = absurd (none-some found reported)
+  by (Some m) is reported =
+      let method : m ≡ found.method = ap (λ (f : FoundMethod). f.method) (same_Some (record { class = c.name; method = m }) found reported) in
       let methods : methods_at program place.class ≡ c.methods = ap methods_of at in
       Is (within_list program place.class c at)
       (subst (λ (ms : List Method). place.member < length ms) (sym methods) (within_list c.methods place.member m is))
@@ -69,8 +69,8 @@ there_within program place lt within =
 
 -- ---- its flags, its name and its descriptor
 
-told_of : {B : Type 0} (g : Method → B) (methods : List Method) (place : ℕ) (m : Method) (x : B) → slice_get methods place ≡ Some m → Some x ≡ option_map g (slice_get methods place) → x ≡ g m
-told_of g methods place m x at told = same_Some x (g m) (told ∙ ap (option_map g) at)
+reported_of : {B : Type 0} (g : Method → B) (methods : List Method) (place : ℕ) (m : Method) (x : B) → slice_get methods place ≡ Some m → Some x ≡ option_map g (slice_get methods place) → x ≡ g m
+reported_of g methods place m x at reported = same_Some x (g m) (reported ∙ ap (option_map g) at)
 
 private_clear : (flags : ℕ) → bit_and flags 2 ≡ 0 → is_private flags ≡ false
 private_clear flags none = let bit = and_pow flags 1 in let lt = bit_at-lt flags 1 in grind (arith, nat_tests)
@@ -80,35 +80,35 @@ module _ (program : Program) (place : Place) (found : FoundMethod) (there : meth
   methods = methods_at program place.class
 
   pub own : {B : Type 0} (g : Method → B) (x : B) → Some x ≡ option_map g (slice_get methods place.member) → x ≡ g found.method
-  own g x told = elim (found_there program place found there) [
-    | Is lt within at ↦ told_of g methods place.member found.method x at told
+  own g x reported = elim (found_there program place found there) [
+    | Is lt within at ↦ reported_of g methods place.member found.method x at reported
   ]
 
   pub is_private_there : (flags : ℕ) → Some flags ≡ option_map method_flags (slice_get methods place.member) → (bit_and flags 2 ≡ 0 → ⊥) → is_private found.method.flags ≡ true
-  is_private_there flags told some = ap is_private (sym (own method_flags flags told)) ∙ private_set flags some
+  is_private_there flags reported some = ap is_private (sym (own method_flags flags reported)) ∙ private_set flags some
 
   pub not_private_there : (flags : ℕ) → Some flags ≡ option_map method_flags (slice_get methods place.member) → bit_and flags 2 ≡ 0 → is_private found.method.flags ≡ false
-  not_private_there flags told none = ap is_private (sym (own method_flags flags told)) ∙ private_clear flags none
+  not_private_there flags reported none = ap is_private (sym (own method_flags flags reported)) ∙ private_clear flags none
 
   pub described_there : (desc : Name) → IfSome (slice_get methods place.member) (λ m. Describes desc m.desc) → Describes desc found.method.desc
-  described_there desc told = elim (found_there program place found there) [
-    | Is lt within at ↦ subst (λ (o : Option Method). IfSome o (λ m. Describes desc m.desc)) at told
+  described_there desc reported = elim (found_there program place found there) [
+    | Is lt within at ↦ subst (λ (o : Option Method). IfSome o (λ m. Describes desc m.desc)) at reported
   ]
 
   -- the first of its name and its descriptor, looked for by its texts
   pub named_there : (name desc : Name) (classes : List ℕ) (t : Option (Option FoundMethod)) → Some name ≡ option_map method_name (slice_get methods place.member)
       → IfSome (slice_get methods place.member) (λ m. Describes desc m.desc) → t ≡ option_map Some (first_some (method_found program is_plain name (desc_in desc)) classes)
       → t ≡ option_map Some (first_some (method_found program is_plain found.method.name found.method.desc) classes)
-  named_there name desc classes t named described told =
-      told
+  named_there name desc classes t named described reported =
+      reported
       ∙ ap (λ (n : Name). option_map Some (first_some (method_found program is_plain n (desc_in desc)) classes)) (own method_name name named)
       ∙ ap (λ (d : Desc). option_map Some (first_some (method_found program is_plain found.method.name d) classes)) (desc_in_is desc found.method.desc (described_there desc described))
 
 -- the text of a descriptor is one, whatever method is there
 pub descriptor_there : (methods : List Method) (member : ℕ) (desc : Name) → member < length methods → IfSome (slice_get methods member) (λ m. Describes desc m.desc) → IsDescriptor desc
-descriptor_there methods member desc lt told =
+descriptor_there methods member desc lt reported =
     let method : (m : Method) × (slice_get methods member ≡ Some m) = some_of methods member lt in
-    is_descriptor desc method.0.desc (subst (λ (o : Option Method). IfSome o (λ m. Describes desc m.desc)) method.1 told)
+    is_descriptor desc method.0.desc (subst (λ (o : Option Method). IfSome o (λ m. Describes desc m.desc)) method.1 reported)
 
 -- ---- what is taken
 
@@ -121,28 +121,28 @@ taken_private program found class t private there = rw private (ap Some there)
 
 pub taken_above : (program : Program) (found : FoundMethod) (class : Option ℕ) (t : Option (Option FoundMethod)) → is_private found.method.flags ≡ false
     → t ≡ option_map Some (first_some (method_found program is_plain found.method.name found.method.desc) (numbers_up most_classes program class)) → t ≡ option_map Some (taken_numbers program found class)
-taken_above program found class t other told = rw other told
+taken_above program found class t other reported = rw other reported
 
 -- a place that was found is that of a method
-pub told_there : (program : Program) (place : Place) (o : Option FoundMethod) → TellsMethod program (Some place) o → (found : FoundMethod) × (o ≡ Some found) × (method_there program place ≡ Some found)
-told_there program place None told = absurd (none-some (method_there program place) (sym told))
-told_there program place (Some found) told = (found, refl, same_Some (method_there program place) (Some found) told)
+pub reported_there : (program : Program) (place : Place) (o : Option FoundMethod) → SaysMethod program (Some place) o → (found : FoundMethod) × (o ≡ Some found) × (method_there program place ≡ Some found)
+reported_there program place None reported = absurd (none-some (method_there program place) (sym reported))
+reported_there program place (Some found) reported = (found, refl, same_Some (method_there program place) (Some found) reported)
 
-pub no_body : (program : Program) (o : Option FoundMethod) → None ≡ option_map Some o → TellsMethod program None (with_body o)
-no_body program None told = refl
-no_body program (Some found) told = absurd (none-some (Some found) told)
+pub no_body : (program : Program) (o : Option FoundMethod) → None ≡ option_map Some o → SaysMethod program None (with_body o)
+no_body program None reported = refl
+no_body program (Some found) reported = absurd (none-some (Some found) reported)
 
 with_body_by : (program : Program) (place : Place) (found : FoundMethod) (b : Bool) → method_there program place ≡ Some found → has_body found.method.body ≡ b
-    → TellsMethod program (if b then Some place else None) (with_body (Some found))
+    → SaysMethod program (if b then Some place else None) (with_body (Some found))
 with_body_by program place found true there is = rw is (ap Some there)
 with_body_by program place found false there is = rw is refl
 
 -- the place is given where its method has a body
-pub told_with_body : (program : Program) (place : Place) (o : Option FoundMethod) (b : Bool) → TellsMethod program (Some place) o → Some b ≡ option_map method_has_body (slice_get (methods_at program place.class) place.member)
-    → TellsMethod program (if b then Some place else None) (with_body o)
-told_with_body program place o b told body =
-    let there : (found : FoundMethod) × (o ≡ Some found) × (method_there program place ≡ Some found) = told_there program place o told in
-    subst (λ (x : Option FoundMethod). TellsMethod program (if b then Some place else None) (with_body x)) (sym there.1)
+pub reported_with_body : (program : Program) (place : Place) (o : Option FoundMethod) (b : Bool) → SaysMethod program (Some place) o → Some b ≡ option_map method_has_body (slice_get (methods_at program place.class) place.member)
+    → SaysMethod program (if b then Some place else None) (with_body o)
+reported_with_body program place o b reported body =
+    let there : (found : FoundMethod) × (o ≡ Some found) × (method_there program place ≡ Some found) = reported_there program place o reported in
+    subst (λ (x : Option FoundMethod). SaysMethod program (if b then Some place else None) (with_body x)) (sym there.1)
     (with_body_by program place there.0 b there.2 (sym (own program place there.0 there.2 method_has_body b body)))
 
 -- ---- selection by numbers

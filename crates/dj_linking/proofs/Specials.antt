@@ -62,11 +62,11 @@ module _ (program : Program) (class : ℕ) (place : Place) (found : FoundMethod)
   pub taken_above : (t : Option (Option FoundMethod)) → same_name name constructor_name ≡ false → has (numbers_up most_above program (super_number program class)) place.class ≡ true
       → t ≡ option_map Some (first_some (method_found program is_not_static name desc) (numbers_up most_above program (super_number program class)))
       → t ≡ option_map Some (special_method program (class_name program class) found)
-  taken_above t other above told =
+  taken_above t other above reported =
       let chosen : (if not (same_name name constructor_name) && has (numbers_up most_above program (super_number program class)) place.class
       then first_some (method_found program is_not_static name desc) (numbers_up most_above program (super_number program class)) else Some found)
       ≡ first_some (method_found program is_not_static name desc) (numbers_up most_above program (super_number program class)) = rw (other, above) refl in
-      told ∙ ap (option_map Some) (sym (special_numbers ∙ chosen))
+      reported ∙ ap (option_map Some) (sym (special_numbers ∙ chosen))
 
   pub taken_itself : (same_name name constructor_name ≡ true) ⊎ (has (numbers_up most_above program (super_number program class)) place.class ≡ false)
       → Some (method_there program place) ≡ option_map Some (special_method program (class_name program class) found)

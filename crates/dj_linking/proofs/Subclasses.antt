@@ -12,7 +12,7 @@ use Rattle.dj_model.proofs.MappedNames.{either, alike}
 use Rattle.dj_classes.specs.Tables.{class_number, class_numbers}
 use Rattle.dj_linking.specs.Linked.{class_name}
 use Rattle.dj_linking.specs.Numbers.{has, first_some, first_places, numbers_above, numbers_up}
-use Rattle.dj_linking.proofs.Finding.{told_none, drop_none}
+use Rattle.dj_linking.proofs.Finding.{reported_none, drop_none}
 use Rattle.dj_linking.proofs.Lists.{has_more, has_cases, has_left, has_right, has_either, has_flat, flat_has, all_has, all_cases, has_here, has_self}
 use Rattle.dj_linking.proofs.Resolution.{DoNamesDiffer, number_of_name, numbers_of_class, above_numbers}
 use Rattle.dj_linking.proofs.Walks.{Missing, There, looked, numbers_append}
@@ -23,11 +23,11 @@ use Rattle.dj_linking.proofs.Walks.{Missing, There, looked, numbers_append}
 abbrev pub where_so : ℕ → Bool → Option ℕ
 where_so k b = if b then Some k else None
 
-pub so_told : (k : ℕ) (b : Bool) → b ≡ true → Some (Some k) ≡ option_map Some (where_so k b)
-so_told k b e = rw e refl
+pub so_reported : (k : ℕ) (b : Bool) → b ≡ true → Some (Some k) ≡ option_map Some (where_so k b)
+so_reported k b e = rw e refl
 
-pub not_so_told : (k : ℕ) (b : Bool) → b ≡ false → None ≡ option_map Some (where_so k b)
-not_so_told k b e = rw e refl
+pub not_so_reported : (k : ℕ) (b : Bool) → b ≡ false → None ≡ option_map Some (where_so k b)
+not_so_reported k b e = rw e refl
 
 pub has_after : (xs ys : List ℕ) (k : ℕ) → has xs k ≡ false → has (xs ++ ys) k ≡ has ys k
 has_after [] ys k none = refl
@@ -47,14 +47,14 @@ found_flat g k (x ∷ xs) = elim (either (has (g x) k)) [
 ]
 
 some_is : (k : ℕ) (o : Option ℕ) → Some (Some k) ≡ option_map Some o → is_some o ≡ true
-some_is k None told = absurd (none-some (Some k) (sym told))
-some_is k (Some x) told = refl
+some_is k None reported = absurd (none-some (Some k) (sym reported))
+some_is k (Some x) reported = refl
 
 pub is_in_flat : (g : ℕ → List ℕ) (k : ℕ) (xs : List ℕ) → Some (Some k) ≡ option_map Some (first_some (λ x. where_so k (has (g x) k)) xs) → has (flat_map g xs) k ≡ true
-is_in_flat g k xs told = sym (found_flat g k xs) ∙ some_is k (first_some (λ x. where_so k (has (g x) k)) xs) told
+is_in_flat g k xs reported = sym (found_flat g k xs) ∙ some_is k (first_some (λ x. where_so k (has (g x) k)) xs) reported
 
 pub not_in_flat : (g : ℕ → List ℕ) (k : ℕ) (xs : List ℕ) → None ≡ option_map Some (first_some (λ x. where_so k (has (g x) k)) xs) → has (flat_map g xs) k ≡ false
-not_in_flat g k xs told = sym (found_flat g k xs) ∙ ap is_some (told_none (first_some (λ x. where_so k (has (g x) k)) xs) told)
+not_in_flat g k xs reported = sym (found_flat g k xs) ∙ ap is_some (reported_none (first_some (λ x. where_so k (has (g x) k)) xs) reported)
 
 pub has_places : (xs : List ℕ) (k : ℕ) → has (first_places xs) k ≡ has xs k
 has_places xs k = alike (has (first_places xs) k) (has xs k)
@@ -62,7 +62,7 @@ has_places xs k = alike (has (first_places xs) k) (has xs k)
     (all_has [] xs k)
 
 pub among_above : (above row : List ℕ) (class other : ℕ) (r : Bool) → (class ≡ other → ⊥) → row ≡ first_places above → r ≡ has row other → r ≡ has (class ∷ above) other
-among_above above row class other r apart is told = told ∙ ap (λ (xs : List ℕ). has xs other) is ∙ has_places above other ∙ sym (has_apart above class other apart)
+among_above above row class other r apart is reported = reported ∙ ap (λ (xs : List ℕ). has xs other) is ∙ has_places above other ∙ sym (has_apart above class other apart)
 
 -- ---- along a row
 
@@ -142,7 +142,7 @@ found_among k [] = refl
 found_among k (x ∷ xs) = elim (either (nat_eq x k)) [ inl e ↦ rw e refl | inr e ↦ rw e (found_among k xs) ]
 
 pub is_among_these : (k : ℕ) (xs : List ℕ) → Some (Some k) ≡ option_map Some (first_some (λ x. where_so k (nat_eq x k)) xs) → has xs k ≡ true
-is_among_these k xs told = sym (found_among k xs) ∙ some_is k (first_some (λ x. where_so k (nat_eq x k)) xs) told
+is_among_these k xs reported = sym (found_among k xs) ∙ some_is k (first_some (λ x. where_so k (nat_eq x k)) xs) reported
 
 pub not_among_these : (k : ℕ) (xs : List ℕ) → None ≡ option_map Some (first_some (λ x. where_so k (nat_eq x k)) xs) → has xs k ≡ false
-not_among_these k xs told = sym (found_among k xs) ∙ ap is_some (told_none (first_some (λ x. where_so k (nat_eq x k)) xs) told)
+not_among_these k xs reported = sym (found_among k xs) ∙ ap is_some (reported_none (first_some (λ x. where_so k (nat_eq x k)) xs) reported)

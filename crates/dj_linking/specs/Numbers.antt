@@ -110,11 +110,11 @@ abbrev pub field_found : Program → Name → Desc → ℕ → Option FoundField
 field_found program name desc class = field_in_class name desc (slice_get program class)
 
 -- the place says what was found
-abbrev pub TellsMethod : Program → Option Place → Option FoundMethod → Type 0
-TellsMethod program place found = option_map (method_there program) place ≡ option_map Some found
+abbrev pub SaysMethod : Program → Option Place → Option FoundMethod → Type 0
+SaysMethod program place found = option_map (method_there program) place ≡ option_map Some found
 
-abbrev pub TellsField : Program → Option Place → Option FoundField → Type 0
-TellsField program place found = option_map (field_there program) place ≡ option_map Some found
+abbrev pub SaysField : Program → Option Place → Option FoundField → Type 0
+SaysField program place found = option_map (field_there program) place ≡ option_map Some found
 
 -- as many lists of numbers below the bound
 pub record AreInside (bound : ℕ) (lists : List (List ℕ)) : Type 0 where

@@ -4,8 +4,8 @@ ghost use Rattle.dj_model.specs.trusted.Program.{is_private};
 ghost use Rattle.dj_model.specs.trusted.Linking.{FoundMethod, is_not_static, is_plain, most_classes, with_body};
 ghost use Rattle.dj_classes.specs.Tables.{methods_at, method_there, super_number};
 ghost use Rattle.dj_directory.specs.Calls.{IsCallTable, tests};
-ghost use Rattle.dj_linking.specs.Called.{TellsFirst, TellsOwn, TellsUp};
-ghost use Rattle.dj_linking.specs.Numbers.{TellsMethod, first_some, lists_of, method_found, most_above, numbers_up};
+ghost use Rattle.dj_linking.specs.Called.{SaysFirst, SaysOwn, SaysUp};
+ghost use Rattle.dj_linking.specs.Numbers.{SaysMethod, first_some, lists_of, method_found, most_above, numbers_up};
 ghost use Rattle.dj_linking.specs.Ranked.{AreRanksOf, HasRow};
 
 use crate::find::PRIVATE;
@@ -26,7 +26,7 @@ fn own_method(
 ) -> Option<Place>
     requires there { class < length table.now }
     requires calls { IsCallTable table.now calls.now }
-    ensures { IfSome result (λ place. TellsOwn table.now (tests private_too) resolved class (Some place)) }
+    ensures { IfSome result (λ place. SaysOwn table.now (tests private_too) resolved class (Some place)) }
 {
     let member = calls.taken_in(table, resolved.class, resolved.member, private_too, class)?;
     Some(Place { class, member })
@@ -45,7 +45,7 @@ fn nearest_method(
     requires ranks { AreRanksOf table.now ranks.now }
     requires calls { IsCallTable table.now calls.now }
     requires known { HasRow (lists_of ranks.now.rows.items) class }
-    ensures { IfSome result (TellsUp table.now (tests private_too) resolved class) }
+    ensures { IfSome result (SaysUp table.now (tests private_too) resolved class) }
 {
     let rows = calls.alike(table, resolved.class, resolved.member, private_too)?;
     let Some(near) = nearest_of(table, ranks, rows, class) else {
@@ -70,7 +70,7 @@ fn marked_method(
     requires ranks { AreRanksOf table.now ranks.now }
     requires calls { IsCallTable table.now calls.now }
     requires known { HasRow (lists_of ranks.now.rows.items) class }
-    ensures { IfSome result (TellsUp table.now (tests private_too) resolved class) }
+    ensures { IfSome result (SaysUp table.now (tests private_too) resolved class) }
 {
     let near = calls.nearest_like(table, resolved.class, resolved.member, private_too, class)?;
     let Some(near) = near else {
@@ -93,7 +93,7 @@ fn method_up(
     requires there { class < length table.now }
     requires ranks { AreRanksOf table.now ranks.now }
     requires calls { IsCallTable table.now calls.now }
-    ensures { IfSome result (TellsUp table.now (tests private_too) resolved class) }
+    ensures { IfSome result (SaysUp table.now (tests private_too) resolved class) }
 {
     if let Some(place) = own_method(table, calls, resolved, class, private_too) {
         return Some(Some(place));
@@ -120,7 +120,7 @@ fn plain_method_like(
     requires class { IfSome class (λ k. k < length table.now) }
     requires ranks { AreRanksOf table.now ranks.now }
     requires calls { IsCallTable table.now calls.now }
-    ensures { TellsFirst table.now is_plain resolved most_classes class result }
+    ensures { SaysFirst table.now is_plain resolved most_classes class result }
 {
     let first = class?;
     if let Some(place) = method_up(table, ranks, calls, resolved, first, false) {
@@ -145,7 +145,7 @@ pub fn instance_method_like(
     requires class { class < length table.now }
     requires ranks { AreRanksOf table.now ranks.now }
     requires calls { IsCallTable table.now calls.now }
-    ensures { TellsFirst table.now is_not_static resolved most_above (super_number table.now class) result }
+    ensures { SaysFirst table.now is_not_static resolved most_above (super_number table.now class) result }
 {
     let next = table.super_of(class)?;
     if let Some(place) = method_up(table, ranks, calls, resolved, next, true) {
@@ -171,7 +171,7 @@ fn taken_by(
     requires ranks { AreRanksOf table.now ranks.now }
     requires calls { IsCallTable table.now calls.now }
     ensures { (found : FoundMethod) → method_there table.now resolved ≡ Some found
-        → TellsMethod table.now result (if is_private found.method.flags then Some found
+        → SaysMethod table.now result (if is_private found.method.flags then Some found
         else first_some (method_found table.now is_plain found.method.name found.method.desc) (numbers_up most_classes table.now class)) }
 {
     if table.method_flags(resolved.class, resolved.member) & PRIVATE == 0 {
@@ -195,7 +195,7 @@ pub fn selected_by(
     requires ranks { AreRanksOf table.now ranks.now }
     requires calls { IsCallTable table.now calls.now }
     ensures { (found : FoundMethod) → method_there table.now resolved ≡ Some found
-        → TellsMethod table.now result (with_body (if is_private found.method.flags then Some found
+        → SaysMethod table.now result (with_body (if is_private found.method.flags then Some found
         else first_some (method_found table.now is_plain found.method.name found.method.desc) (numbers_up most_classes table.now class))) }
 {
     let taken = taken_by(table, ranks, calls, resolved, class)?;

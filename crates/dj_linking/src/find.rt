@@ -4,7 +4,7 @@ ghost use Rattle.dj_model.specs.trusted.Linking.{any_method, is_plain, most_clas
 ghost use Rattle.dj_declared.specs.Members.{IsDescriptor};
 ghost use Rattle.dj_declared.specs.trusted.Files.{desc_in};
 ghost use Rattle.dj_linking.specs.Chained.{AreFieldChains, AreMethodChains};
-ghost use Rattle.dj_linking.specs.Numbers.{AreAbove, AreBelow, TellsMethod, TellsField, first_some, method_found, field_found, lists_of, numbers_above, numbers_up};
+ghost use Rattle.dj_linking.specs.Numbers.{AreAbove, AreBelow, SaysMethod, SaysField, first_some, method_found, field_found, lists_of, numbers_above, numbers_up};
 
 use crate::chains::Chains;
 use dj_classes::{ClassTable, Place};
@@ -25,7 +25,7 @@ pub const MOST_CLASSES: u64 = 4_294_967_296;
 fn method_in(table: &ClassTable, class: u32, name: &[u8], desc: &[u8]) -> Option<Place>
     requires there { class < length table.now }
     requires described { IsDescriptor desc.now }
-    ensures { TellsMethod table.now result (method_found table.now any_method name.now (desc_in desc.now) class) }
+    ensures { SaysMethod table.now result (method_found table.now any_method name.now (desc_in desc.now) class) }
 {
     let member = table.method_named(class, name, desc)?;
     Some(Place { class, member })
@@ -35,7 +35,7 @@ fn method_in(table: &ClassTable, class: u32, name: &[u8], desc: &[u8]) -> Option
 pub fn plain_method_in(table: &ClassTable, class: u32, name: &[u8], desc: &[u8]) -> Option<Place>
     requires there { class < length table.now }
     requires described { IsDescriptor desc.now }
-    ensures { TellsMethod table.now result (method_found table.now is_plain name.now (desc_in desc.now) class) }
+    ensures { SaysMethod table.now result (method_found table.now is_plain name.now (desc_in desc.now) class) }
 {
     let member = table.method_named(class, name, desc)?;
     let flags = table.method_flags(class, member);
@@ -50,7 +50,7 @@ pub fn plain_method_in(table: &ClassTable, class: u32, name: &[u8], desc: &[u8])
 fn field_in(table: &ClassTable, class: u32, name: &[u8], desc: &[u8]) -> Option<Place>
     requires there { class < length table.now }
     requires described { IsDescriptor desc.now }
-    ensures { TellsField table.now result (field_found table.now name.now (desc_in desc.now) class) }
+    ensures { SaysField table.now result (field_found table.now name.now (desc_in desc.now) class) }
 {
     let member = table.field_named(class, name, desc)?;
     Some(Place { class, member })
@@ -65,7 +65,7 @@ fn plain_method_among(
 ) -> Option<Place>
     requires there { AreBelow (length table.now) classes.now }
     requires described { IsDescriptor desc.now }
-    ensures { TellsMethod table.now result (first_some (method_found table.now is_plain name.now (desc_in desc.now)) classes.now) }
+    ensures { SaysMethod table.now result (first_some (method_found table.now is_plain name.now (desc_in desc.now)) classes.now) }
 {
     for class in classes {
         if let Some(place) = plain_method_in(table, *class, name, desc) {
@@ -79,7 +79,7 @@ fn plain_method_among(
 fn field_among(table: &ClassTable, classes: &[u32], name: &[u8], desc: &[u8]) -> Option<Place>
     requires there { AreBelow (length table.now) classes.now }
     requires described { IsDescriptor desc.now }
-    ensures { TellsField table.now result (first_some (field_found table.now name.now (desc_in desc.now)) classes.now) }
+    ensures { SaysField table.now result (first_some (field_found table.now name.now (desc_in desc.now)) classes.now) }
 {
     for class in classes {
         if let Some(place) = field_in(table, *class, name, desc) {
@@ -100,7 +100,7 @@ fn plain_method_above(
     requires there { class < length table.now }
     requires described { IsDescriptor desc.now }
     requires above { AreAbove table.now (lists_of above.now) }
-    ensures { TellsMethod table.now result (first_some (method_found table.now is_plain name.now (desc_in desc.now)) (numbers_above table.now class)) }
+    ensures { SaysMethod table.now result (first_some (method_found table.now is_plain name.now (desc_in desc.now)) (numbers_above table.now class)) }
 {
     plain_method_among(table, &above[class as usize], name, desc)
 }
@@ -116,7 +116,7 @@ fn field_above(
     requires there { class < length table.now }
     requires described { IsDescriptor desc.now }
     requires above { AreAbove table.now (lists_of above.now) }
-    ensures { TellsField table.now result (first_some (field_found table.now name.now (desc_in desc.now)) (class ∷ numbers_above table.now class)) }
+    ensures { SaysField table.now result (first_some (field_found table.now name.now (desc_in desc.now)) (class ∷ numbers_above table.now class)) }
 {
     match field_in(table, class, name, desc) {
         Some(place) => Some(place),
@@ -128,7 +128,7 @@ fn field_above(
 pub fn method_up(table: &ClassTable, class: u32, name: &[u8], desc: &[u8]) -> Option<Place>
     requires there { class < length table.now }
     requires described { IsDescriptor desc.now }
-    ensures { TellsMethod table.now result (first_some (method_found table.now any_method name.now (desc_in desc.now)) (numbers_up most_classes table.now (Some class))) }
+    ensures { SaysMethod table.now result (first_some (method_found table.now any_method name.now (desc_in desc.now)) (numbers_up most_classes table.now (Some class))) }
 {
     let mut next = Some(class);
     for _ in 0..MOST_CLASSES {
@@ -152,7 +152,7 @@ fn plain_method_by_class(
     requires there { class < length table.now }
     requires described { IsDescriptor desc.now }
     requires above { AreAbove table.now (lists_of above.now) }
-    ensures { TellsMethod table.now result
+    ensures { SaysMethod table.now result
         (first_some (λ k. first_some (method_found table.now is_plain name.now (desc_in desc.now)) (numbers_above table.now k)) (numbers_up most_classes table.now (Some class))) }
 {
     let mut next = Some(class);
@@ -179,7 +179,7 @@ pub fn plain_method_up(
     requires described { IsDescriptor desc.now }
     requires above { AreAbove table.now (lists_of above.now) }
     requires methods { AreMethodChains table.now methods.now }
-    ensures { TellsMethod table.now result
+    ensures { SaysMethod table.now result
         (first_some (λ k. first_some (method_found table.now is_plain name.now (desc_in desc.now)) (numbers_above table.now k)) (numbers_up most_classes table.now (Some class))) }
 {
     match methods.list_of(class) {
@@ -200,7 +200,7 @@ fn field_by_class(
     requires there { class < length table.now }
     requires described { IsDescriptor desc.now }
     requires above { AreAbove table.now (lists_of above.now) }
-    ensures { TellsField table.now result
+    ensures { SaysField table.now result
         (first_some (λ k. first_some (field_found table.now name.now (desc_in desc.now)) (k ∷ numbers_above table.now k)) (numbers_up most_classes table.now (Some class))) }
 {
     let mut next = Some(class);
@@ -227,7 +227,7 @@ pub fn field_up(
     requires described { IsDescriptor desc.now }
     requires above { AreAbove table.now (lists_of above.now) }
     requires fields { AreFieldChains table.now fields.now }
-    ensures { TellsField table.now result
+    ensures { SaysField table.now result
         (first_some (λ k. first_some (field_found table.now name.now (desc_in desc.now)) (k ∷ numbers_above table.now k)) (numbers_up most_classes table.now (Some class))) }
 {
     match fields.list_of(class) {
@@ -248,7 +248,7 @@ pub fn method_first(
     requires object { IfSome object (λ k. k < length table.now) }
     requires there { class < length table.now }
     requires described { IsDescriptor desc.now }
-    ensures { TellsMethod table.now result (first_some (method_found table.now any_method name.now (desc_in desc.now))
+    ensures { SaysMethod table.now result (first_some (method_found table.now any_method name.now (desc_in desc.now))
         (if is_interface (flags_of (slice_get table.now class)) then class ∷ option_list object else numbers_up most_classes table.now (Some class))) }
 {
     if table.flags_of(class) & INTERFACE == 0 {

@@ -9,7 +9,7 @@ ghost use Rattle.dj_linking.specs.Bits.{in_bits};
 ghost use Rattle.dj_linking.specs.Chained.{AreFieldChains, AreMethodChains};
 ghost use Rattle.dj_linking.specs.Marked.{IsCovered};
 ghost use Rattle.dj_linking.specs.Numbered.{AreTexts};
-ghost use Rattle.dj_linking.specs.Numbers.{AreAbove, AreBelow, TellsMethod, TellsField, first_some, method_found, field_found, lists_of, numbers_above, numbers_up};
+ghost use Rattle.dj_linking.specs.Numbers.{AreAbove, AreBelow, SaysMethod, SaysField, first_some, method_found, field_found, lists_of, numbers_above, numbers_up};
 ghost use Rattle.dj_linking.specs.Ranked.{AreRanksOf, HasRow};
 ghost use Rattle.dj_linking.specs.Shared.{HaveFieldMarks, HavePlainMarks, HaveRankMarks};
 
@@ -52,7 +52,7 @@ fn super_of(directory: &Directory<'_>, class: u32) -> Option<u32>
 // The method of the name and the descriptor that a class declares.
 fn method_in(directory: &Directory<'_>, class: u32, name: u32, desc: u32) -> Option<Place>
     requires { class < length directory.now.program }
-    ensures { (n d : List ℕ) → AreTexts directory.now name desc n d → TellsMethod directory.now.program result (method_found directory.now.program any_method n (desc_in d) class) }
+    ensures { (n d : List ℕ) → AreTexts directory.now name desc n d → SaysMethod directory.now.program result (method_found directory.now.program any_method n (desc_in d) class) }
 {
     let member = directory.method_in(class, name, desc)?;
     Some(Place { class, member })
@@ -61,7 +61,7 @@ fn method_in(directory: &Directory<'_>, class: u32, name: u32, desc: u32) -> Opt
 // The same, where it is neither private nor static.
 fn plain_method_in(directory: &Directory<'_>, class: u32, name: u32, desc: u32) -> Option<Place>
     requires { class < length directory.now.program }
-    ensures { (n d : List ℕ) → AreTexts directory.now name desc n d → TellsMethod directory.now.program result (method_found directory.now.program is_plain n (desc_in d) class) }
+    ensures { (n d : List ℕ) → AreTexts directory.now name desc n d → SaysMethod directory.now.program result (method_found directory.now.program is_plain n (desc_in d) class) }
 {
     let member = directory.method_in(class, name, desc)?;
     let flags = method_flags(directory, class, member);
@@ -75,7 +75,7 @@ fn plain_method_in(directory: &Directory<'_>, class: u32, name: u32, desc: u32) 
 // The field of the name and the descriptor that a class declares.
 fn field_in(directory: &Directory<'_>, class: u32, name: u32, desc: u32) -> Option<Place>
     requires { class < length directory.now.program }
-    ensures { (n d : List ℕ) → AreTexts directory.now name desc n d → TellsField directory.now.program result (field_found directory.now.program n (desc_in d) class) }
+    ensures { (n d : List ℕ) → AreTexts directory.now name desc n d → SaysField directory.now.program result (field_found directory.now.program n (desc_in d) class) }
 {
     let member = directory.field_in(class, name, desc)?;
     Some(Place { class, member })
@@ -112,7 +112,7 @@ fn plain_method_if(
 ) -> Option<Place>
     requires there { class < length directory.now.program }
     requires marked { (n d : List ℕ) → AreTexts directory.now name desc n d → IfSome marks (λ words. IsCovered (method_found directory.now.program is_plain n (desc_in d)) (length directory.now.program) words.now) }
-    ensures { (n d : List ℕ) → AreTexts directory.now name desc n d → TellsMethod directory.now.program result (method_found directory.now.program is_plain n (desc_in d) class) }
+    ensures { (n d : List ℕ) → AreTexts directory.now name desc n d → SaysMethod directory.now.program result (method_found directory.now.program is_plain n (desc_in d) class) }
 {
     if may_be_in(marks, class) {
         plain_method_in(directory, class, name, desc)
@@ -131,7 +131,7 @@ fn plain_method_in_turn(
 ) -> Option<Place>
     requires below { AreBelow (length directory.now.program) classes.now }
     requires marked { (n d : List ℕ) → AreTexts directory.now name desc n d → IfSome marks (λ words. IsCovered (method_found directory.now.program is_plain n (desc_in d)) (length directory.now.program) words.now) }
-    ensures { (n d : List ℕ) → AreTexts directory.now name desc n d → TellsMethod directory.now.program result (first_some (method_found directory.now.program is_plain n (desc_in d)) classes.now) }
+    ensures { (n d : List ℕ) → AreTexts directory.now name desc n d → SaysMethod directory.now.program result (first_some (method_found directory.now.program is_plain n (desc_in d)) classes.now) }
 {
     for class in classes {
         if let Some(place) = plain_method_if(directory, marks, *class, name, desc) {
@@ -150,7 +150,7 @@ fn plain_method_of_few(
 ) -> Option<Place>
     requires below { AreBelow (length directory.now.program) classes.now }
     requires few { length directory.now.program ≤ 8192 }
-    ensures { (n d : List ℕ) → AreTexts directory.now name desc n d → TellsMethod directory.now.program result (first_some (method_found directory.now.program is_plain n (desc_in d)) classes.now) }
+    ensures { (n d : List ℕ) → AreTexts directory.now name desc n d → SaysMethod directory.now.program result (first_some (method_found directory.now.program is_plain n (desc_in d)) classes.now) }
 {
     let rows = directory.methods_of(name, desc);
     if rows.is_empty() {
@@ -174,7 +174,7 @@ fn plain_method_among(
 ) -> Option<Place>
     requires below { AreBelow (length directory.now.program) classes.now }
     requires shared { HavePlainMarks directory.now.program shared.now.plain.items }
-    ensures { (n d : List ℕ) → AreTexts directory.now name desc n d → TellsMethod directory.now.program result (first_some (method_found directory.now.program is_plain n (desc_in d)) classes.now) }
+    ensures { (n d : List ℕ) → AreTexts directory.now name desc n d → SaysMethod directory.now.program result (first_some (method_found directory.now.program is_plain n (desc_in d)) classes.now) }
 {
     if !is_worth_marking(directory, classes) {
         return plain_method_in_turn(directory, None, classes, name, desc);
@@ -195,7 +195,7 @@ fn field_if(
 ) -> Option<Place>
     requires there { class < length directory.now.program }
     requires marked { (n d : List ℕ) → AreTexts directory.now name desc n d → IfSome marks (λ words. IsCovered (field_found directory.now.program n (desc_in d)) (length directory.now.program) words.now) }
-    ensures { (n d : List ℕ) → AreTexts directory.now name desc n d → TellsField directory.now.program result (field_found directory.now.program n (desc_in d) class) }
+    ensures { (n d : List ℕ) → AreTexts directory.now name desc n d → SaysField directory.now.program result (field_found directory.now.program n (desc_in d) class) }
 {
     if may_be_in(marks, class) {
         field_in(directory, class, name, desc)
@@ -214,7 +214,7 @@ fn field_in_turn(
 ) -> Option<Place>
     requires below { AreBelow (length directory.now.program) classes.now }
     requires marked { (n d : List ℕ) → AreTexts directory.now name desc n d → IfSome marks (λ words. IsCovered (field_found directory.now.program n (desc_in d)) (length directory.now.program) words.now) }
-    ensures { (n d : List ℕ) → AreTexts directory.now name desc n d → TellsField directory.now.program result (first_some (field_found directory.now.program n (desc_in d)) classes.now) }
+    ensures { (n d : List ℕ) → AreTexts directory.now name desc n d → SaysField directory.now.program result (first_some (field_found directory.now.program n (desc_in d)) classes.now) }
 {
     for class in classes {
         if let Some(place) = field_if(directory, marks, *class, name, desc) {
@@ -228,7 +228,7 @@ fn field_in_turn(
 fn field_of_few(directory: &Directory<'_>, classes: &[u32], name: u32, desc: u32) -> Option<Place>
     requires below { AreBelow (length directory.now.program) classes.now }
     requires few { length directory.now.program ≤ 8192 }
-    ensures { (n d : List ℕ) → AreTexts directory.now name desc n d → TellsField directory.now.program result (first_some (field_found directory.now.program n (desc_in d)) classes.now) }
+    ensures { (n d : List ℕ) → AreTexts directory.now name desc n d → SaysField directory.now.program result (first_some (field_found directory.now.program n (desc_in d)) classes.now) }
 {
     let rows = directory.fields_of(name, desc);
     if rows.is_empty() {
@@ -252,7 +252,7 @@ fn field_among(
 ) -> Option<Place>
     requires below { AreBelow (length directory.now.program) classes.now }
     requires shared { HaveFieldMarks directory.now.program shared.now.fields.items }
-    ensures { (n d : List ℕ) → AreTexts directory.now name desc n d → TellsField directory.now.program result (first_some (field_found directory.now.program n (desc_in d)) classes.now) }
+    ensures { (n d : List ℕ) → AreTexts directory.now name desc n d → SaysField directory.now.program result (first_some (field_found directory.now.program n (desc_in d)) classes.now) }
 {
     if !is_worth_marking(directory, classes) {
         return field_in_turn(directory, None, classes, name, desc);
@@ -277,7 +277,7 @@ fn plain_method_above(
     requires there { class < length directory.now.program }
     requires above { AreAbove directory.now.program (lists_of above.now) }
     requires shared { HavePlainMarks directory.now.program shared.now.plain.items }
-    ensures { (n d : List ℕ) → AreTexts directory.now name desc n d → TellsMethod directory.now.program result (first_some (method_found directory.now.program is_plain n (desc_in d)) (numbers_above directory.now.program class)) }
+    ensures { (n d : List ℕ) → AreTexts directory.now name desc n d → SaysMethod directory.now.program result (first_some (method_found directory.now.program is_plain n (desc_in d)) (numbers_above directory.now.program class)) }
 {
     plain_method_among(directory, shared, &above[class as usize], name, desc)
 }
@@ -294,7 +294,7 @@ fn field_above(
     requires there { class < length directory.now.program }
     requires above { AreAbove directory.now.program (lists_of above.now) }
     requires shared { HaveFieldMarks directory.now.program shared.now.fields.items }
-    ensures { (n d : List ℕ) → AreTexts directory.now name desc n d → TellsField directory.now.program result (first_some (field_found directory.now.program n (desc_in d)) (class ∷ numbers_above directory.now.program class)) }
+    ensures { (n d : List ℕ) → AreTexts directory.now name desc n d → SaysField directory.now.program result (first_some (field_found directory.now.program n (desc_in d)) (class ∷ numbers_above directory.now.program class)) }
 {
     match field_in(directory, class, name, desc) {
         Some(place) => Some(place),
@@ -305,7 +305,7 @@ fn field_above(
 // Class by class, the first method of a class and its superclasses.
 fn method_up_by_class(directory: &Directory<'_>, class: u32, name: u32, desc: u32) -> Option<Place>
     requires { class < length directory.now.program }
-    ensures { (n d : List ℕ) → AreTexts directory.now name desc n d → TellsMethod directory.now.program result (first_some (method_found directory.now.program any_method n (desc_in d)) (numbers_up most_classes directory.now.program (Some class))) }
+    ensures { (n d : List ℕ) → AreTexts directory.now name desc n d → SaysMethod directory.now.program result (first_some (method_found directory.now.program any_method n (desc_in d)) (numbers_up most_classes directory.now.program (Some class))) }
 {
     let mut next = Some(class);
     for _ in 0..MOST_CLASSES {
@@ -322,7 +322,7 @@ fn method_up_by_class(directory: &Directory<'_>, class: u32, name: u32, desc: u3
 // where this one doesn't, it finds out nothing.
 fn method_near(directory: &Directory<'_>, class: u32, name: u32, desc: u32) -> Option<Option<Place>>
     requires { class < length directory.now.program }
-    ensures { IfSome result (λ place. (n d : List ℕ) → AreTexts directory.now name desc n d → TellsMethod directory.now.program place (first_some (method_found directory.now.program any_method n (desc_in d)) (numbers_up most_classes directory.now.program (Some class)))) }
+    ensures { IfSome result (λ place. (n d : List ℕ) → AreTexts directory.now name desc n d → SaysMethod directory.now.program place (first_some (method_found directory.now.program any_method n (desc_in d)) (numbers_up most_classes directory.now.program (Some class)))) }
 {
     let mut next = Some(class);
     for _ in 0..SHORT_WALK {
@@ -348,7 +348,7 @@ fn nearest_method(
     requires there { class < length directory.now.program }
     requires ranks { AreRanksOf directory.now.program ranks.now }
     requires known { HasRow (lists_of ranks.now.rows.items) class }
-    ensures { (n d : List ℕ) → AreTexts directory.now name desc n d → TellsMethod directory.now.program result (first_some (method_found directory.now.program any_method n (desc_in d)) (numbers_up most_classes directory.now.program (Some class))) }
+    ensures { (n d : List ℕ) → AreTexts directory.now name desc n d → SaysMethod directory.now.program result (first_some (method_found directory.now.program any_method n (desc_in d)) (numbers_up most_classes directory.now.program (Some class))) }
 {
     let rows = directory.methods_of(name, desc);
     if rows.len() > FEW_ROWS {
@@ -371,7 +371,7 @@ fn marked_method(
     requires ranks { AreRanksOf directory.now.program ranks.now }
     requires known { HasRow (lists_of ranks.now.rows.items) class }
     requires shared { HaveRankMarks directory.now.program ranks.now.ranks.items shared.now.declared.items }
-    ensures { IfSome result (λ place. (n d : List ℕ) → AreTexts directory.now name desc n d → TellsMethod directory.now.program place (first_some (method_found directory.now.program any_method n (desc_in d)) (numbers_up most_classes directory.now.program (Some class)))) }
+    ensures { IfSome result (λ place. (n d : List ℕ) → AreTexts directory.now name desc n d → SaysMethod directory.now.program place (first_some (method_found directory.now.program any_method n (desc_in d)) (numbers_up most_classes directory.now.program (Some class)))) }
 {
     let marks = shared.declared_marks(directory, ranks, name, desc)?;
     let near = ranks.nearest_marked(directory.classes(), class, marks)?;
@@ -394,17 +394,17 @@ fn method_up(
     requires there { class < length directory.now.program }
     requires ranks { AreRanksOf directory.now.program ranks.now }
     requires shared { HaveRankMarks directory.now.program ranks.now.ranks.items shared.now.declared.items }
-    ensures { (n d : List ℕ) → AreTexts directory.now name desc n d → TellsMethod directory.now.program result (first_some (method_found directory.now.program any_method n (desc_in d)) (numbers_up most_classes directory.now.program (Some class))) }
+    ensures { (n d : List ℕ) → AreTexts directory.now name desc n d → SaysMethod directory.now.program result (first_some (method_found directory.now.program any_method n (desc_in d)) (numbers_up most_classes directory.now.program (Some class))) }
 {
-    if let Some(told) = method_near(directory, class, name, desc) {
-        return told;
+    if let Some(reported) = method_near(directory, class, name, desc) {
+        return reported;
     }
     if !ranks.has_row(directory.classes(), class) {
         // Its superclasses go round, or there are too many classes for bits.
         return method_up_by_class(directory, class, name, desc);
     }
     match marked_method(directory, ranks, shared, class, name, desc) {
-        Some(told) => told,
+        Some(reported) => reported,
         None => nearest_method(directory, ranks, class, name, desc),
     }
 }
@@ -421,7 +421,7 @@ fn plain_method_by_class(
     requires there { class < length directory.now.program }
     requires above { AreAbove directory.now.program (lists_of above.now) }
     requires shared { HavePlainMarks directory.now.program shared.now.plain.items }
-    ensures { (n d : List ℕ) → AreTexts directory.now name desc n d → TellsMethod directory.now.program result
+    ensures { (n d : List ℕ) → AreTexts directory.now name desc n d → SaysMethod directory.now.program result
         (first_some (λ k. first_some (method_found directory.now.program is_plain n (desc_in d)) (numbers_above directory.now.program k)) (numbers_up most_classes directory.now.program (Some class))) }
 {
     let mut next = Some(class);
@@ -449,7 +449,7 @@ pub fn plain_method_up(
     requires above { AreAbove directory.now.program (lists_of above.now) }
     requires methods { AreMethodChains directory.now.program methods.now }
     requires shared { HavePlainMarks directory.now.program shared.now.plain.items }
-    ensures { (n d : List ℕ) → AreTexts directory.now name desc n d → TellsMethod directory.now.program result
+    ensures { (n d : List ℕ) → AreTexts directory.now name desc n d → SaysMethod directory.now.program result
         (first_some (λ k. first_some (method_found directory.now.program is_plain n (desc_in d)) (numbers_above directory.now.program k)) (numbers_up most_classes directory.now.program (Some class))) }
 {
     match methods.list_of(class) {
@@ -471,7 +471,7 @@ fn field_by_class(
     requires there { class < length directory.now.program }
     requires above { AreAbove directory.now.program (lists_of above.now) }
     requires shared { HaveFieldMarks directory.now.program shared.now.fields.items }
-    ensures { (n d : List ℕ) → AreTexts directory.now name desc n d → TellsField directory.now.program result
+    ensures { (n d : List ℕ) → AreTexts directory.now name desc n d → SaysField directory.now.program result
         (first_some (λ k. first_some (field_found directory.now.program n (desc_in d)) (k ∷ numbers_above directory.now.program k)) (numbers_up most_classes directory.now.program (Some class))) }
 {
     let mut next = Some(class);
@@ -499,7 +499,7 @@ pub fn field_up(
     requires above { AreAbove directory.now.program (lists_of above.now) }
     requires fields { AreFieldChains directory.now.program fields.now }
     requires shared { HaveFieldMarks directory.now.program shared.now.fields.items }
-    ensures { (n d : List ℕ) → AreTexts directory.now name desc n d → TellsField directory.now.program result
+    ensures { (n d : List ℕ) → AreTexts directory.now name desc n d → SaysField directory.now.program result
         (first_some (λ k. first_some (field_found directory.now.program n (desc_in d)) (k ∷ numbers_above directory.now.program k)) (numbers_up most_classes directory.now.program (Some class))) }
 {
     match fields.list_of(class) {
@@ -523,7 +523,7 @@ pub fn method_first(
     requires ranks { AreRanksOf directory.now.program ranks.now }
     requires there { class < length directory.now.program }
     requires shared { HaveRankMarks directory.now.program ranks.now.ranks.items shared.now.declared.items }
-    ensures { (n d : List ℕ) → AreTexts directory.now name desc n d → TellsMethod directory.now.program result (first_some (method_found directory.now.program any_method n (desc_in d))
+    ensures { (n d : List ℕ) → AreTexts directory.now name desc n d → SaysMethod directory.now.program result (first_some (method_found directory.now.program any_method n (desc_in d))
         (if is_interface (flags_of (slice_get directory.now.program class)) then class ∷ option_list object else numbers_up most_classes directory.now.program (Some class))) }
 {
     if flags_of(directory, class) & INTERFACE == 0 {

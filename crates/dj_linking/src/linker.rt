@@ -7,7 +7,7 @@ ghost use Rattle.dj_directory.specs.Calls.{IsCallTable};
 ghost use Rattle.dj_model.specs.trusted.Types.{object_name};
 ghost use Rattle.dj_model.specs.trusted.Linking.{FoundMethod, chain, is_among, is_subclass, member_class, select, special_method};
 ghost use Rattle.dj_declared.specs.trusted.Files.{desc_in};
-ghost use Rattle.dj_linking.specs.Numbers.{IsNamed, TellsMethod};
+ghost use Rattle.dj_linking.specs.Numbers.{IsNamed, SaysMethod};
 ghost use Rattle.dj_linking.specs.Numbered.{AreTexts};
 ghost use Rattle.dj_linking.specs.Linked.{Linked, prefix_of, class_name, resolved_method, resolved_field};
 
@@ -247,7 +247,7 @@ impl Linker {
         requires there { class < length self.now.program }
         requires described { IsDescriptor desc.now }
         ensures { (found : FoundMethod) → IsNamed self.now.program resolved found name.now (desc_in desc.now)
-            → TellsMethod self.now.program result (special_method self.now.program (class_name self.now.program class) found) }
+            → SaysMethod self.now.program result (special_method self.now.program (class_name self.now.program class) found) }
     {
         self.table.names_differ();
         if name != b"<init>".as_slice()
@@ -266,7 +266,7 @@ impl Linker {
         requires declared { resolved.class < length self.now.program }
         requires within { resolved.member < length (methods_at self.now.program resolved.class) }
         ensures { (found : FoundMethod) → method_there self.now.program resolved ≡ Some found
-            → TellsMethod self.now.program result (special_method self.now.program (class_name self.now.program class) found) }
+            → SaysMethod self.now.program result (special_method self.now.program (class_name self.now.program class) found) }
     {
         self.table.names_differ();
         let name = self.table.method_name(resolved.class, resolved.member);
@@ -292,7 +292,7 @@ impl Linker {
         requires within { resolved.member < length (methods_at self.now.program resolved.class) }
         requires class { IfSome class (λ k. k < length self.now.program) }
         ensures { (found : FoundMethod) (ty : Ty) → method_there self.now.program resolved ≡ Some found → class ≡ class_number self.now.program (member_class self.now.prefix ty)
-            → TellsMethod self.now.program result (select self.now.program self.now.prefix found ty) }
+            → SaysMethod self.now.program result (select self.now.program self.now.prefix found ty) }
     {
         selected_method(&self.table, resolved, class)
     }
@@ -304,7 +304,7 @@ impl Linker {
         requires within { resolved.member < length (methods_at self.now.program resolved.class) }
         requires class { IfSome class (λ k. k < length self.now.program) }
         ensures { (found : FoundMethod) (ty : Ty) → method_there self.now.program resolved ≡ Some found → class ≡ class_number self.now.program (member_class self.now.prefix ty)
-            → TellsMethod self.now.program result (select self.now.program self.now.prefix found ty) }
+            → SaysMethod self.now.program result (select self.now.program self.now.prefix found ty) }
     {
         selected_by(&self.table, &self.ranks, calls, resolved, class)
     }

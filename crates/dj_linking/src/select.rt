@@ -4,7 +4,7 @@ ghost use Rattle.dj_model.specs.trusted.Linking.{FoundMethod, is_plain, most_cla
 ghost use Rattle.dj_declared.specs.Members.{IsDescriptor};
 ghost use Rattle.dj_declared.specs.trusted.Files.{desc_in};
 ghost use Rattle.dj_classes.specs.Tables.{methods_at, method_there};
-ghost use Rattle.dj_linking.specs.Numbers.{TellsMethod, first_some, method_found, numbers_up};
+ghost use Rattle.dj_linking.specs.Numbers.{SaysMethod, first_some, method_found, numbers_up};
 
 use crate::find::{MOST_CLASSES, PRIVATE, plain_method_in};
 use dj_classes::{ClassTable, Place};
@@ -18,7 +18,7 @@ pub fn plain_method_from(
 ) -> Option<Place>
     requires there { IfSome class (λ k. k < length table.now) }
     requires described { IsDescriptor desc.now }
-    ensures { TellsMethod table.now result (first_some (method_found table.now is_plain name.now (desc_in desc.now)) (numbers_up most_classes table.now class)) }
+    ensures { SaysMethod table.now result (first_some (method_found table.now is_plain name.now (desc_in desc.now)) (numbers_up most_classes table.now class)) }
 {
     let mut next = class;
     for _ in 0..MOST_CLASSES {
@@ -37,7 +37,7 @@ fn taken_method(table: &ClassTable, resolved: Place, class: Option<u32>) -> Opti
     requires within { resolved.member < length (methods_at table.now resolved.class) }
     requires class { IfSome class (λ k. k < length table.now) }
     ensures { (found : FoundMethod) → method_there table.now resolved ≡ Some found
-        → TellsMethod table.now result (if is_private found.method.flags then Some found
+        → SaysMethod table.now result (if is_private found.method.flags then Some found
         else first_some (method_found table.now is_plain found.method.name found.method.desc) (numbers_up most_classes table.now class)) }
 {
     let Place { class: own, member } = resolved;
@@ -55,7 +55,7 @@ pub fn selected_method(table: &ClassTable, resolved: Place, class: Option<u32>) 
     requires within { resolved.member < length (methods_at table.now resolved.class) }
     requires class { IfSome class (λ k. k < length table.now) }
     ensures { (found : FoundMethod) → method_there table.now resolved ≡ Some found
-        → TellsMethod table.now result (with_body (if is_private found.method.flags then Some found
+        → SaysMethod table.now result (with_body (if is_private found.method.flags then Some found
         else first_some (method_found table.now is_plain found.method.name found.method.desc) (numbers_up most_classes table.now class))) }
 {
     let taken = taken_method(table, resolved, class)?;

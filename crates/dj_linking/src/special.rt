@@ -3,7 +3,7 @@ ghost use Rattle.dj_model.specs.trusted.Linking.{is_not_static, most_classes};
 ghost use Rattle.dj_declared.specs.Members.{IsDescriptor};
 ghost use Rattle.dj_declared.specs.trusted.Files.{desc_in};
 ghost use Rattle.dj_classes.specs.Tables.{super_number};
-ghost use Rattle.dj_linking.specs.Numbers.{TellsMethod, first_some, has, method_found, most_above, numbers_up};
+ghost use Rattle.dj_linking.specs.Numbers.{SaysMethod, first_some, has, method_found, most_above, numbers_up};
 ghost use Rattle.dj_linking.specs.Ranked.{AreRanksOf};
 
 use crate::find::STATIC;
@@ -17,7 +17,7 @@ const MOST_ABOVE: u64 = 4_294_967_295;
 fn instance_method_in(table: &ClassTable, class: u32, name: &[u8], desc: &[u8]) -> Option<Place>
     requires there { class < length table.now }
     requires described { IsDescriptor desc.now }
-    ensures { TellsMethod table.now result (method_found table.now is_not_static name.now (desc_in desc.now) class) }
+    ensures { SaysMethod table.now result (method_found table.now is_not_static name.now (desc_in desc.now) class) }
 {
     let member = table.method_named(class, name, desc)?;
     let flags = table.method_flags(class, member);
@@ -37,7 +37,7 @@ pub fn instance_method_above(
 ) -> Option<Place>
     requires there { class < length table.now }
     requires described { IsDescriptor desc.now }
-    ensures { TellsMethod table.now result (first_some (method_found table.now is_not_static name.now (desc_in desc.now)) (numbers_up most_above table.now (super_number table.now class))) }
+    ensures { SaysMethod table.now result (first_some (method_found table.now is_not_static name.now (desc_in desc.now)) (numbers_up most_above table.now (super_number table.now class))) }
 {
     let mut next = table.super_of(class);
     for _ in 0..MOST_ABOVE {

@@ -32,9 +32,9 @@ fit_natives ms codes are = subst (FitMethods (map library_method ms)) (sym are) 
   by [] = tt
   by (m ∷ ms) = (no_code_by m.native, by ms)
 
-none_told : (pool : List Constant) (ms : List LibraryMethod) → with_codes pool (map library_method ms) (map (option_map parts_of) (replicate (length ms) None)) ≡ map library_method ms
-none_told pool [] = refl
-none_told pool (m ∷ ms) = ap (λ (methods : List Method). library_method m ∷ methods) (none_told pool ms)
+none_reported : (pool : List Constant) (ms : List LibraryMethod) → with_codes pool (map library_method ms) (map (option_map parts_of) (replicate (length ms) None)) ≡ map library_method ms
+none_reported pool [] = refl
+none_reported pool (m ∷ ms) = ap (λ (methods : List Method). library_method m ∷ methods) (none_reported pool ms)
 
 module _ (c : LibraryClass) (p : ClassParts) (are : AreBareParts (length (map library_method c.methods)) 0 p) where
   codes_are : p.codes.items ≡ replicate (length c.methods) None
@@ -44,7 +44,7 @@ module _ (c : LibraryClass) (p : ClassParts) (are : AreBareParts (length (map li
   unfolding class_of_source
   library_stays =
       ap (λ (codes : List (Option MethodCode)). record (library_class c) { methods = with_codes p.pool (map library_method c.methods) (map (option_map parts_of) codes) }) codes_are
-      ∙ ap (λ (methods : List Method). record (library_class c) { methods = methods }) (none_told p.pool c.methods)
+      ∙ ap (λ (methods : List Method). record (library_class c) { methods = methods }) (none_reported p.pool c.methods)
 
   pub library_fits : FitClass (library_class c) p
   library_fits = record {

@@ -44,8 +44,8 @@ flags_bodiless m e =
 -- ---- methods that aren't faulty
 
 module _ (pool : List Constant) (m : MemberInfo) (sound : IsFaultyMethod pool m → ⊥) where
-  pub bodiless_told : codes_of pool m ≡ [] → is_bodiless m.flags ≡ true
-  bodiless_told none = by (is_bodiless m.flags) refl where
+  pub bodiless_reported : codes_of pool m ≡ [] → is_bodiless m.flags ≡ true
+  bodiless_reported none = by (is_bodiless m.flags) refl where
     by : (b : Bool) → is_bodiless m.flags ≡ b → b ≡ true
     by true e = refl
     by false e =
@@ -54,8 +54,8 @@ module _ (pool : List Constant) (m : MemberInfo) (sound : IsFaultyMethod pool m 
           (λ one. let no = ap length none in omega (arith, one, no)),
         )))
 
-  pub code_told : (body : List ℕ) → codes_of pool m ≡ body ∷ [] → is_bodiless m.flags ≡ false
-  code_told body one = by (is_bodiless m.flags) refl where
+  pub code_reported : (body : List ℕ) → codes_of pool m ≡ body ∷ [] → is_bodiless m.flags ≡ false
+  code_reported body one = by (is_bodiless m.flags) refl where
     by : (b : Bool) → is_bodiless m.flags ≡ b → b ≡ false
     by false e = refl
     by true e = absurd (sound (inr (inl (flags_bodiless m e, (λ none. let no : body ∷ [] ≡ [] = sym one ∙ none in absurd cc)))))

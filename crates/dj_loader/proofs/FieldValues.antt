@@ -40,18 +40,18 @@ module _ (pool : List Constant) (name : List ℕ) where
         by true e rest = absurd cc
         by false e rest = rest e
 
-bodies_told : (pool : List Constant) (bodies : List (List ℕ)) (body : List ℕ) → Some body ≡ slice_get bodies 0 → constant_of_bodies pool bodies ≡ Some (constant_of_body pool body)
-bodies_told pool [] body e = absurd cc
-bodies_told pool (b ∷ bodies) body e = ap (λ (x : List ℕ). Some (constant_of_body pool x)) (same_Some b body (sym e))
+bodies_reported : (pool : List Constant) (bodies : List (List ℕ)) (body : List ℕ) → Some body ≡ slice_get bodies 0 → constant_of_bodies pool bodies ≡ Some (constant_of_body pool body)
+bodies_reported pool [] body e = absurd cc
+bodies_reported pool (b ∷ bodies) body e = ap (λ (x : List ℕ). Some (constant_of_body pool x)) (same_Some b body (sym e))
 
-pub value_told : (pool : List Constant) (f : MemberInfo) (body : List ℕ) (value : programs.Constant) → Some body ≡ slice_get (values_of pool f) 0 → value ≡ constant_of_body pool body → Some value ≡ constant_in pool f
+pub value_reported : (pool : List Constant) (f : MemberInfo) (body : List ℕ) (value : programs.Constant) → Some body ≡ slice_get (values_of pool f) 0 → value ≡ constant_of_body pool body → Some value ≡ constant_in pool f
 unfolding constant_in
-value_told pool f body value e is = ap Some is ∙ sym (bodies_told pool (values_of pool f) body e)
+value_reported pool f body value e is = ap Some is ∙ sym (bodies_reported pool (values_of pool f) body e)
 
 none_of_none : (pool : List Constant) (bodies : List (List ℕ)) → None ≡ slice_get bodies 0 → constant_of_bodies pool bodies ≡ None
 none_of_none pool [] e = refl
 none_of_none pool (b ∷ bodies) e = absurd cc
 
-pub no_value_told : (pool : List Constant) (f : MemberInfo) → None ≡ slice_get (values_of pool f) 0 → None ≡ constant_in pool f
+pub no_value_reported : (pool : List Constant) (f : MemberInfo) → None ≡ slice_get (values_of pool f) 0 → None ≡ constant_in pool f
 unfolding constant_in
-no_value_told pool f e = sym (none_of_none pool (values_of pool f) e)
+no_value_reported pool f e = sym (none_of_none pool (values_of pool f) e)

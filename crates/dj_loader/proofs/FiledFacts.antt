@@ -16,7 +16,7 @@ use Rattle.dj_program.specs.trusted.Naming.{units_in}
 use Rattle.dj_program.specs.declared.code.MethodCode.{MethodCode}
 use Rattle.dj_image.specs.declared.parts.ClassParts.{ClassParts}
 use Rattle.dj_image.specs.declared.parts.FieldValue.TheVariants as values
-use Rattle.dj_loader.specs.Filed.{IsCodeFor, told_value, AreBareParts, AreOwners, ArePartsFor}
+use Rattle.dj_loader.specs.Filed.{IsCodeFor, reported_value, AreBareParts, AreOwners, ArePartsFor}
 use Rattle.dj_loader.specs.Parting.{IsTableOf}
 
 -- ---- code
@@ -29,20 +29,20 @@ bodiless : IsCodeFor [] (method 256) None × IsCodeFor [] (method 1025) None × 
 bodiless = (refl, refl, refl)
 
 code_left_out : IsCodeFor [] (method 9) None → ⊥
-code_left_out told = false≢true told
+code_left_out reported = false≢true reported
 
 code_of_native : (pool : List Constant) (code : MethodCode) → IsCodeFor pool (method 256) (Some code) → ⊥
-code_of_native pool code told = true≢false told.0
+code_of_native pool code reported = true≢false reported.0
 
 code_of_abstract : (pool : List Constant) (code : MethodCode) → IsCodeFor pool (method 1025) (Some code) → ⊥
-code_of_abstract pool code told = true≢false told.0
+code_of_abstract pool code reported = true≢false reported.0
 
 -- ---- values
 
-values_told : map (told_value (Utf8 (codes "s") ∷ [])) (None ∷ Some (values.Int (pos 5)) ∷ Some (values.Long (pos 5)) ∷ Some (values.Text 1) ∷ Some values.Unfit ∷ [])
+values_reported : map (reported_value (Utf8 (codes "s") ∷ [])) (None ∷ Some (values.Int (pos 5)) ∷ Some (values.Long (pos 5)) ∷ Some (values.Text 1) ∷ Some values.Unfit ∷ [])
     ≡ None ∷ Some (programs.Int (pos 5)) ∷ Some (programs.Long (pos 5)) ∷ Some (programs.Text (115 ∷ [])) ∷ Some programs.Unfit ∷ []
 unfolding units_in units_read unit_read long_read two_read
-values_told = refl
+values_reported = refl
 
 -- ---- classes that no file defines
 

@@ -26,7 +26,7 @@ use Rattle.dj_shape.specs.Pools.{ArePoolKinds}
 use Rattle.dj_image.specs.declared.parts.ClassParts.{ClassParts}
 use Rattle.dj_image.specs.Sources.{with_codes, with_values, class_of_source}
 use Rattle.dj_image.specs.Parts.{source_of, FitMethods, IsDescAt, FitClass}
-use Rattle.dj_loader.specs.Filed.{IsCodeFor, desc_index, told_value, AreFileParts}
+use Rattle.dj_loader.specs.Filed.{IsCodeFor, desc_index, reported_value, AreFileParts}
 use Rattle.dj_loader.proofs.Lists.{member_at_place, member_mapped, some_of_map}
 use Rattle.dj_loader.proofs.Sides.{place_mapped}
 
@@ -95,8 +95,8 @@ module _ (pool : List Constant) where
 pub class_with_parts : (c : ClassFile) (p : ClassParts) → AreFileParts c p → IsClassIn c (class_of_source (source_of (declared_class c) p))
 unfolding class_of_source declared_class
 class_with_parts c p are =
-    let fields : with_values (map (declared_field c.pool) c.fields) (map (told_value p.pool) p.values.items) ≡ map (field_in_file c.pool) c.fields =
-    ap (λ (pool : List Constant). with_values (map (declared_field c.pool) c.fields) (map (told_value pool) p.values.items)) are.pool
+    let fields : with_values (map (declared_field c.pool) c.fields) (map (reported_value p.pool) p.values.items) ≡ map (field_in_file c.pool) c.fields =
+    ap (λ (pool : List Constant). with_values (map (declared_field c.pool) c.fields) (map (reported_value pool) p.values.items)) are.pool
     ∙ ap (with_values (map (declared_field c.pool) c.fields)) are.values
     ∙ fields_with_values c.pool c.fields in
     record {
@@ -115,7 +115,7 @@ unfolding declared_class
 file_fits c p valid are = record {
   methods = fit_methods c.pool c.methods p.codes.items are.codes;
   fields =
-      (let a = length-map p.values.items (told_value c.pool) in
+      (let a = length-map p.values.items (reported_value c.pool) in
       let b = length-map c.fields (constant_in c.pool) in
       let d = length-map c.fields (declared_field c.pool) in
       let same = ap length are.values in

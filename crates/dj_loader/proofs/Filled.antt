@@ -17,7 +17,7 @@ use Rattle.dj_classes.proofs.Joins.{joined-append}
 use Rattle.dj_classes.proofs.Numbered.{class_at-at, class_number-rise}
 use Rattle.dj_program.specs.trusted.Programs.{AreSideBySide, IsClassIn, IsProgramIn}
 use Rattle.dj_loader.specs.Loads.{all_classes}
-use Rattle.dj_loader.proofs.Lists.{member_first, member_later, member_front, member_back, member_mapped, place_of_member, some_of_map}
+use Rattle.dj_loader.proofs.Lists.{member_first, member_later, member_prefix, member_back, member_mapped, place_of_member, some_of_map}
 use Rattle.dj_loader.proofs.Named.{name_there}
 use Rattle.dj_loader.proofs.Moved.{in_table}
 
@@ -117,7 +117,7 @@ module _ (table program : Program) (rise : RiseStrictly table) (names : map name
 
     class_of_file : (c : ClassFile) → Contains files c → IsClassIn c (in_program program (declared_class c))
     class_of_file c m =
-        let (k, at) = place_in_table (declared_class c) (member_front (map declared_class files) (map library_class library) (declared_class c) (member_mapped declared_class files c m)) in
+        let (k, at) = place_in_table (declared_class c) (member_prefix (map declared_class files) (map library_class library) (declared_class c) (member_mapped declared_class files c m)) in
         let (p, there) = there_too k (declared_class c) at in
         subst (IsClassIn c) (sym (found_there k (declared_class c) p at there)) (filled k c p m at there)
 

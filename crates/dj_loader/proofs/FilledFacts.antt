@@ -153,8 +153,8 @@ module _ (p q : ClassParts) where
 
   code_of_none : ArePartsOf (row ∷ []) (file_with (runs ∷ []) ∷ []) (table_of (file_with (runs ∷ []))) (p ∷ own ∷ []) → ⊥
   code_of_none are =
-      let told = are.filled 1 (file_with (runs ∷ [])) own (member_first (file_with (runs ∷ [])) []) refl refl in
-      by told.methods told.each where
+      let reported = are.filled 1 (file_with (runs ∷ [])) own (member_first (file_with (runs ∷ [])) []) refl refl in
+      by reported.methods reported.each where
         lacks : (method : Method) → IsMethodIn pool runs method → ⊥
         lacks method is = elim is.is_body [
           | inl bodiless ↦ false≢true bodiless.0
@@ -174,7 +174,7 @@ module _ (p q : ClassParts) where
   code_of_library : (code : MethodCode) → p.codes.items ≡ Some code ∷ [] → ArePartsOf (row ∷ []) (file ∷ []) (table_of file) (p ∷ own ∷ []) → ⊥
   unfolding class_of_source
   code_of_library code is are =
-      let told : first_runs (with_codes p.pool (library_class row).methods (map (option_map parts_of) p.codes.items)) ≡ false =
+      let reported : first_runs (with_codes p.pool (library_class row).methods (map (option_map parts_of) p.codes.items)) ≡ false =
       ap (λ (c : programs.Class). first_runs c.methods) (are.bare 0 row p (member_first row []) refl refl) in
       let here = ap (λ (cs : List (Option MethodCode)). first_runs (with_codes p.pool (library_class row).methods (map (option_map parts_of) cs))) (sym is) in
-      true≢false (here ∙ told)
+      true≢false (here ∙ reported)

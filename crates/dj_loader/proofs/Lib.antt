@@ -5,7 +5,7 @@ pub mod Upward
 pub mod Moved
 pub mod Filled
 pub mod Components
-pub mod Told
+pub mod Reported
 pub mod Sourced
 pub mod FieldValues
 pub mod Coded

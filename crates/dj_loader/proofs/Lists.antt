@@ -16,12 +16,12 @@ pub member_cases : {A : Type 0} (x : A) (xs : List A) (v : A) → Contains (x �
 member_cases x xs v (zero, h, e) = inl e
 member_cases x xs v (suc k, h, e) = inr (k, omega arith, e)
 
-pub member_front : {A : Type 0} (xs ys : List A) (v : A) → Contains xs v → Contains (xs ++ ys) v
-member_front [] ys v m = absurd (member_none v m)
-member_front (x ∷ xs) ys v m =
+pub member_prefix : {A : Type 0} (xs ys : List A) (v : A) → Contains xs v → Contains (xs ++ ys) v
+member_prefix [] ys v m = absurd (member_none v m)
+member_prefix (x ∷ xs) ys v m =
     elim (member_cases x xs v m) [
       | inl e ↦ subst (Contains (x ∷ xs ++ ys)) e (member_first x (xs ++ ys))
-      | inr later ↦ member_later x (xs ++ ys) v (member_front xs ys v later)
+      | inr later ↦ member_later x (xs ++ ys) v (member_prefix xs ys v later)
     ]
 
 pub member_back : {A : Type 0} (xs ys : List A) (v : A) → Contains ys v → Contains (xs ++ ys) v
@@ -34,7 +34,7 @@ member_of_either (x ∷ xs) ys v m =
     elim (member_cases x (xs ++ ys) v m) [
       | inl e ↦ inl (subst (Contains (x ∷ xs)) e (member_first x xs))
       | inr later ↦ elim (member_of_either xs ys v later) [
-        | inl front ↦ inl (member_later x xs v front)
+        | inl prefix ↦ inl (member_later x xs v prefix)
         | inr back ↦ inr back
       ]
     ]

@@ -57,18 +57,18 @@ module _ (all table : Program) (is : table ≡ joined all []) where
   acyclic_moved never name own = never name (ancestor_moved all table (in_table all table is) (out_of_table all table is) name own)
 
   pub refuses_lacking : Never (IsShared all) → (e : LoadError) → RefusesLacking table e → RefusesLoad all e
-  refuses_lacking differ (errors.Duplicate name) told = absurd told
-  refuses_lacking differ (errors.NoSuper name) told =
-      (differ, least_same (LacksAbove table) (LacksAbove all) (lacks_moved table all (out_of_table all table is) (in_table all table is)) (lacks_moved all table (in_table all table is) (out_of_table all table is)) name told)
-  refuses_lacking differ (errors.Cycle name) told = absurd told
-  refuses_lacking differ errors.Memory told = tt
+  refuses_lacking differ (errors.Duplicate name) reported = absurd reported
+  refuses_lacking differ (errors.NoSuper name) reported =
+      (differ, least_same (LacksAbove table) (LacksAbove all) (lacks_moved table all (out_of_table all table is) (in_table all table is)) (lacks_moved all table (in_table all table is) (out_of_table all table is)) name reported)
+  refuses_lacking differ (errors.Cycle name) reported = absurd reported
+  refuses_lacking differ errors.Memory reported = tt
 
   pub refuses_cycles : Never (IsShared all) → Never (LacksAbove table) → (e : LoadError) → RefusesCycles table e → RefusesLoad all e
-  refuses_cycles differ whole (errors.Duplicate name) told = absurd told
-  refuses_cycles differ whole (errors.NoSuper name) told = absurd told
-  refuses_cycles differ whole (errors.Cycle name) told =
-      (differ, whole_moved whole, least_same (IsOwnAncestor table) (IsOwnAncestor all) (ancestor_moved table all (out_of_table all table is) (in_table all table is)) (ancestor_moved all table (in_table all table is) (out_of_table all table is)) name told)
-  refuses_cycles differ whole errors.Memory told = tt
+  refuses_cycles differ whole (errors.Duplicate name) reported = absurd reported
+  refuses_cycles differ whole (errors.NoSuper name) reported = absurd reported
+  refuses_cycles differ whole (errors.Cycle name) reported =
+      (differ, whole_moved whole, least_same (IsOwnAncestor table) (IsOwnAncestor all) (ancestor_moved table all (out_of_table all table is) (in_table all table is)) (ancestor_moved all table (in_table all table is) (out_of_table all table is)) name reported)
+  refuses_cycles differ whole errors.Memory reported = tt
 
   pub is_loadable : Never (IsShared all) → Never (LacksAbove table) → Never (IsOwnAncestor table) → IsLoadable all
   is_loadable differ whole acyclic = record { differ = differ; whole = whole_moved whole; acyclic = acyclic_moved acyclic }

@@ -150,14 +150,14 @@ memory : RefusesLacking [] errors.Memory × RefusesCycles [] errors.Memory × Is
 memory = (tt, tt, refl)
 
 -- each refuses for its own cause alone
-lacking_tells_no_cycle : (name : Name) → RefusesLacking four (errors.Cycle name) → ⊥
-lacking_tells_no_cycle name refused = refused
+lacking_says_no_cycle : (name : Name) → RefusesLacking four (errors.Cycle name) → ⊥
+lacking_says_no_cycle name refused = refused
 
-lacking_tells_no_name_twice : (name : Name) → RefusesLacking four (errors.Duplicate name) → ⊥
-lacking_tells_no_name_twice name refused = refused
+lacking_says_no_name_twice : (name : Name) → RefusesLacking four (errors.Duplicate name) → ⊥
+lacking_says_no_name_twice name refused = refused
 
-cycles_tell_none_lacking : (name : Name) → RefusesCycles four (errors.NoSuper name) → ⊥
-cycles_tell_none_lacking name refused = refused
+cycles_say_none_lacking : (name : Name) → RefusesCycles four (errors.NoSuper name) → ⊥
+cycles_say_none_lacking name refused = refused
 
 not_memory : (name : Name) → IsMemory (errors.Cycle name) → ⊥
 not_memory name e = absurd cc
@@ -171,8 +171,8 @@ own_numbers = refl
 abbrev numbers : List ℕ
 numbers = 7 ∷ 7 ∷ 5 ∷ []
 
-numbers_told : map (has_number numbers 7) (0 ∷ 1 ∷ 2 ∷ 3 ∷ []) ≡ true ∷ true ∷ false ∷ false ∷ []
-numbers_told = refl
+numbers_reported : map (has_number numbers 7) (0 ∷ 1 ∷ 2 ∷ 3 ∷ []) ≡ true ∷ true ∷ false ∷ false ∷ []
+numbers_reported = refl
 
 -- 0 and 1 lead to each other, and 2 to 0
 abbrev edges : Edges

@@ -23,10 +23,10 @@ use Rattle.dj_image.specs.Parts.{source_of, FitClass, FitClasses}
 use Rattle.dj_loader.specs.Loads.{all_classes}
 use Rattle.dj_loader.specs.Parting.{IsTableOf, ArePartsOf}
 use Rattle.dj_loader.specs.Filed.{AreOwners, AreBareParts, AreFileParts, ArePartsFor, AreFirstParts}
-use Rattle.dj_loader.proofs.Lists.{member_front, member_of_either, member_mapped, member_at_place, place_of_member, of_map}
+use Rattle.dj_loader.proofs.Lists.{member_prefix, member_of_either, member_mapped, member_at_place, place_of_member, of_map}
 use Rattle.dj_loader.proofs.Named.{name_there, number_of_member}
 use Rattle.dj_loader.proofs.Moved.{rise_of_table, in_table, out_of_table}
-use Rattle.dj_loader.proofs.Sides.{place_in_front, place_behind, place_mapped}
+use Rattle.dj_loader.proofs.Sides.{place_in_prefix, place_behind, place_mapped}
 use Rattle.dj_loader.proofs.Files.{class_with_parts, file_fits}
 use Rattle.dj_loader.proofs.BareFacts.{library_fits, library_stays}
 
@@ -52,7 +52,7 @@ last_place : {A : Type 0} (xs : List A) (x y : A) (k : ℕ) → slice_get (xs ++
 last_place [] x y zero e = inr (refl, same_Some x y e)
 last_place [] x y (suc k) e = absurd cc
 last_place (z ∷ xs) x y zero e = inl e
-last_place (z ∷ xs) x y (suc k) e = elim (last_place xs x y k e) [ inl front ↦ inl front | inr (last, is) ↦ inr (ap suc last, is) ]
+last_place (z ∷ xs) x y (suc k) e = elim (last_place xs x y k e) [ inl prefix ↦ inl prefix | inr (last, is) ↦ inr (ap suc last, is) ]
 
 place_last : {A : Type 0} (xs : List A) (x : A) → slice_get (xs ++ x ∷ []) (length xs) ≡ Some x
 place_last [] x = refl
@@ -63,10 +63,10 @@ module _ (table : Program) (files : List ClassFile) (c : ClassFile) (owners : Li
   pub owners_kept : class_number table (this_name c) ≡ None → AreOwners table (files ++ c ∷ []) owners
   owners_kept none = record {
     count = own.count;
-    named = λ k place e. let (d, at, number) = own.named k place e in (d, place_in_front files (c ∷ []) place d at, number);
+    named = λ k place e. let (d, at, number) = own.named k place e in (d, place_in_prefix files (c ∷ []) place d at, number);
     each = λ k place d at number e.
         elim (last_place files c d place at) [
-          | inl front ↦ own.each k place d front number e
+          | inl prefix ↦ own.each k place d prefix number e
           | inr (last, is) ↦ (let same : class_number table (this_name c) ≡ Some k = ap (λ (f : ClassFile). class_number table (this_name f)) is ∙ number in absurd cc)
         ];
   }
@@ -91,13 +91,13 @@ module _ (table : Program) (files : List ClassFile) (c : ClassFile) (owners : Li
     named_by k place e (inl is) =
         let last : length files ≡ place = same_Some (length files) place (sym (here k is) ∙ e) in
         (c, ap (slice_get (files ++ c ∷ [])) (sym last) ∙ place_last files c, number ∙ ap Some (sym is))
-    named_by k place e (inr other) = let (d, at, is) = own.named k place (sym (there k other) ∙ e) in (d, place_in_front files (c ∷ []) place d at, is)
+    named_by k place e (inr other) = let (d, at, is) = own.named k place (sym (there k other) ∙ e) in (d, place_in_prefix files (c ∷ []) place d at, is)
 
     each_by : (k place : ℕ) (d : ClassFile) → slice_get (files ++ c ∷ []) place ≡ Some d → class_number table (this_name d) ≡ Some k → get_or more k None ≡ None → (k ≡ class) ⊎ (k ≢ class) → ⊥
     each_by k place d at is e (inl same) = let owner = here k same in absurd cc
     each_by k place d at is e (inr other) =
         elim (last_place files c d place at) [
-          | inl front ↦ own.each k place d front is (sym (there k other) ∙ e)
+          | inl prefix ↦ own.each k place d prefix is (sym (there k other) ∙ e)
           | inr (last, f) ↦ other (same_Some k class (sym is ∙ ap (λ (x : ClassFile). class_number table (this_name x)) (sym f) ∙ number))
         ]
 
@@ -126,7 +126,7 @@ one_more_part table files owners class parts more p first part are = subst (AreF
   many = (let many = first.many in let one = pushed parts p in omega (arith, many, one));
   each = λ k q at.
       elim (last_place parts p q k at) [
-        | inl front ↦ first.each k q front
+        | inl prefix ↦ first.each k q prefix
         | inr (last, is) ↦ subst (λ (x : ClassParts). ArePartsFor table files k (get_or owners k None) x) is
             (subst (λ (n : ℕ). ArePartsFor table files n (get_or owners n None) p) (sym (last ∙ first.many)) part)
       ];
@@ -180,7 +180,7 @@ module _ (library : Library) (files : List ClassFile) (table : Program) (of : Is
       of.loadable.differ c.name (record { first = i; other = j; apart = lt; one = name_there all i c at_c; two = name_there all j d at_d ∙ ap Some (sym same) })
 
   file_at : (v : ℕ) (c : ClassFile) → slice_get files v ≡ Some c → slice_get all v ≡ Some (declared_class c)
-  file_at v c at = place_in_front (map declared_class files) (map library_class library) v (declared_class c) (place_mapped declared_class files v c at)
+  file_at v c at = place_in_prefix (map declared_class files) (map library_class library) v (declared_class c) (place_mapped declared_class files v c at)
 
   library_at : (v : ℕ) (c : LibraryClass) → slice_get library v ≡ Some c → slice_get all (length files + v) ≡ Some (library_class c)
   library_at v c at =
@@ -191,7 +191,7 @@ module _ (library : Library) (files : List ClassFile) (table : Program) (of : Is
   file_number : (c : ClassFile) → Contains files c → (k : ℕ) × (slice_get table k ≡ Some (declared_class c)) × (class_number table (this_name c) ≡ Some k)
   file_number c m =
       number_of_member table rise (declared_class c) (this_name c)
-      (in_table all table of.is (declared_class c) (member_front (map declared_class files) (map library_class library) (declared_class c) (member_mapped declared_class files c m)))
+      (in_table all table of.is (declared_class c) (member_prefix (map declared_class files) (map library_class library) (declared_class c) (member_mapped declared_class files c m)))
       (declared_name c)
 
   file_there : (c : ClassFile) (k : ℕ) → Contains files c → class_number table (this_name c) ≡ Some k → slice_get table k ≡ Some (declared_class c)

@@ -26,9 +26,9 @@ use Rattle.dj_program.specs.trusted.Programs.{AreSideBySide}
 use Rattle.dj_program.specs.declared.code.MethodCode.{MethodCode}
 use Rattle.dj_shape.specs.declared.pool.ConstantKind.TheVariants as constants
 use Rattle.dj_shape.specs.Kept.{KeptKinds}
-use Rattle.dj_shape.specs.Pools.{call_at, TellsKind, ArePoolKinds}
+use Rattle.dj_shape.specs.Pools.{call_at, SaysKind, ArePoolKinds}
 use Rattle.dj_image.specs.declared.parts.ClassParts.{ClassParts}
-use Rattle.dj_loader.specs.Filed.{IsCodeFor, told_value, AreFileParts, AreBareParts, ArePartsFor, AreFirstParts}
+use Rattle.dj_loader.specs.Filed.{IsCodeFor, reported_value, AreFileParts, AreBareParts, ArePartsFor, AreFirstParts}
 use Rattle.dj_loader.specs.Loads.{methods_of, fields_of, AreFewMembers, above_names, StandsUnder, IsOwnAncestor, Never}
 use Rattle.dj_loader.specs.Parting.{IsTableOf, ArePartsOf}
 use Rattle.dj_loader.proofs.Lists.{member_first, member_none, member_cases}
@@ -107,28 +107,28 @@ one_too_many table = let e : 2 ≡ 1 = ap length table.is in omega (arith, e)
 
 -- none of classes that can't be loaded, nor of too many methods
 twice : (table : Program) → IsTableOf (row a ∷ row a ∷ []) [] table → ⊥
-twice table told = told.loadable.differ a (record { first = 0; other = 1; apart = omega arith; one = refl; two = refl })
+twice table reported = reported.loadable.differ a (record { first = 0; other = 1; apart = omega arith; one = refl; two = refl })
 
 abbrev under_b : LibraryClass
 under_b = record (row a) { superclass = Some b }
 
 lacking : (table : Program) → IsTableOf (under_b ∷ []) [] table → ⊥
-lacking table told = told.loadable.whole a (b, record { class = library_class under_b; there = member_first (library_class under_b) []; named = refl; listed = member_first b [] }, refl)
+lacking table reported = reported.loadable.whole a (b, record { class = library_class under_b; there = member_first (library_class under_b) []; named = refl; listed = member_first b [] }, refl)
 
 abbrev under_itself : LibraryClass
 under_itself = record (row a) { interfaces = a ∷ [] }
 
 cycle : (table : Program) → IsTableOf (under_itself ∷ []) [] table → ⊥
-cycle table told = told.loadable.acyclic a (0, record { class = library_class under_itself; there = member_first (library_class under_itself) []; named = refl; listed = member_first a [] })
+cycle table reported = reported.loadable.acyclic a (0, record { class = library_class under_itself; there = member_first (library_class under_itself) []; named = refl; listed = member_first a [] })
 
 abbrev many : LibraryMethod → ℕ → LibraryClass
 many m n = record (row a) { methods = replicate n m }
 
 too_many_methods : (m : LibraryMethod) (n : ℕ) (table : Program) → 2 ^ 32 ≤ n → IsTableOf (many m n ∷ []) [] table → ⊥
-too_many_methods m n table le told =
+too_many_methods m n table le reported =
     let all : length (flat_map methods_of (library_class (many m n) ∷ [])) ≡ n =
     ap length (append-nil (map library_method (replicate n m))) ∙ length-map (replicate n m) library_method ∙ length-replicate n m in
-    omega (arith, le, told.few.methods, all)
+    omega (arith, le, reported.few.methods, all)
 
 abbrev field : Field
 field = record { flags = 1; name = codes "x"; desc = described_as.Field (base_type bases.Int); constant = None }
@@ -155,15 +155,15 @@ nothing_kept = record { constants = []; calls = [] }
 
 no_descriptor : IsDescriptor [] → ⊥
 unfolding desc_in dims_read name_read class_read of_read type_read params_read field_read return_read method_read desc_read reads_class_name
-no_descriptor told = other_name [] (desc_text (desc_in [])) refl told.text_is
+no_descriptor reported = other_name [] (desc_text (desc_in [])) refl reported.text_is
 
-none_each : (index : ℕ) → TellsKind [] (named_at [] index) (get_or [] index constants.Other)
+none_each : (index : ℕ) → SaysKind [] (named_at [] index) (get_or [] index constants.Other)
 none_each zero = tt
 none_each (suc k) = tt
 
 none_called : (index : ℕ) → IsDescriptor (name_in [] index) → call_signature (desc_in (name_in [] index)) ≡ call_at [] index
-none_called zero told = absurd (no_descriptor told)
-none_called (suc k) told = absurd (no_descriptor told)
+none_called zero reported = absurd (no_descriptor reported)
+none_called (suc k) reported = absurd (no_descriptor reported)
 
 none_kept : ArePoolKinds [] nothing_kept
 none_kept = record { each = none_each; calls = none_called }
@@ -182,7 +182,7 @@ module _ (c : ClassFile) (p : ClassParts) where
     kinds = none_kept;
     codes = subst (λ (cs : List (Option MethodCode)). AreSideBySide (IsCodeFor []) (method 1025 5 ∷ method 256 6 ∷ []) cs) (sym codes_are) (refl, (refl, tt));
     descs = descs_are;
-    values = ap (map (told_value [])) values_are;
+    values = ap (map (reported_value [])) values_are;
   }
 
   -- not with the descriptors of others, with fewer codes, or with a value of no field
@@ -193,20 +193,20 @@ module _ (c : ClassFile) (p : ClassParts) where
 
   code_left_out : p.codes.items ≡ None ∷ [] → AreFileParts (file_of c) (parts_of p) → ⊥
   code_left_out is are =
-      let told : AreSideBySide (IsCodeFor []) (method 1025 5 ∷ method 256 6 ∷ []) (None ∷ []) =
+      let reported : AreSideBySide (IsCodeFor []) (method 1025 5 ∷ method 256 6 ∷ []) (None ∷ []) =
       subst (λ (cs : List (Option MethodCode)). AreSideBySide (IsCodeFor []) (method 1025 5 ∷ method 256 6 ∷ []) cs) is are.codes in
-      told.1
+      reported.1
 
   value_of_none : p.values.items ≡ None ∷ [] → AreFileParts (file_of c) (parts_of p) → ⊥
   value_of_none is are =
-      let e : 1 ≡ 0 = ap length (sym (ap (map (told_value [])) is) ∙ are.values) in
+      let e : 1 ≡ 0 = ap length (sym (ap (map (reported_value [])) is) ∙ are.values) in
       omega (arith, e)
 
   -- nor without the code of a method that has some
   no_code : p.codes.items ≡ None ∷ [] → AreFileParts (record (file_of c) { methods = method 9 5 ∷ [] }) (parts_of p) → ⊥
   no_code is are =
-      let told : AreSideBySide (IsCodeFor []) (method 9 5 ∷ []) (None ∷ []) = subst (λ (cs : List (Option MethodCode)). AreSideBySide (IsCodeFor []) (method 9 5 ∷ []) cs) is are.codes in
-      false≢true told.0
+      let reported : AreSideBySide (IsCodeFor []) (method 9 5 ∷ []) (None ∷ []) = subst (λ (cs : List (Option MethodCode)). AreSideBySide (IsCodeFor []) (method 9 5 ∷ []) cs) is are.codes in
+      false≢true reported.0
 
   -- nor with other constants, or with what is kept of others
   pool_left_out : AreFileParts (record (file_of c) { pool = Integer (pos 7) ∷ [] }) (parts_of p) → ⊥

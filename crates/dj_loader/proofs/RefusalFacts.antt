@@ -68,9 +68,9 @@ not_apart shared = one_name o (codes "o") shared
 
 -- ---- what stands above
 
-above_told : map above_names (o ∷ d ∷ e ∷ class (codes "x") (Some (codes "s")) (codes "i" ∷ codes "j" ∷ []) ∷ [])
+above_reported : map above_names (o ∷ d ∷ e ∷ class (codes "x") (Some (codes "s")) (codes "i" ∷ codes "j" ∷ []) ∷ [])
     ≡ [] ∷ (codes "y" ∷ []) ∷ (codes "z" ∷ []) ∷ (codes "s" ∷ codes "i" ∷ codes "j" ∷ []) ∷ []
-above_told = refl
+above_reported = refl
 
 whole : Never (LacksAbove (o ∷ []))
 whole name lacks =
@@ -152,8 +152,8 @@ lacking_refused = (
   record { such = superclass_lacks; least = λ other lacks. ap (λ (n : Name). is_name_before n (codes "d")) (sym (only_lacks other lacks)) },
 )
 
-absent_not_told : RefusesLoad (d ∷ []) (errors.NoSuper (codes "y")) → ⊥
-absent_not_told refused = other_name (codes "d") (codes "y") refl (only_lacks (codes "y") refused.1.such)
+absent_not_reported : RefusesLoad (d ∷ []) (errors.NoSuper (codes "y")) → ⊥
+absent_not_reported refused = other_name (codes "d") (codes "y") refl (only_lacks (codes "y") refused.1.such)
 
 twice_before_lacking : (name : Name) → RefusesLoad (o ∷ o ∷ d ∷ []) (errors.NoSuper name) → ⊥
 twice_before_lacking name refused = refused.0 (codes "o") (record { first = 0; other = 1; apart = omega arith; one = refl; two = refl })

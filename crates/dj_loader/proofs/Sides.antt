@@ -26,10 +26,10 @@ side_all {V} {A} {B} see Stand views i ys le each = subst (λ (vs : List V). Are
 
 -- ---- places
 
-pub place_in_front : {A : Type 0} (xs ys : List A) (k : ℕ) (v : A) → slice_get xs k ≡ Some v → slice_get (xs ++ ys) k ≡ Some v
-place_in_front [] ys k v e = absurd cc
-place_in_front (x ∷ xs) ys zero v e = e
-place_in_front (x ∷ xs) ys (suc k) v e = place_in_front xs ys k v e
+pub place_in_prefix : {A : Type 0} (xs ys : List A) (k : ℕ) (v : A) → slice_get xs k ≡ Some v → slice_get (xs ++ ys) k ≡ Some v
+place_in_prefix [] ys k v e = absurd cc
+place_in_prefix (x ∷ xs) ys zero v e = e
+place_in_prefix (x ∷ xs) ys (suc k) v e = place_in_prefix xs ys k v e
 
 pub place_behind : {A : Type 0} (xs ys : List A) (k : ℕ) (v : A) → slice_get ys k ≡ Some v → slice_get (xs ++ ys) (length xs + k) ≡ Some v
 place_behind [] ys k v e = ap (slice_get ys) (zero-add k) ∙ e

@@ -13,7 +13,7 @@ use Rattle.dj_classes.proofs.Numbered.{name_at-number, class_number-rise}
 use Rattle.dj_graph.specs.Graphs.{HasEdge, Reaches, Here, Along}
 use Rattle.dj_loader.specs.Loads.{above_names, StandsUnder, LacksAbove, StandsBelow, IsOwnAncestor}
 use Rattle.dj_loader.specs.Numbered.{above_numbers, edges_in, IsOnCycle, IsLacking}
-use Rattle.dj_loader.proofs.Lists.{member_first, member_later, member_none, member_cases, member_front, member_back, member_of_either, place_of_member, member_at_place}
+use Rattle.dj_loader.proofs.Lists.{member_first, member_later, member_none, member_cases, member_prefix, member_back, member_of_either, place_of_member, member_at_place}
 use Rattle.dj_loader.proofs.Named.{name_there, number_none, at_none_from_number, number_of_member, same_number}
 
 -- ---- tests of lists
@@ -40,7 +40,7 @@ number_among program (n ∷ names) name t m e =
     elim (member_cases n names name m) [
       | inl is ↦
           let here : option_list (class_number program n) ≡ t ∷ [] = ap option_list (ap (class_number program) is ∙ e) in
-          member_front (option_list (class_number program n)) (class_numbers program names) t (subst (λ (ts : List ℕ). Contains ts t) (sym here) (member_first t []))
+          member_prefix (option_list (class_number program n)) (class_numbers program names) t (subst (λ (ts : List ℕ). Contains ts t) (sym here) (member_first t []))
       | inr later ↦ member_back (option_list (class_number program n)) (class_numbers program names) t (number_among program names name t later e)
     ]
 
@@ -48,13 +48,13 @@ among_number : (program : Program) (names : List Name) (t : ℕ) → Contains (c
 among_number program [] t m = absurd (member_none t m)
 among_number program (n ∷ names) t m =
     elim (member_of_either (option_list (class_number program n)) (class_numbers program names) t m) [
-      | inl front ↦ (n, member_first n names, one_option (class_number program n) front)
+      | inl prefix ↦ (n, member_first n names, one_option (class_number program n) prefix)
       | inr back ↦ (let (name, own, e) = among_number program names t back in (name, member_later n names name own, e))
     ]
   where
     one_option : (o : Option ℕ) → Contains (option_list o) t → o ≡ Some t
-    one_option None front = absurd (member_none t front)
-    one_option (Some k) front = elim (member_cases k [] t front) [ inl e ↦ ap Some e | inr later ↦ absurd (member_none t later) ]
+    one_option None prefix = absurd (member_none t prefix)
+    one_option (Some k) prefix = elim (member_cases k [] t prefix) [ inl e ↦ ap Some e | inr later ↦ absurd (member_none t later) ]
 
 -- ---- edges
 

@@ -28,8 +28,8 @@ IsCodeFor pool m (Some code) = (is_bodiless m.flags ≡ false) × IsMethodCode p
 abbrev pub desc_index : MemberInfo → ℕ
 desc_index m = m.desc
 
-abbrev pub told_value : List Constant → Option FieldValue → Option programs.Constant
-told_value pool value = option_map (constant_of_value pool) value
+abbrev pub reported_value : List Constant → Option FieldValue → Option programs.Constant
+reported_value pool value = option_map (constant_of_value pool) value
 
 -- the parts of the class that a file defines
 pub record AreFileParts (c : ClassFile) (parts : ClassParts) : Type 0 where
@@ -37,7 +37,7 @@ pub record AreFileParts (c : ClassFile) (parts : ClassParts) : Type 0 where
   pub kinds : ArePoolKinds c.pool parts.kinds
   pub codes : AreSideBySide (IsCodeFor c.pool) c.methods parts.codes.items
   pub descs : parts.descs.items ≡ map desc_index c.methods
-  pub values : map (told_value c.pool) parts.values.items ≡ map (constant_in c.pool) c.fields
+  pub values : map (reported_value c.pool) parts.values.items ≡ map (constant_in c.pool) c.fields
 
 -- the parts of a class that no file defines, with this many members
 pub record AreBareParts (methods fields : ℕ) (parts : ClassParts) : Type 0 where

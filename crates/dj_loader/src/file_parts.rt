@@ -31,9 +31,9 @@ fn code_of(
     ensures memory { IfErr result IsMemory }
 {
     match code_of_method(alloc, pool, method)? {
-        dj_check::MethodCode::Faulty => unreachable!(),
-        dj_check::MethodCode::Bodiless => Ok(None),
-        dj_check::MethodCode::Whole(code) => Ok(Some(method_code(code))),
+        dj_check::MethodBody::Faulty => unreachable!(),
+        dj_check::MethodBody::Bodiless => Ok(None),
+        dj_check::MethodBody::Whole(code) => Ok(Some(method_code(code))),
     }
 }
 

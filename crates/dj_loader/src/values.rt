@@ -7,7 +7,7 @@ ghost use Rattle.dj_class.specs.Members.{member_of};
 ghost use Rattle.dj_check.specs.trusted.Attributes.{is_named, values_of};
 ghost use Rattle.dj_program.specs.trusted.Naming.{constant_by, constant_in, constant_of_body, value_index};
 ghost use Rattle.dj_image.specs.Parts.{constant_of_value};
-ghost use Rattle.dj_loader.specs.Filed.{told_value};
+ghost use Rattle.dj_loader.specs.Filed.{reported_value};
 ghost use Rattle.dj_loader.specs.Numbered.{IsMemory};
 
 use crate::error::LoadError;
@@ -74,9 +74,9 @@ fn value_of_body(pool: &Pool<'_>, body: &[u8]) -> FieldValue
 }
 
 // The value with which a field begins, where its file has one.
-#[tactic(auto, using(crate::proofs::FieldValues::no_value_told))]
+#[tactic(auto, using(crate::proofs::FieldValues::no_value_reported))]
 fn value_of(pool: &Pool<'_>, field: &MemberView<'_>) -> Option<FieldValue>
-    ensures { told_value pool.now result ≡ constant_in pool.now (member_of field.now) }
+    ensures { reported_value pool.now result ≡ constant_in pool.now (member_of field.now) }
 {
     match value_body(pool, field) {
         Some(body) => Some(value_of_body(pool, body)),
@@ -90,7 +90,7 @@ pub fn values_of(
     pool: &Pool<'_>,
     fields: &[MemberView<'_>],
 ) -> Result<Vec<Option<FieldValue>>, LoadError>
-    ensures values { IfOk result (λ values. map (told_value pool.now) values.items ≡ map (constant_in pool.now) (map member_of fields.now)) }
+    ensures values { IfOk result (λ values. map (reported_value pool.now) values.items ≡ map (constant_in pool.now) (map member_of fields.now)) }
     ensures memory { IfErr result IsMemory }
 {
     let mut values = Vec::new(alloc);

@@ -24,10 +24,10 @@ use Rattle.dj_types.specs.Members.{IsMethodThere}
 use Rattle.dj_image.specs.Imaged.{Imaged, program_of, typed_of}
 use Rattle.dj_image_rules.specs.Rules.{HasKinds, IsSpelled}
 
-front_get : {A : Type 0} (xs ys : List A) (k : ℕ) (x : A) → slice_get xs k ≡ Some x → slice_get (xs ++ ys) k ≡ Some x
-front_get [] ys k x e = absurd cc
-front_get (y ∷ xs) ys zero x e = e
-front_get (y ∷ xs) ys (suc k) x e = front_get xs ys k x e
+prefix_get : {A : Type 0} (xs ys : List A) (k : ℕ) (x : A) → slice_get xs k ≡ Some x → slice_get (xs ++ ys) k ≡ Some x
+prefix_get [] ys k x e = absurd cc
+prefix_get (y ∷ xs) ys zero x e = e
+prefix_get (y ∷ xs) ys (suc k) x e = prefix_get xs ys k x e
 
 -- what takes and gives an array of bytes
 abbrev bytes_type : Ty
@@ -52,20 +52,20 @@ described_kinds static desc described =
     let is : bytes_desc ≡ desc = sym (desc_in_is (codes "([B)[B") bytes_desc bytes_described) ∙ desc_in_is (codes "([B)[B") desc described in
     subst (λ (d : Desc). IsTrue (is_some (signature_of static d))) is (bytes_kinds static)
 
-pub has_kinds : (imaged : Imaged) (method : ℕ) (told : MemberOf) → IsMethodThere (typed_of imaged) method told → told.desc.now ≡ codes "([B)[B" → HasKinds imaged method
-has_kinds imaged method told there text found at =
+pub has_kinds : (imaged : Imaged) (method : ℕ) (reported : MemberOf) → IsMethodThere (typed_of imaged) method reported → reported.desc.now ≡ codes "([B)[B" → HasKinds imaged method
+has_kinds imaged method reported there text found at =
     let same : there.found ≡ found = same_Some there.found found (sym there.there ∙ at) in
     let described : Describes (codes "([B)[B") there.found.method.desc = subst (λ (t : Name). Describes t there.found.method.desc) text there.desc in
     let kinds = described_kinds (is_static there.found.method.flags) there.found.method.desc described in
     subst (λ (f : FoundMethod). IsTrue (is_some (signature_of (is_static f.method.flags) f.method.desc))) same kinds
 
-pub is_spelled : (imaged : Imaged) (method : ℕ) (told : MemberOf) → IsMethodThere (typed_of imaged) method told
-    → ((name : Name) → slice_get (texts_of (typed_of imaged)) told.class ≡ Some name → IsModifiedUtf8 name) → IsSpelled imaged method
-is_spelled imaged method told there spelled found at =
+pub is_spelled : (imaged : Imaged) (method : ℕ) (reported : MemberOf) → IsMethodThere (typed_of imaged) method reported
+    → ((name : Name) → slice_get (texts_of (typed_of imaged)) reported.class ≡ Some name → IsModifiedUtf8 name) → IsSpelled imaged method
+is_spelled imaged method reported there spelled found at =
     let same : there.found ≡ found = same_Some there.found found (sym there.there ∙ at) in
-    let named : slice_get (map name_of (program_of imaged)) told.class ≡ Some there.found.class = slice_get-map name_of (program_of imaged) told.class ∙ there.class in
+    let named : slice_get (map name_of (program_of imaged)) reported.class ≡ Some there.found.class = slice_get-map name_of (program_of imaged) reported.class ∙ there.class in
     subst (λ (f : FoundMethod). IsModifiedUtf8 f.class) same
-    (spelled there.found.class (front_get (map name_of (program_of imaged)) (map type_text imaged.arrays) told.class there.found.class named))
+    (spelled there.found.class (prefix_get (map name_of (program_of imaged)) (map type_text imaged.arrays) reported.class there.found.class named))
 
 -- a class file without a faulty part doesn't violate rule 1
 pub whole_file : (bytes : List ℕ) (c : ClassFile) → IsClassFile bytes c → (IsFaulty c → ⊥) → IsRefused bytes → ⊥

@@ -9,20 +9,20 @@ use Rattle.dj_program.specs.Views.{parts_of}
 use Rattle.dj_image.specs.declared.image.Body as bodies
 use Rattle.dj_image.specs.declared.image.Body.TheVariants as variants
 use Rattle.dj_image.specs.Imaged.{Imaged}
-use Rattle.dj_image.specs.Codes.{HasInstr, HasRange, TellsBody, IsBodyAt}
+use Rattle.dj_image.specs.Codes.{HasInstr, HasRange, SaysBody, IsBodyAt}
 use Rattle.dj_loader_tests.specs.Members.{HasCode}
 
-by_body : (imaged : Imaged) (method : ℕ) (body : programs.Body) (code : Bor MethodCode) → TellsBody imaged method body (variants.Code code) → HasCode imaged method code.now
-by_body imaged method Abstract code told = absurd told
-by_body imaged method (Native id) code told = absurd told
-by_body imaged method (Runs run) code told = record {
-  pooled = record { pool = told.0; parts = parts_of code.now };
-  own = told.1;
+by_body : (imaged : Imaged) (method : ℕ) (body : programs.Body) (code : Bor MethodCode) → SaysBody imaged method body (variants.Code code) → HasCode imaged method code.now
+by_body imaged method Abstract code reported = absurd reported
+by_body imaged method (Native id) code reported = absurd reported
+by_body imaged method (Runs run) code reported = record {
+  pooled = record { pool = reported.0; parts = parts_of code.now };
+  own = reported.1;
   parts = refl;
 }
 
 pub has_code : (imaged : Imaged) (method : ℕ) (code : Bor MethodCode) → IsBodyAt imaged method (variants.Code code) → HasCode imaged method code.now
-has_code imaged method code body = by_body imaged method body.found.method.body code body.tells
+has_code imaged method code body = by_body imaged method body.found.method.body code body.says
 
 pub has_instr : (imaged : Imaged) (method number : ℕ) (code : MethodCode) → HasCode imaged method code → number < length code.code.code → HasInstr imaged method number
 has_instr imaged method number code has less = record {

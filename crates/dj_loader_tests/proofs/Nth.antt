@@ -49,8 +49,8 @@ field_place program class at less = by (slice_get program class) refl less where
       place_within fields_in program class at c there (omega (arith, within, many))
 
 -- a number that is given where there is such a place
-told_within : (at count before all n : ℕ) → (at < count → before + at < all) → Some n ≡ (if nat_lt at count then Some (before + at) else None) → n < all
-told_within at count before all n within told = by (nat_lt at count) refl told where
+reported_within : (at count before all n : ℕ) → (at < count → before + at < all) → Some n ≡ (if nat_lt at count then Some (before + at) else None) → n < all
+reported_within at count before all n within reported = by (nat_lt at count) refl reported where
   by : (b : Bool) → nat_lt at count ≡ b → Some n ≡ (if b then Some (before + at) else None) → n < all
   by true less same =
       let place : at < count = grind (arith, nat_tests) in
@@ -61,12 +61,12 @@ told_within at count before all n within told = by (nat_lt at count) refl told w
 
 pub nth_method : (program : Program) (class at : ℕ) (o : Option MethodId) → option_map number_of_method o ≡ (if nat_lt at (length (methods_at program class)) then Some (methods_before program class + at) else None)
     → IfSome o (λ (m : MethodId). m.number < length (all_methods program))
-nth_method program class at None told = tt
-nth_method program class at (Some m) told =
-    told_within at (length (methods_at program class)) (methods_before program class) (length (all_methods program)) m.number (method_place program class at) told
+nth_method program class at None reported = tt
+nth_method program class at (Some m) reported =
+    reported_within at (length (methods_at program class)) (methods_before program class) (length (all_methods program)) m.number (method_place program class at) reported
 
 pub nth_field : (program : Program) (class at : ℕ) (o : Option FieldId) → option_map number_of_field o ≡ (if nat_lt at (length (fields_at program class)) then Some (fields_before program class + at) else None)
     → IfSome o (λ (f : FieldId). f.number < length (all_fields program))
-nth_field program class at None told = tt
-nth_field program class at (Some f) told =
-    told_within at (length (fields_at program class)) (fields_before program class) (length (all_fields program)) f.number (field_place program class at) told
+nth_field program class at None reported = tt
+nth_field program class at (Some f) reported =
+    reported_within at (length (fields_at program class)) (fields_before program class) (length (all_fields program)) f.number (field_place program class at) reported

@@ -52,34 +52,34 @@ found_field_within program None n e = absurd cc
 found_field_within program (Some f) n e = field_within (all_fields program) f n e
 
 -- the same where that is known for descriptors alone, and for other texts that nothing is found
-pub told_method_within : (D : Type 0) (program : Program) (found : Option FoundMethod) (n : ℕ) → (D → Some n ≡ found_method_number program found) → ((D → ⊥) → Some n ≡ None)
+pub reported_method_within : (D : Type 0) (program : Program) (found : Option FoundMethod) (n : ℕ) → (D → Some n ≡ found_method_number program found) → ((D → ⊥) → Some n ≡ None)
     → n < length (all_methods program)
-told_method_within D program found n told other = elim (cases_lt n (length (all_methods program))) [
+reported_method_within D program found n reported other = elim (cases_lt n (length (all_methods program))) [
   | inl less ↦ less
-  | inr more ↦ absurd (none-some n (sym (other (λ d. let less = found_method_within program found n (sym (told d)) in omega (arith, less, more)))))
+  | inr more ↦ absurd (none-some n (sym (other (λ d. let less = found_method_within program found n (sym (reported d)) in omega (arith, less, more)))))
 ]
 
-pub told_field_within : (D : Type 0) (program : Program) (found : Option FoundField) (n : ℕ) → (D → Some n ≡ found_field_number program found) → ((D → ⊥) → Some n ≡ None)
+pub reported_field_within : (D : Type 0) (program : Program) (found : Option FoundField) (n : ℕ) → (D → Some n ≡ found_field_number program found) → ((D → ⊥) → Some n ≡ None)
     → n < length (all_fields program)
-told_field_within D program found n told other = elim (cases_lt n (length (all_fields program))) [
+reported_field_within D program found n reported other = elim (cases_lt n (length (all_fields program))) [
   | inl less ↦ less
-  | inr more ↦ absurd (none-some n (sym (other (λ d. let less = found_field_within program found n (sym (told d)) in omega (arith, less, more)))))
+  | inr more ↦ absurd (none-some n (sym (other (λ d. let less = found_field_within program found n (sym (reported d)) in omega (arith, less, more)))))
 ]
 
 pub resolved_method_within : (D : Type 0) (program : Program) (found : Option FoundMethod) (o : Option MethodId) → (D → option_map number_of_method o ≡ found_method_number program found)
     → ((D → ⊥) → o ≡ None) → IfSome o (λ (m : MethodId). m.number < length (all_methods program))
-resolved_method_within D program found None told other = tt
-resolved_method_within D program found (Some m) told other = told_method_within D program found m.number told (λ none. absurd (none-some m (sym (other none))))
+resolved_method_within D program found None reported other = tt
+resolved_method_within D program found (Some m) reported other = reported_method_within D program found m.number reported (λ none. absurd (none-some m (sym (other none))))
 
 pub resolved_field_within : (D : Type 0) (program : Program) (found : Option FoundField) (o : Option FieldId) → (D → option_map number_of_field o ≡ found_field_number program found)
     → ((D → ⊥) → o ≡ None) → IfSome o (λ (f : FieldId). f.number < length (all_fields program))
-resolved_field_within D program found None told other = tt
-resolved_field_within D program found (Some f) told other = told_field_within D program found f.number told (λ none. absurd (none-some f (sym (other none))))
+resolved_field_within D program found None reported other = tt
+resolved_field_within D program found (Some f) reported other = reported_field_within D program found f.number reported (λ none. absurd (none-some f (sym (other none))))
 
 pub selected_within : (program : Program) (found : Option FoundMethod) (o : Option MethodId) → option_map number_of_method o ≡ found_method_number program found
     → IfSome o (λ (m : MethodId). m.number < length (all_methods program))
-selected_within program found None told = tt
-selected_within program found (Some m) told = found_method_within program found m.number (sym told)
+selected_within program found None reported = tt
+selected_within program found (Some m) reported = found_method_within program found m.number (sym reported)
 
 -- ---- classes
 

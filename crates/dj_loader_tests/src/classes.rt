@@ -2,7 +2,10 @@ ghost use Rattle.std.specs.Prelude.{◌<◌, length};
 ghost use Rattle.dj_types.specs.Typed.{types_of};
 ghost use Rattle.dj_image.specs.Imaged.{typed_of};
 
-use crate::answers::{told_bool, told_class, told_classes, told_field, told_method, told_number};
+use crate::answers::{
+    reported_bool, reported_class, reported_classes, reported_field, reported_method,
+    reported_number,
+};
 use crate::members::{class_of, field_at, field_count, method_at, resolved_field, resolved_method};
 use crate::set::{image, raw_image};
 use dj_image::Image;
@@ -386,7 +389,7 @@ fn number(image: &Image, class: u32, asked: &OfClass) -> Option<u32>
 }
 
 // The members that are answered.
-fn told_found(
+fn reported_found(
     alloc: Global,
     image: &Image,
     class: u32,
@@ -396,26 +399,26 @@ fn told_found(
 {
     match asked {
         OfClass::Field(name, desc) => {
-            told_field(alloc, image, resolved_field(image, class, name, desc))
+            reported_field(alloc, image, resolved_field(image, class, name, desc))
         }
         OfClass::Method(name, desc) => {
-            told_method(alloc, image, resolved_method(image, class, name, desc))
+            reported_method(alloc, image, resolved_method(image, class, name, desc))
         }
-        OfClass::FieldAt(at) => told_field(alloc, image, field_at(image, class, *at)),
-        OfClass::MethodAt(at) => told_method(alloc, image, method_at(image, class, *at)),
-        _ => told_number(alloc, number(image, class, asked)),
+        OfClass::FieldAt(at) => reported_field(alloc, image, field_at(image, class, *at)),
+        OfClass::MethodAt(at) => reported_method(alloc, image, method_at(image, class, *at)),
+        _ => reported_number(alloc, number(image, class, asked)),
     }
 }
 
-fn told(alloc: Global, image: &Image, class: u32, asked: &OfClass) -> Result<String, AllocError>
+fn reported(alloc: Global, image: &Image, class: u32, asked: &OfClass) -> Result<String, AllocError>
     requires { class < length (types_of (typed_of image.now)) }
 {
     match asked {
-        OfClass::Super => told_class(alloc, image, image.super_of(class)),
-        OfClass::Component => told_class(alloc, image, image.component(class)),
-        OfClass::Interfaces => told_classes(alloc, image, image.interfaces_of(class)),
-        OfClass::IsBelow(above) => told_bool(alloc, is_below(image, class, above)),
-        _ => told_found(alloc, image, class, asked),
+        OfClass::Super => reported_class(alloc, image, image.super_of(class)),
+        OfClass::Component => reported_class(alloc, image, image.component(class)),
+        OfClass::Interfaces => reported_classes(alloc, image, image.interfaces_of(class)),
+        OfClass::IsBelow(above) => reported_bool(alloc, is_below(image, class, above)),
+        _ => reported_found(alloc, image, class, asked),
     }
 }
 
@@ -428,8 +431,8 @@ fn is_below(image: &Image, class: u32, above: &str) -> Option<bool>
 
 fn is_answered(alloc: Global, image: &Image, row: &ClassRow) -> bool {
     match class_of(image, row.0) {
-        Some(class) => match told(alloc, image, class, &row.1) {
-            Ok(told) => told.as_str() == row.2,
+        Some(class) => match reported(alloc, image, class, &row.1) {
+            Ok(reported) => reported.as_str() == row.2,
             Err(_) => false,
         },
         None => false,

@@ -1,6 +1,6 @@
 ghost use Rattle.dj_loader_tests.specs.Members.{HasField};
 
-use crate::answers::{told_number, told_operand};
+use crate::answers::{reported_number, reported_operand};
 use crate::members::{Member, constant_of, own_field};
 use crate::set::image;
 use dj_image::{FieldId, Image};
@@ -41,20 +41,25 @@ const CONSTANTS: [FieldRow; 16] = [
     (("I", "k", "I"), OfField::Flags, "25"),
 ];
 
-fn told(alloc: Global, image: &Image, field: FieldId, asked: &OfField) -> Result<String, AllocError>
+fn reported(
+    alloc: Global,
+    image: &Image,
+    field: FieldId,
+    asked: &OfField,
+) -> Result<String, AllocError>
     requires { HasField image.now field }
 {
     match asked {
-        OfField::Place => told_number(alloc, Some(image.place(field))),
-        OfField::Constant => told_operand(alloc, image, constant_of(image, field)),
-        OfField::Flags => told_number(alloc, Some(image.field(field).flags as u32)),
+        OfField::Place => reported_number(alloc, Some(image.place(field))),
+        OfField::Constant => reported_operand(alloc, image, constant_of(image, field)),
+        OfField::Flags => reported_number(alloc, Some(image.field(field).flags as u32)),
     }
 }
 
 fn is_answered(alloc: Global, image: &Image, row: &FieldRow) -> bool {
     match own_field(image, row.0) {
-        Some(field) => match told(alloc, image, field, &row.1) {
-            Ok(told) => told.as_str() == row.2,
+        Some(field) => match reported(alloc, image, field, &row.1) {
+            Ok(reported) => reported.as_str() == row.2,
             Err(_) => false,
         },
         None => false,

@@ -39,7 +39,7 @@ const NAMES: [&str; 10] = [
 ];
 
 // The superclass of the first, what its elements are, and whether it is a subtype of the second.
-fn told<C: Classes>(classes: &C, a: u32, b: u32) -> (Option<u32>, Option<u32>, bool)
+fn reported<C: Classes>(classes: &C, a: u32, b: u32) -> (Option<u32>, Option<u32>, bool)
     requires first { a < length (C.types classes.now) }
     requires second { b < length (C.types classes.now) }
 {
@@ -67,10 +67,10 @@ fn alone<C: Classes>(classes: &C) -> (u32, u32, Option<u32>) {
     (classes.string(), classes.chars(), classes.stop())
 }
 
-fn is_told(image: &Image, pair: &Pair) -> Option<bool> {
+fn is_reported(image: &Image, pair: &Pair) -> Option<bool> {
     let a = class_of(image, pair.0)?;
     let b = class_of(image, pair.1)?;
-    let (above, component, below) = told(image, a, b);
+    let (above, component, below) = reported(image, a, b);
     Some(
         above == image.super_of(a)
             && component == image.component(a)
@@ -94,11 +94,11 @@ fn are_alone(image: &Image) -> bool {
 }
 
 #[test]
-fn told_to_any_caller(rt: HostRuntime) {
+fn reported_to_any_caller(rt: HostRuntime) {
     let image = image(rt.alloc());
     for pair in &PAIRS {
         assert!(rt;
-            matches!(&image, Some(image) if is_told(image, pair) == Some(true)),
+            matches!(&image, Some(image) if is_reported(image, pair) == Some(true)),
             "{pair:?}"
         );
     }

@@ -8,7 +8,7 @@ ghost use Rattle.dj_image.specs.Imaged.{typed_of};
 ghost use Rattle.dj_image_rules.specs.Rules.{HasKinds, IsSpelled};
 ghost use Rattle.dj_loader_tests.specs.Members.{HasMethod};
 
-use crate::answers::{told_name, told_number};
+use crate::answers::{reported_name, reported_number};
 use crate::members::own_method;
 use crate::programs::{
     CALLING, INT_RETURNED, NOP_LAST, NOTHING_RETURNED, ON_OBJECT, PACKAGED, RETURNING,
@@ -50,10 +50,10 @@ const LINKS: [Row; 5] = [
 ];
 
 // A path, a member, a number and a rule.
-fn told_violation(alloc: Global, violation: &Violation) -> Result<String, AllocError> {
-    let path = told_name(alloc, "", violation.path.as_slice())?;
-    let member = told_name(alloc, " ", violation.member.as_slice())?;
-    let number = told_number(alloc, violation.number)?;
+fn reported_violation(alloc: Global, violation: &Violation) -> Result<String, AllocError> {
+    let path = reported_name(alloc, "", violation.path.as_slice())?;
+    let member = reported_name(alloc, " ", violation.member.as_slice())?;
+    let number = reported_number(alloc, violation.number)?;
     format!(in alloc; "{path}{member} {number} {}", violation.rule)
 }
 
@@ -95,12 +95,12 @@ fn shape_of(alloc: Global, image: &Image, method: MethodId) -> Option<Option<Vio
     }
 }
 
-fn told_shape(alloc: Global, row: &Row) -> Option<String> {
+fn reported_shape(alloc: Global, row: &Row) -> Option<String> {
     let image = plain_image(alloc, &[row.0])?;
     let method = own_method(&image, (row.1, "verify", "([B)[B"))?;
     match shape_of(alloc, &image, method)? {
-        Some(violation) => told_violation(alloc, &violation).ok(),
-        None => told_number(alloc, None).ok(),
+        Some(violation) => reported_violation(alloc, &violation).ok(),
+        None => reported_number(alloc, None).ok(),
     }
 }
 
@@ -145,13 +145,13 @@ fn links_of_bytes(alloc: Global, image: &Image, bytes: &[u8]) -> Option<Violatio
     }
 }
 
-fn told_lines(alloc: Global, lines: &[Violation]) -> Result<String, AllocError> {
+fn reported_lines(alloc: Global, lines: &[Violation]) -> Result<String, AllocError> {
     let mut all = String::new(alloc);
     for line in lines {
         if !all.is_empty() {
             all.push_str("; ")?;
         }
-        all.push_str(told_violation(alloc, line)?.as_str())?;
+        all.push_str(reported_violation(alloc, line)?.as_str())?;
     }
     if all.is_empty() {
         all.push_str("-")?;
@@ -159,16 +159,16 @@ fn told_lines(alloc: Global, lines: &[Violation]) -> Result<String, AllocError> 
     Ok(all)
 }
 
-fn told_links(alloc: Global, row: &Row) -> Option<String> {
+fn reported_links(alloc: Global, row: &Row) -> Option<String> {
     let file = file_of(alloc, row.0)?;
     let image = plain_image(alloc, &[row.0])?;
     let lines = links_of_bytes(alloc, &image, file.as_slice())?;
-    told_lines(alloc, lines.as_slice()).ok()
+    reported_lines(alloc, lines.as_slice()).ok()
 }
 
-fn is_told(told: &Option<String>, row: &Row) -> bool {
-    match told {
-        Some(told) => told.as_str() == row.2,
+fn is_reported(reported: &Option<String>, row: &Row) -> bool {
+    match reported {
+        Some(reported) => reported.as_str() == row.2,
         None => false,
     }
 }
@@ -176,13 +176,21 @@ fn is_told(told: &Option<String>, row: &Row) -> bool {
 #[test]
 fn judged_by_shape(rt: HostRuntime) {
     for row in &SHAPES {
-        assert!(rt; is_told(&told_shape(rt.alloc(), row), row), "{}", row.2);
+        assert!(rt;
+            is_reported(&reported_shape(rt.alloc(), row), row),
+            "{}",
+            row.2
+        );
     }
 }
 
 #[test]
 fn judged_by_links(rt: HostRuntime) {
     for row in &LINKS {
-        assert!(rt; is_told(&told_links(rt.alloc(), row), row), "{}", row.2);
+        assert!(rt;
+            is_reported(&reported_links(rt.alloc(), row), row),
+            "{}",
+            row.2
+        );
     }
 }

@@ -1,4 +1,4 @@
-use crate::answers::told_name;
+use crate::answers::reported_name;
 use crate::programs::{
     F, L, LACKING_A, LONE_A, LONE_B, LONE_I, M, N, O, OBJECT, P, Q, RING_X, S, STOP, T, THREAD, U,
     V, W,
@@ -57,24 +57,24 @@ const ROWS: [Row; 32] = [
     ),
 ];
 
-fn told(alloc: Global, loaded: &Result<Image, LoadError>) -> Result<String, AllocError> {
+fn reported(alloc: Global, loaded: &Result<Image, LoadError>) -> Result<String, AllocError> {
     match loaded {
         Ok(image) => format!(in alloc; "Ok {}", image.class_count()),
-        Err(LoadError::Duplicate(name)) => told_name(alloc, "Duplicate ", name.as_slice()),
-        Err(LoadError::NoSuper(name)) => told_name(alloc, "NoSuper ", name.as_slice()),
-        Err(LoadError::Cycle(name)) => told_name(alloc, "Cycle ", name.as_slice()),
+        Err(LoadError::Duplicate(name)) => reported_name(alloc, "Duplicate ", name.as_slice()),
+        Err(LoadError::NoSuper(name)) => reported_name(alloc, "NoSuper ", name.as_slice()),
+        Err(LoadError::Cycle(name)) => reported_name(alloc, "Cycle ", name.as_slice()),
         Err(LoadError::Memory) => format!(in alloc; "Memory"),
     }
 }
 
 fn answer(alloc: Global, row: &Row) -> Option<String> {
     let loaded = load_texts(alloc, row.0, row.1)?;
-    told(alloc, &loaded).ok()
+    reported(alloc, &loaded).ok()
 }
 
 fn is_answered(alloc: Global, row: &Row) -> bool {
     match answer(alloc, row) {
-        Some(told) => told.as_str() == row.2,
+        Some(reported) => reported.as_str() == row.2,
         None => false,
     }
 }

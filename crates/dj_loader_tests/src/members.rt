@@ -49,8 +49,8 @@ pub fn field_at(image: &Image, class: u32, at: u32) -> Option<FieldId>
     image.field_at(class, at)
 }
 
-fn is_member(told: MemberOf<'_>, member: Member) -> bool {
-    told.name == member.1.as_bytes() && told.desc == member.2.as_bytes()
+fn is_member(reported: MemberOf<'_>, member: Member) -> bool {
+    reported.name == member.1.as_bytes() && reported.desc == member.2.as_bytes()
 }
 
 /// The method that a class declares.

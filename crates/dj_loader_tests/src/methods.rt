@@ -1,6 +1,8 @@
 ghost use Rattle.dj_loader_tests.specs.Members.{HasMethod};
 
-use crate::answers::{told_body, told_class, told_method, told_number, told_operand};
+use crate::answers::{
+    reported_body, reported_class, reported_method, reported_number, reported_operand,
+};
 use crate::members::{
     Member, caught_class, class_of, named_class, operand_of, own_method, selected_method,
 };
@@ -250,41 +252,51 @@ const NUMBERED: [MethodRow; 6] = [
 // With long texts members are looked up by numbers, and the others are found as before.
 const NUMBERED_TABLES: [&[MethodRow]; 4] = [&SELECTED, &BODIES, &NAMED, &NUMBERED];
 
-fn told_selected(alloc: Global, image: &Image, method: MethodId, receiver: &str) -> Option<String>
+fn reported_selected(
+    alloc: Global,
+    image: &Image,
+    method: MethodId,
+    receiver: &str,
+) -> Option<String>
     requires { HasMethod image.now method }
 {
     let class = class_of(image, receiver)?;
-    told_method(alloc, image, selected_method(image, method, class)).ok()
+    reported_method(alloc, image, selected_method(image, method, class)).ok()
 }
 
-fn told_operand_of(alloc: Global, image: &Image, method: MethodId, number: u32) -> Option<String>
+fn reported_operand_of(
+    alloc: Global,
+    image: &Image,
+    method: MethodId,
+    number: u32,
+) -> Option<String>
     requires { HasMethod image.now method }
 {
     let operand = operand_of(image, method, number)?;
-    told_operand(alloc, image, operand).ok()
+    reported_operand(alloc, image, operand).ok()
 }
 
-fn told(alloc: Global, image: &Image, method: MethodId, asked: &OfMethod) -> Option<String>
+fn reported(alloc: Global, image: &Image, method: MethodId, asked: &OfMethod) -> Option<String>
     requires { HasMethod image.now method }
 {
     match asked {
-        OfMethod::Body => told_body(alloc, image.body(method)).ok(),
-        OfMethod::Flags => told_number(alloc, Some(image.method(method).flags as u32)).ok(),
-        OfMethod::SelectedFor(receiver) => told_selected(alloc, image, method, receiver),
-        OfMethod::Operand(number) => told_operand_of(alloc, image, method, *number),
+        OfMethod::Body => reported_body(alloc, image.body(method)).ok(),
+        OfMethod::Flags => reported_number(alloc, Some(image.method(method).flags as u32)).ok(),
+        OfMethod::SelectedFor(receiver) => reported_selected(alloc, image, method, receiver),
+        OfMethod::Operand(number) => reported_operand_of(alloc, image, method, *number),
         OfMethod::Named(number) => {
-            told_class(alloc, image, named_class(image, method, *number)?).ok()
+            reported_class(alloc, image, named_class(image, method, *number)?).ok()
         }
         OfMethod::Caught(range) => {
-            told_class(alloc, image, caught_class(image, method, *range)?).ok()
+            reported_class(alloc, image, caught_class(image, method, *range)?).ok()
         }
     }
 }
 
 fn is_answered(alloc: Global, image: &Image, row: &MethodRow) -> bool {
     match own_method(image, row.0) {
-        Some(method) => match told(alloc, image, method, &row.1) {
-            Some(told) => told.as_str() == row.2,
+        Some(method) => match reported(alloc, image, method, &row.1) {
+            Some(reported) => reported.as_str() == row.2,
             None => false,
         },
         None => false,

@@ -7,7 +7,7 @@ ghost use Rattle.dj_loader_tests.specs.Sets.{IsSmallLibrary, IsSound};
 
 use crate::programs::{IMAGE, LONG_NAMED};
 use dj_asm::assemble;
-use dj_check::{MethodCode, RulesError, code_of_method};
+use dj_check::{MethodBody, RulesError, code_of_method};
 use dj_class::{ClassView, MemberView, read_class};
 use dj_library::{deterministic, raw};
 use dj_loader::{BaseNames, Image, LoadError, load};
@@ -76,9 +76,9 @@ fn is_faulty_method(
     ensures { IfOk result (λ faulty. IsTrue faulty ↔ IsFaultyMethod pool.now (member_of method.now)) }
 {
     match code_of_method(alloc, pool, method)? {
-        MethodCode::Faulty => Ok(true),
-        MethodCode::Bodiless => Ok(false),
-        MethodCode::Whole(_) => Ok(false),
+        MethodBody::Faulty => Ok(true),
+        MethodBody::Bodiless => Ok(false),
+        MethodBody::Whole(_) => Ok(false),
     }
 }
 

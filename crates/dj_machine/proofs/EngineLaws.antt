@@ -19,7 +19,7 @@ use Rattle.dj_machine.specs.declared.answer.RunAnswer.{RunAnswer}
 use Rattle.dj_machine.specs.declared.answer.RunAnswer.TheVariants as runs
 use Rattle.dj_machine.specs.declared.engine.Ending.{Ending}
 use Rattle.dj_machine.specs.declared.engine.EngineError.{EngineError}
-use Rattle.dj_machine.specs.Runs.{Nowhere, On, Over, Runs, goes_or_over, told_of}
+use Rattle.dj_machine.specs.Runs.{Nowhere, On, Over, Runs, goes_or_over, reported_of}
 use Rattle.dj_machine.specs.Engines.{IsEndAtStart, IsEndingOf, IsSpentOf, RunsOn, RunsPlainly, report_for, terms_for}
 
 -- ---- what the host gave
@@ -44,7 +44,7 @@ none_taken rest = omega arith
 abbrev report : Outcome → Costs → ℕ → ℕ → Report
 report outcome costs made taken = record { outcome = outcome; costs = costs; steps = made; taken = taken }
 
-report_over : (ran : Ran) (all left : List HostAnswer) (fuel made : ℕ) (outcome : Outcome) (account : Account) → told_of ran ≡ Over outcome made account left
+report_over : (ran : Ran) (all left : List HostAnswer) (fuel made : ℕ) (outcome : Outcome) (account : Account) → reported_of ran ≡ Over outcome made account left
     → report_of all fuel ran ≡ Some (report outcome account.costs made (length all - length left))
 report_over (Going s) all left fuel made outcome account e = absurd cc
 report_over (Finished o s n) all left fuel made outcome account e =
@@ -55,7 +55,7 @@ report_over (Finished o s n) all left fuel made outcome account e =
     ∙ ap (λ (x : List HostAnswer). Some (report outcome account.costs made (length all - length x))) d
 report_over NoStep all left fuel made outcome account e = absurd cc
 
-report_on : (ran : Ran) (all : List HostAnswer) (fuel : ℕ) (s : State) → told_of ran ≡ On s
+report_on : (ran : Ran) (all : List HostAnswer) (fuel : ℕ) (s : State) → reported_of ran ≡ On s
     → report_of all fuel ran ≡ Some (report (outcomes.OutOfSteps fuel) s.account.costs fuel (length all - length s.answers))
 report_on (Going t) all fuel s e =
     let a : t ≡ s = cc in ap (λ (x : State). Some (report (outcomes.OutOfSteps fuel) x.account.costs fuel (length all - length x.answers))) a
@@ -73,16 +73,16 @@ ended_on old new gave fuel made ending on is end = λ rest.
     ∙ ap (λ (c : Costs). Some (report ending.outcome c made (length gave))) (sym end.costs)
     ∙ ap (λ (n : ℕ). Some (report ending.outcome ending.costs n (length gave))) (sym end.steps)
 
-spent_told : (old new : Machined) (gave : List HostAnswer) (fuel : ℕ) → is_over old ≡ false → Runs old new gave fuel runs.Spent
+spent_reported : (old new : Machined) (gave : List HostAnswer) (fuel : ℕ) → is_over old ≡ false → Runs old new gave fuel runs.Spent
     → RunsOn old fuel gave (record { outcome = outcomes.OutOfSteps fuel; costs = new.state.account.costs; steps = fuel })
-spent_told old new gave fuel on is = λ rest.
+spent_reported old new gave fuel on is = λ rest.
     report_on (steps (program_of old.image) old.image.prefix (terms_of old) fuel (state_with (gave ++ rest) old)) (gave ++ rest) fuel (state_with rest new)
     (is.goes on is.answers.0 rest ∙ ap (λ (o : Option Outcome). goes_or_over o 0 (state_with rest new)) is.answers.1)
     ∙ ap (λ (n : ℕ). Some (report (outcomes.OutOfSteps fuel) new.state.account.costs fuel n)) (taken_is gave rest)
 
 pub spent_on : (old new : Machined) (gave : List HostAnswer) (fuel : ℕ) (ending : Ending) → is_over old ≡ false → Runs old new gave fuel runs.Spent → IsSpentOf new fuel ending
     → RunsOn old fuel gave ending
-spent_on old new gave fuel ending on is spent = subst (RunsOn old fuel gave) (sym spent) (spent_told old new gave fuel on is)
+spent_on old new gave fuel ending on is spent = subst (RunsOn old fuel gave) (sym spent) (spent_reported old new gave fuel on is)
 
 -- ---- from the start
 
@@ -118,7 +118,7 @@ on_at_start imaged entry input most limit m begins = let e = begins.failed in le
 
 -- ---- a run that ends at its start
 
-end_reported : (answer : Answer) (more : State → Ran) (all : List HostAnswer) (fuel : ℕ) (outcome : Outcome) → one.told_of answer ≡ one.Over outcome new_account all
+end_reported : (answer : Answer) (more : State → Ran) (all : List HostAnswer) (fuel : ℕ) (outcome : Outcome) → one.reported_of answer ≡ one.Over outcome new_account all
     → report_of all fuel (from_start more answer) ≡ Some (report outcome new_account.costs 0 (length all - length all))
 end_reported (Went s) more all fuel outcome e = absurd cc
 end_reported (Ended o s) more all fuel outcome e =

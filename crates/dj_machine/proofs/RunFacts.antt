@@ -13,7 +13,7 @@ use Rattle.dj_machine.specs.declared.answer.RunAnswer.{RunAnswer}
 use Rattle.dj_machine.specs.declared.answer.RunAnswer.TheVariants as runs
 use Rattle.dj_machine.specs.declared.engine.Ending.{Ending}
 use Rattle.dj_machine.specs.declared.engine.EngineError.TheVariants as errors
-use Rattle.dj_machine.specs.Runs.{IsAnswer, Nowhere, On, Over, Runs, goes_or_over, told_of}
+use Rattle.dj_machine.specs.Runs.{IsAnswer, Nowhere, On, Over, Runs, goes_or_over, reported_of}
 use Rattle.dj_machine.specs.trusted.Engines.{AddsRun}
 use Rattle.dj_machine.specs.Engines.{IsEndAtStart, report_for}
 
@@ -49,8 +49,8 @@ asks_nothing_after new is = let e : hosts.Word (pos 1) ∷ [] ≡ [] = (is.over 
 
 -- ---- what is reported
 
-tells : (told_of (Going state) ≡ On state) × (told_of (Finished outcomes.Link state 3) ≡ Over outcomes.Link 3 new_account []) × (told_of NoStep ≡ Nowhere)
-tells = (refl, refl, refl)
+says : (reported_of (Going state) ≡ On state) × (reported_of (Finished outcomes.Link state 3) ≡ Over outcomes.Link 3 new_account []) × (reported_of NoStep ≡ Nowhere)
+says = (refl, refl, refl)
 
 goes_is_not_over : goes_or_over None 0 state ≡ goes_or_over (Some outcomes.OkNull) 0 state → ⊥
 goes_is_not_over e = absurd cc

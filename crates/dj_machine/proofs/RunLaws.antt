@@ -13,24 +13,24 @@ use Rattle.dj_image.specs.Imaged.{Imaged, program_of}
 use Rattle.dj_step.specs.Answers as one
 use Rattle.dj_step.specs.declared.answers.StepAnswer.{StepAnswer}
 use Rattle.dj_step.specs.declared.answers.StepAnswer.TheVariants as answers
-use Rattle.dj_step.specs.Machines.{IsSameRun, Machined, Stays, Steps, is_over, machine_told, on_or_over, state_with, step_answer, terms_of}
+use Rattle.dj_step.specs.Machines.{IsSameRun, Machined, Stays, Steps, is_over, machine_reported, on_or_over, state_with, step_answer, terms_of}
 use Rattle.dj_machine.specs.declared.answer.RunAnswer.{RunAnswer}
 use Rattle.dj_machine.specs.declared.answer.RunAnswer.TheVariants as runs
-use Rattle.dj_machine.specs.Runs.{Goes, IsAnswer, Nowhere, On, Over, Runs, Told, goes_or_over, told_of}
+use Rattle.dj_machine.specs.Runs.{Goes, IsAnswer, Nowhere, On, Over, Runs, Reported, goes_or_over, reported_of}
 
 -- ---- what is reported after this many more steps
 
-abbrev more : ℕ → Told → Told
+abbrev more : ℕ → Reported → Reported
 more n (On s) = On s
 more n (Over outcome k account left) = Over outcome (n + k) account left
 more n Nowhere = Nowhere
 
-one_more_told : (ran : Ran) → told_of (one_more ran) ≡ more 1 (told_of ran)
-one_more_told (Going s) = refl
-one_more_told (Finished outcome s n) = let e : suc n ≡ 1 + n = omega arith in ap (λ (k : ℕ). Over outcome k s.account s.answers) e
-one_more_told NoStep = refl
+one_more_reported : (ran : Ran) → reported_of (one_more ran) ≡ more 1 (reported_of ran)
+one_more_reported (Going s) = refl
+one_more_reported (Finished outcome s n) = let e : suc n ≡ 1 + n = omega arith in ap (λ (k : ℕ). Over outcome k s.account s.answers) e
+one_more_reported NoStep = refl
 
-more_more : (n : ℕ) (told : Told) → more n (more 1 told) ≡ more (suc n) told
+more_more : (n : ℕ) (reported : Reported) → more n (more 1 reported) ≡ more (suc n) reported
 more_more n (On s) = refl
 more_more n (Over outcome k account left) = let e : n + (1 + k) ≡ suc n + k = omega arith in ap (λ (x : ℕ). Over outcome x account left) e
 more_more n Nowhere = refl
@@ -42,10 +42,10 @@ pub record IsSoFar (old now : Machined) (before after : List HostAnswer) (fuel m
   pub run : IsSameRun old now
   pub gave : after ≡ before ++ given_since before after
   pub quiet : AsksNothing (program_of old.image) → after ≡ before
-  pub told : (rest : List HostAnswer) → told_of (steps (program_of old.image) old.image.prefix (terms_of old) fuel (state_with (given_since before after ++ rest) old))
-      ≡ more made (told_of (steps (program_of old.image) old.image.prefix (terms_of old) (fuel - made) (state_with rest now)))
+  pub reported : (rest : List HostAnswer) → reported_of (steps (program_of old.image) old.image.prefix (terms_of old) fuel (state_with (given_since before after ++ rest) old))
+      ≡ more made (reported_of (steps (program_of old.image) old.image.prefix (terms_of old) (fuel - made) (state_with rest now)))
 
-zero_more : (told : Told) → more 0 told ≡ told
+zero_more : (reported : Reported) → more 0 reported ≡ reported
 zero_more (On s) = refl
 zero_more (Over outcome k account left) = let e : 0 + k ≡ k = omega arith in ap (λ (n : ℕ). Over outcome n account left) e
 zero_more Nowhere = refl
@@ -67,44 +67,44 @@ begins old before fuel on = record {
   run = record { image = refl; limit = refl; counting = refl };
   gave = sym (append_none before) ∙ ap (λ (g : List HostAnswer). before ++ g) (sym (given_none before));
   quiet = λ _. refl;
-  told = λ rest.
-      ap (λ (g : List HostAnswer). told_of (steps (program_of old.image) old.image.prefix (terms_of old) fuel (state_with (g ++ rest) old))) (given_none before)
-      ∙ sym (zero_more (told_of (steps (program_of old.image) old.image.prefix (terms_of old) fuel (state_with rest old))))
-      ∙ ap (λ (n : ℕ). more 0 (told_of (steps (program_of old.image) old.image.prefix (terms_of old) n (state_with rest old)))) (sym (minus_zero fuel));
+  reported = λ rest.
+      ap (λ (g : List HostAnswer). reported_of (steps (program_of old.image) old.image.prefix (terms_of old) fuel (state_with (g ++ rest) old))) (given_none before)
+      ∙ sym (zero_more (reported_of (steps (program_of old.image) old.image.prefix (terms_of old) fuel (state_with rest old))))
+      ∙ ap (λ (n : ℕ). more 0 (reported_of (steps (program_of old.image) old.image.prefix (terms_of old) n (state_with rest old)))) (sym (minus_zero fuel));
 }
 
 -- ---- one step more
 
-is_went : (answer : Answer) (s : State) → one.told_of answer ≡ one.On s → answer ≡ Went s
+is_went : (answer : Answer) (s : State) → one.reported_of answer ≡ one.On s → answer ≡ Went s
 is_went (Went t) s e = let f : t ≡ s = cc in ap Went f
 is_went (Ended outcome t) s e = absurd cc
 is_went IllFormed s e = absurd cc
 
-is_ended : (answer : Answer) (outcome : Outcome) (account : Account) (left : List HostAnswer) → one.told_of answer ≡ one.Over outcome account left
-    → told_of (then_steps (λ s. NoStep) answer) ≡ Over outcome 1 account left
+is_ended : (answer : Answer) (outcome : Outcome) (account : Account) (left : List HostAnswer) → one.reported_of answer ≡ one.Over outcome account left
+    → reported_of (then_steps (λ s. NoStep) answer) ≡ Over outcome 1 account left
 is_ended (Went t) outcome account left e = absurd cc
 is_ended (Ended other t) outcome account left e =
     let f : other ≡ outcome = cc in let g : t.account ≡ account = cc in let h : t.answers ≡ left = cc in
     ap (λ (o : Outcome). Over o 1 t.account t.answers) f ∙ ap (λ (a : Account). Over outcome 1 a t.answers) g ∙ ap (λ (l : List HostAnswer). Over outcome 1 account l) h
 is_ended IllFormed outcome account left e = absurd cc
 
-ended_alike : (other : State → Ran) (answer : Answer) (outcome : Outcome) (account : Account) (left : List HostAnswer) → one.told_of answer ≡ one.Over outcome account left
-    → told_of (then_steps other answer) ≡ Over outcome 1 account left
+ended_alike : (other : State → Ran) (answer : Answer) (outcome : Outcome) (account : Account) (left : List HostAnswer) → one.reported_of answer ≡ one.Over outcome account left
+    → reported_of (then_steps other answer) ≡ Over outcome 1 account left
 ended_alike other (Went t) outcome account left e = absurd cc
 ended_alike other (Ended o t) outcome account left e = is_ended (Ended o t) outcome account left e
 ended_alike other IllFormed outcome account left e = absurd cc
 
 module _ (program : Program) (prefix : Prefix) (terms : Terms) where
-  steps_on : (n : ℕ) (s t : State) → step program prefix terms s ≡ Went t → told_of (steps program prefix terms (suc n) s) ≡ more 1 (told_of (steps program prefix terms n t))
+  steps_on : (n : ℕ) (s t : State) → step program prefix terms s ≡ Went t → reported_of (steps program prefix terms (suc n) s) ≡ more 1 (reported_of (steps program prefix terms n t))
   unfolding steps
-  steps_on n s t e = ap (λ (a : Answer). told_of (then_steps (steps program prefix terms n) a)) e ∙ one_more_told (steps program prefix terms n t)
+  steps_on n s t e = ap (λ (a : Answer). reported_of (then_steps (steps program prefix terms n) a)) e ∙ one_more_reported (steps program prefix terms n t)
 
-  steps_end : (n : ℕ) (s : State) (outcome : Outcome) (account : Account) (left : List HostAnswer) → one.told_of (step program prefix terms s) ≡ one.Over outcome account left
-      → told_of (steps program prefix terms (suc n) s) ≡ Over outcome 1 account left
+  steps_end : (n : ℕ) (s : State) (outcome : Outcome) (account : Account) (left : List HostAnswer) → one.reported_of (step program prefix terms s) ≡ one.Over outcome account left
+      → reported_of (steps program prefix terms (suc n) s) ≡ Over outcome 1 account left
   unfolding steps
   steps_end n s outcome account left e = ended_alike (steps program prefix terms n) (step program prefix terms s) outcome account left e
 
-  no_steps : (s : State) → told_of (steps program prefix terms 0 s) ≡ On s
+  no_steps : (s : State) → reported_of (steps program prefix terms 0 s) ≡ On s
   unfolding steps
   no_steps s = refl
 
@@ -169,8 +169,8 @@ all_given before after next first second =
 
 -- ---- the loop
 
-abbrev run_told : Machined → ℕ → State → Told
-run_told m n s = told_of (steps (program_of m.image) m.image.prefix (terms_of m) n s)
+abbrev run_reported : Machined → ℕ → State → Reported
+run_reported m n s = reported_of (steps (program_of m.image) m.image.prefix (terms_of m) n s)
 
 same_step : (old now : Machined) → IsSameRun old now → (s : State)
     → step (program_of old.image) old.image.prefix (terms_of old) s ≡ step (program_of now.image) now.image.prefix (terms_of now) s
@@ -200,13 +200,13 @@ quiet_since so quiet asks = quiet (subst (λ (image : Imaged). AsksNothing (prog
 module _ (old now new : Machined) (before after next : List HostAnswer) (fuel made : ℕ) (so : IsSoFar old now before after fuel made)
     (gave : next ≡ after ++ given_since after next) where
   -- what is reported of the whole is reported of the rest from here
-  told_so : (rest : List HostAnswer) → made < fuel → run_told old fuel (state_with (given_since before next ++ rest) old)
-      ≡ more made (run_told old (suc (fuel - (made + 1))) (state_with (given_since after next ++ rest) now))
-  told_so rest lt =
-      ap (λ (l : List HostAnswer). run_told old fuel (state_with (l ++ rest) old)) (more_given before after next so.gave gave)
-      ∙ ap (λ (l : List HostAnswer). run_told old fuel (state_with l old)) (append_assoc (given_since before after) (given_since after next) rest)
-      ∙ so.told (given_since after next ++ rest)
-      ∙ ap (λ (n : ℕ). more made (run_told old n (state_with (given_since after next ++ rest) now))) (more_left fuel made lt)
+  reported_so : (rest : List HostAnswer) → made < fuel → run_reported old fuel (state_with (given_since before next ++ rest) old)
+      ≡ more made (run_reported old (suc (fuel - (made + 1))) (state_with (given_since after next ++ rest) now))
+  reported_so rest lt =
+      ap (λ (l : List HostAnswer). run_reported old fuel (state_with (l ++ rest) old)) (more_given before after next so.gave gave)
+      ∙ ap (λ (l : List HostAnswer). run_reported old fuel (state_with l old)) (append_assoc (given_since before after) (given_since after next) rest)
+      ∙ so.reported (given_since after next ++ rest)
+      ∙ ap (λ (n : ℕ). more made (run_reported old n (state_with (given_since after next ++ rest) now))) (more_left fuel made lt)
 
   pub went : (AsksNothing (program_of now.image) → next ≡ after) → made < fuel → Steps now new (given_since after next) answers.Went → IsSoFar old new before next fuel (made + 1)
   went quiet lt is = record {
@@ -214,30 +214,30 @@ module _ (old now new : Machined) (before after next : List HostAnswer) (fuel ma
     run = after_run old now new so.run is.run;
     gave = all_given before after next so.gave gave;
     quiet = quiet_since so quiet;
-    told = λ rest.
+    reported = λ rest.
         let on = is_on new (goes new is.answers) in
-        let e : one.told_of (step (program_of now.image) now.image.prefix (terms_of now) (state_with (given_since after next ++ rest) now)) ≡ one.On (state_with rest new) =
+        let e : one.reported_of (step (program_of now.image) now.image.prefix (terms_of now) (state_with (given_since after next ++ rest) now)) ≡ one.On (state_with rest new) =
         is.goes so.on on.0 rest ∙ ap (λ (o : Option Outcome). on_or_over o (state_with rest new)) on.1 in
-        told_so rest lt
+        reported_so rest lt
         ∙ ap (more made) (steps_on (program_of old.image) old.image.prefix (terms_of old) (fuel - (made + 1)) (state_with (given_since after next ++ rest) now) (state_with rest new)
         (same_step old now so.run (state_with (given_since after next ++ rest) now) ∙ is_went _ (state_with rest new) e))
-        ∙ more_more made (run_told old (fuel - (made + 1)) (state_with rest new))
-        ∙ ap (λ (n : ℕ). more n (run_told old (fuel - (made + 1)) (state_with rest new))) (suc_is made);
+        ∙ more_more made (run_reported old (fuel - (made + 1)) (state_with rest new))
+        ∙ ap (λ (n : ℕ). more n (run_reported old (fuel - (made + 1)) (state_with rest new))) (suc_is made);
   }
 
-  end_told : (outcome : Outcome) → new.failed ≡ false → new.outcome ≡ Some outcome → made < fuel → Steps now new (given_since after next) answers.Ended → (rest : List HostAnswer)
-      → run_told old fuel (state_with (given_since before next ++ rest) old) ≡ Over outcome (made + 1) new.state.account rest
-  end_told outcome failed is_so lt is rest =
-      let e : one.told_of (step (program_of now.image) now.image.prefix (terms_of now) (state_with (given_since after next ++ rest) now)) ≡ one.Over outcome new.state.account rest =
+  end_reported : (outcome : Outcome) → new.failed ≡ false → new.outcome ≡ Some outcome → made < fuel → Steps now new (given_since after next) answers.Ended → (rest : List HostAnswer)
+      → run_reported old fuel (state_with (given_since before next ++ rest) old) ≡ Over outcome (made + 1) new.state.account rest
+  end_reported outcome failed is_so lt is rest =
+      let e : one.reported_of (step (program_of now.image) now.image.prefix (terms_of now) (state_with (given_since after next ++ rest) now)) ≡ one.Over outcome new.state.account rest =
       is.goes so.on failed rest ∙ ap (λ (o : Option Outcome). on_or_over o (state_with rest new)) is_so in
-      told_so rest lt
+      reported_so rest lt
       ∙ ap (more made) (steps_end (program_of old.image) old.image.prefix (terms_of old) (fuel - (made + 1)) (state_with (given_since after next ++ rest) now) outcome new.state.account rest
-      (ap one.told_of (same_step old now so.run (state_with (given_since after next ++ rest) now)) ∙ e))
+      (ap one.reported_of (same_step old now so.run (state_with (given_since after next ++ rest) now)) ∙ e))
 
   ends_in : (outcome : Option Outcome) → new.outcome ≡ outcome → IsSome outcome → new.failed ≡ false → made < fuel → Steps now new (given_since after next) answers.Ended → (rest : List HostAnswer)
-      → run_told old fuel (state_with (given_since before next ++ rest) old) ≡ goes_or_over outcome (made + 1) (state_with rest new)
+      → run_reported old fuel (state_with (given_since before next ++ rest) old) ≡ goes_or_over outcome (made + 1) (state_with rest new)
   ends_in None is_so some failed lt is rest = absurd cc
-  ends_in (Some outcome) is_so some failed lt is rest = end_told outcome failed is_so lt is rest
+  ends_in (Some outcome) is_so some failed lt is rest = end_reported outcome failed is_so lt is rest
 
   pub ended : is_over old ≡ false → made < fuel → Steps now new (given_since after next) answers.Ended → Runs old new (given_since before next) fuel (runs.Ended (made + 1))
   ended on lt is =
@@ -258,8 +258,8 @@ spent old now before after fuel made on so past =
       run = so.run;
       over = λ over. absurd cc;
       goes = λ _ failed rest.
-          so.told rest
-          ∙ ap (λ (n : ℕ). more made (run_told old n (state_with rest now))) (none_left fuel made past)
+          so.reported rest
+          ∙ ap (λ (n : ℕ). more made (run_reported old n (state_with rest now))) (none_left fuel made past)
           ∙ ap (more made) (no_steps (program_of old.image) old.image.prefix (terms_of old) (state_with rest now))
           ∙ ap (λ (o : Option Outcome). goes_or_over o 0 (state_with rest now)) (sym at.1);
     }

@@ -10,19 +10,19 @@ use Rattle.dj_machine.specs.declared.answer.RunAnswer.{RunAnswer}
 use Rattle.dj_machine.specs.declared.answer.RunAnswer.TheVariants as runs
 
 -- what the steps of the model lead to: a state, or an outcome after n steps, with the account and the answers that are left
-pub data Told : Type 0 where
-  On : State → Told
-  Over : Outcome → ℕ → Account → List HostAnswer → Told
+pub data Reported : Type 0 where
+  On : State → Reported
+  Over : Outcome → ℕ → Account → List HostAnswer → Reported
   -- there is no such step
-  Nowhere : Told
+  Nowhere : Reported
 
-abbrev pub told_of : Ran → Told
-told_of (Going s) = On s
-told_of (Finished outcome s n) = Over outcome n s.account s.answers
-told_of NoStep = Nowhere
+abbrev pub reported_of : Ran → Reported
+reported_of (Going s) = On s
+reported_of (Finished outcome s n) = Over outcome n s.account s.answers
+reported_of NoStep = Nowhere
 
 -- the run goes on in this state, or it has ended with this outcome after n steps
-abbrev pub goes_or_over : Option Outcome → ℕ → State → Told
+abbrev pub goes_or_over : Option Outcome → ℕ → State → Reported
 goes_or_over None n s = On s
 goes_or_over (Some outcome) n s = Over outcome n s.account s.answers
 
@@ -40,7 +40,7 @@ steps_made answer = 0
 -- where the answers in gave come first, the machine goes where the model's steps go. Nothing is said of a machine that had no memory
 abbrev pub Goes : Machined → Machined → List HostAnswer → ℕ → RunAnswer → Type 0
 Goes old new gave fuel answer = new.failed ≡ false → (rest : List HostAnswer)
-    → told_of (steps (program_of old.image) old.image.prefix (terms_of old) fuel (state_with (gave ++ rest) old)) ≡ goes_or_over new.outcome (steps_made answer) (state_with rest new)
+    → reported_of (steps (program_of old.image) old.image.prefix (terms_of old) fuel (state_with (gave ++ rest) old)) ≡ goes_or_over new.outcome (steps_made answer) (state_with rest new)
 
 -- at most fuel steps were made, and none by a machine whose run was over
 pub record Runs (old new : Machined) (gave : List HostAnswer) (fuel : ℕ) (answer : RunAnswer) : Type 0 where

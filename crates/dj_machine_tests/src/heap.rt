@@ -92,7 +92,7 @@ fn is_read(heap: &Heap, step: &Step) -> bool {
     }
 }
 
-fn is_told(heap: &Heap, step: &Step) -> bool {
+fn is_reported(heap: &Heap, step: &Step) -> bool {
     match step {
         Step::Length(r, length) => has_object(heap, *r) && heap.length(*r) == *length,
         Step::ClassOf(r, class) => has_object(heap, *r) && heap.class_of(*r) == *class,
@@ -113,7 +113,7 @@ fn is_answered(heap: &mut Heap, step: &Step) -> bool {
         Step::Text(class, units, answer) => is_made(heap.text(*class, *units), *answer),
         Step::SetElement(r, at, value) => set_element(heap, *r, *at, *value),
         Step::SetField(r, at, bits) => set_field(heap, *r, *at, *bits),
-        _ => is_told(heap, step),
+        _ => is_reported(heap, step),
     }
 }
 

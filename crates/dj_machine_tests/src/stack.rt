@@ -136,7 +136,7 @@ fn are_taken(frames: &mut Frames, from: u16, to: u16) -> bool {
     true
 }
 
-fn is_told(frames: &Frames, call: &Call) -> bool {
+fn is_reported(frames: &Frames, call: &Call) -> bool {
     match call {
         Call::Depth(depth) => frames.depth() == *depth,
         Call::Spare(spare) => frames.spare() == *spare,
@@ -162,7 +162,7 @@ fn is_answered(frames: &mut Frames, call: &Call) -> bool {
         Call::Take(value) => is_taken(frames, *value),
         Call::TakeEach(from, to) => are_taken(frames, *from, *to),
         Call::Unwind(value) => is_unwound(frames, *value),
-        _ => is_told(frames, call),
+        _ => is_reported(frames, call),
     }
 }
 

@@ -26,7 +26,7 @@ abbrev pub part_with : Part → Heap Ty → List Value → Part
 part_with p heap operands = record p { heap = heap; operands = operands }
 
 module _ (program : Program) (prefix : Prefix) (types : List Ty) (has : ℕ → Bool) (declaring : Name) (heap : Heap ℕ)
-    (tells : (r class : ℕ) (fields : List ℕ) → object_at heap.objects r ≡ Some (Instance class fields) → has class ≡ is_among (chain program (member_class prefix (type_at types class))) declaring) where
+    (says : (r class : ℕ) (fields : List ℕ) → object_at heap.objects r ≡ Some (Instance class fields) → has class ≡ is_among (chain program (member_class prefix (type_at types class))) declaring) where
   abbrev model_holder : Holder → model.Holder
   model_holder Null = model.NullHolder
   model_holder NoHolder = model.NoHolder
@@ -43,7 +43,7 @@ module _ (program : Program) (prefix : Prefix) (types : List Ty) (has : ℕ → 
   in_object true r o there = refl
   in_object false r None there = refl
   in_object false r (Some (Instance class fields)) there =
-      ap (λ (b : Bool). if b then model.Holds (type_at types class) fields else model.NoHolder) (sym (tells r class fields there)) ∙ if_held (has class) class fields
+      ap (λ (b : Bool). if b then model.Holds (type_at types class) fields else model.NoHolder) (sym (says r class fields there)) ∙ if_held (has class) class fields
   in_object false r (Some (Array class element contents)) there = refl
   in_object false r (Some (Text class units)) there = refl
 
@@ -112,9 +112,9 @@ pub get_field_is : (program : Program) (prefix : Prefix) (types : List Ty) (has 
     → p.heap ≡ heap_map (type_at types) heap
     → model.get_field program prefix p (Some kind) (Some found) p.operands
     ≡ option_map (λ (e : OnHeap ℕ). heap_effect p (on_heap_map (type_at types) e)) (get_field_by has kind (place_of program found) heap p.operands)
-get_field_is program prefix types has found p heap kind tells e =
+get_field_is program prefix types has found p heap kind says e =
     ap (λ (q : Part). model.get_field program prefix q (Some kind) (Some found) p.operands) (sym (at_heap p (heap_map (type_at types) heap) e))
-    ∙ (get_mapped program prefix types has found.class heap tells found refl p kind p.operands
+    ∙ (get_mapped program prefix types has found.class heap says found refl p kind p.operands
     ∙ ap (λ (q : Part). option_map (λ (e : OnHeap ℕ). heap_effect q (on_heap_map (type_at types) e)) (get_field_by has kind (place_of program found) heap p.operands))
     (at_heap p (heap_map (type_at types) heap) e))
 
@@ -124,8 +124,8 @@ pub put_field_is : (program : Program) (prefix : Prefix) (types : List Ty) (has 
     → p.heap ≡ heap_map (type_at types) heap
     → model.put_field program prefix p (Some kind) (Some found) p.operands
     ≡ option_map (λ (e : OnHeap ℕ). heap_effect p (on_heap_map (type_at types) e)) (put_field_by has kind (place_of program found) heap p.operands)
-put_field_is program prefix types has found p heap kind tells e =
+put_field_is program prefix types has found p heap kind says e =
     ap (λ (q : Part). model.put_field program prefix q (Some kind) (Some found) p.operands) (sym (at_heap p (heap_map (type_at types) heap) e))
-    ∙ (put_mapped program prefix types has found.class heap tells found refl p kind p.operands
+    ∙ (put_mapped program prefix types has found.class heap says found refl p kind p.operands
     ∙ ap (λ (q : Part). option_map (λ (e : OnHeap ℕ). heap_effect q (on_heap_map (type_at types) e)) (put_field_by has kind (place_of program found) heap p.operands))
     (at_heap p (heap_map (type_at types) heap) e))

@@ -16,7 +16,7 @@ use Rattle.dj_effects.specs.declared.way.Flow.{Flow}
 use Rattle.dj_effects.specs.declared.way.Flow.TheVariants as goes
 use Rattle.dj_effects.proofs.ArrayFacts.{not_null}
 use Rattle.dj_members.specs.Numbering.{AreNumbered}
-use Rattle.dj_members.specs.Fields.{HasFields, Null, NoHolder, Holds, holder_in, holder_by, holder_told}
+use Rattle.dj_members.specs.Fields.{HasFields, Null, NoHolder, Holds, holder_in, holder_by, holder_reported}
 
 -- ---- classes in range
 
@@ -38,76 +38,76 @@ class_numbered count h r class all e = numbered_if (nat_eq r 0) count h.heap (r 
 
 -- ---- what a reference is
 
-pub null_holder : (has : ℕ → Bool) (h : LimitedHeap) (r : ℕ) → r ≡ 0 → Err (goes.Goes (ways.Raise raises.NullPointer)) ≡ holder_told (holder_by has h.heap r)
-null_holder has h r null = ap (λ (r : ℕ). holder_told (holder_by has h.heap r)) (sym null)
+pub null_holder : (has : ℕ → Bool) (h : LimitedHeap) (r : ℕ) → r ≡ 0 → Err (goes.Goes (ways.Raise raises.NullPointer)) ≡ holder_reported (holder_by has h.heap r)
+null_holder has h r null = ap (λ (r : ℕ). holder_reported (holder_by has h.heap r)) (sym null)
 
 at_object : (has : ℕ → Bool) (h : LimitedHeap) (r : ℕ) → (r ≡ 0 → ⊥) → holder_by has h.heap r ≡ holder_in has (object_in h r)
 at_object has h r some = ap (λ (b : Bool). if b then Null else holder_in has (object_in h r)) (not_null r some)
 
-pub past_holder : (has : ℕ → Bool) (h : LimitedHeap) (r : ℕ) → (r ≡ 0 → ⊥) → length h.heap.objects < r → Err goes.Link ≡ holder_told (holder_by has h.heap r)
+pub past_holder : (has : ℕ → Bool) (h : LimitedHeap) (r : ℕ) → (r ≡ 0 → ⊥) → length h.heap.objects < r → Err goes.Link ≡ holder_reported (holder_by has h.heap r)
 past_holder has h r some past =
     let past_end : slice_get h.heap.objects (r - 1) ≡ None = slice_get_past h.heap.objects (r - 1) (omega (arith, past)) in
     let none : object_in h r ≡ None = ap (λ (b : Bool). if b then None else slice_get h.heap.objects (r - 1)) (not_null r some) ∙ past_end in
-    ap (λ (o : Option (Object ℕ)). holder_told (holder_in has o)) (sym none) ∙ ap holder_told (sym (at_object has h r some))
+    ap (λ (o : Option (Object ℕ)). holder_reported (holder_in has o)) (sym none) ∙ ap holder_reported (sym (at_object has h r some))
 
-array_in : (has : ℕ → Bool) (o : Option (Object ℕ)) (element : Element) → option_map made_as o ≡ Some (made.Array element) → Err goes.Link ≡ holder_told (holder_in has o)
+array_in : (has : ℕ → Bool) (o : Option (Object ℕ)) (element : Element) → option_map made_as o ≡ Some (made.Array element) → Err goes.Link ≡ holder_reported (holder_in has o)
 array_in has None element kind = absurd cc
 array_in has (Some (Instance class fields)) element kind = absurd cc
 array_in has (Some (Array class of contents)) element kind = refl
 array_in has (Some (Text class units)) element kind = refl
 
-text_in : (has : ℕ → Bool) (o : Option (Object ℕ)) → option_map made_as o ≡ Some made.Text → Err goes.Link ≡ holder_told (holder_in has o)
+text_in : (has : ℕ → Bool) (o : Option (Object ℕ)) → option_map made_as o ≡ Some made.Text → Err goes.Link ≡ holder_reported (holder_in has o)
 text_in has None kind = absurd cc
 text_in has (Some (Instance class fields)) kind = absurd cc
 text_in has (Some (Array class of contents)) kind = refl
 text_in has (Some (Text class units)) kind = refl
 
 pub array_holder : (has : ℕ → Bool) (h : LimitedHeap) (r : ℕ) (element : Element) → (r ≡ 0 → ⊥) → option_map made_as (object_in h r) ≡ Some (made.Array element)
-    → Err goes.Link ≡ holder_told (holder_by has h.heap r)
-array_holder has h r element some kind = array_in has (object_in h r) element kind ∙ ap holder_told (sym (at_object has h r some))
+    → Err goes.Link ≡ holder_reported (holder_by has h.heap r)
+array_holder has h r element some kind = array_in has (object_in h r) element kind ∙ ap holder_reported (sym (at_object has h r some))
 
 pub text_holder : (has : ℕ → Bool) (h : LimitedHeap) (r : ℕ) → (r ≡ 0 → ⊥) → option_map made_as (object_in h r) ≡ Some made.Text
-    → Err goes.Link ≡ holder_told (holder_by has h.heap r)
-text_holder has h r some kind = text_in has (object_in h r) kind ∙ ap holder_told (sym (at_object has h r some))
+    → Err goes.Link ≡ holder_reported (holder_by has h.heap r)
+text_holder has h r some kind = text_in has (object_in h r) kind ∙ ap holder_reported (sym (at_object has h r some))
 
 -- the answer, by whether the class has the field
-abbrev told_if : Bool → ℕ → Result ℕ Flow
-told_if true count = Ok count
-told_if false count = Err goes.Link
+abbrev reported_if : Bool → ℕ → Result ℕ Flow
+reported_if true count = Ok count
+reported_if false count = Err goes.Link
 
-if_told : (b : Bool) (class : ℕ) (fields : List ℕ) → told_if b (length fields) ≡ holder_told (if b then Holds class fields else NoHolder)
-if_told true class fields = refl
-if_told false class fields = refl
+if_reported : (b : Bool) (class : ℕ) (fields : List ℕ) → reported_if b (length fields) ≡ holder_reported (if b then Holds class fields else NoHolder)
+if_reported true class fields = refl
+if_reported false class fields = refl
 
 instance_in : (has : ℕ → Bool) (o : Option (Object ℕ)) (class count : ℕ) → option_map made_as o ≡ Some made.Instance → option_map class_of o ≡ Some class
-    → option_map object_length o ≡ Some count → told_if (has class) count ≡ holder_told (holder_in has o)
+    → option_map object_length o ≡ Some count → reported_if (has class) count ≡ holder_reported (holder_in has o)
 instance_in has None class count kind of many = absurd cc
 instance_in has (Some (Instance k fields)) class count kind of many =
     let same : k ≡ class = cc in
     let long : length fields ≡ count = cc in
-    ap (λ (k : ℕ). told_if (has k) count) (sym same) ∙ (ap (told_if (has k)) (sym long) ∙ if_told (has k) k fields)
+    ap (λ (k : ℕ). reported_if (has k) count) (sym same) ∙ (ap (reported_if (has k)) (sym long) ∙ if_reported (has k) k fields)
 instance_in has (Some (Array k of' contents)) class count kind of many = absurd cc
 instance_in has (Some (Text k units)) class count kind of many = absurd cc
 
 pub instance_holder : (has : ℕ → Bool) (h : LimitedHeap) (r class count : ℕ) → (r ≡ 0 → ⊥) → option_map made_as (object_in h r) ≡ Some made.Instance
     → option_map class_of (object_in h r) ≡ Some class → option_map object_length (object_in h r) ≡ Some count → true ≡ has class
-    → Ok count ≡ holder_told (holder_by has h.heap r)
+    → Ok count ≡ holder_reported (holder_by has h.heap r)
 instance_holder has h r class count some kind of many held =
-    ap (λ (b : Bool). told_if b count) held ∙ (instance_in has (object_in h r) class count kind of many ∙ ap holder_told (sym (at_object has h r some)))
+    ap (λ (b : Bool). reported_if b count) held ∙ (instance_in has (object_in h r) class count kind of many ∙ ap holder_reported (sym (at_object has h r some)))
 
 -- without its fields counted
 other_in : (has : ℕ → Bool) (o : Option (Object ℕ)) (class : ℕ) → option_map made_as o ≡ Some made.Instance → option_map class_of o ≡ Some class
-    → false ≡ has class → Err goes.Link ≡ holder_told (holder_in has o)
+    → false ≡ has class → Err goes.Link ≡ holder_reported (holder_in has o)
 other_in has None class kind of held = absurd cc
 other_in has (Some (Instance k fields)) class kind of held =
     let same : k ≡ class = cc in
-    ap (λ (b : Bool). holder_told (if b then Holds k fields else NoHolder)) (held ∙ ap has (sym same))
+    ap (λ (b : Bool). holder_reported (if b then Holds k fields else NoHolder)) (held ∙ ap has (sym same))
 other_in has (Some (Array k of' contents)) class kind of held = absurd cc
 other_in has (Some (Text k units)) class kind of held = absurd cc
 
 pub other_holder : (has : ℕ → Bool) (h : LimitedHeap) (r class : ℕ) → (r ≡ 0 → ⊥) → option_map made_as (object_in h r) ≡ Some made.Instance
-    → option_map class_of (object_in h r) ≡ Some class → false ≡ has class → Err goes.Link ≡ holder_told (holder_by has h.heap r)
-other_holder has h r class some kind of held = other_in has (object_in h r) class kind of held ∙ ap holder_told (sym (at_object has h r some))
+    → option_map class_of (object_in h r) ≡ Some class → false ≡ has class → Err goes.Link ≡ holder_reported (holder_by has h.heap r)
+other_holder has h r class some kind of held = other_in has (object_in h r) class kind of held ∙ ap holder_reported (sym (at_object has h r some))
 
 fields_of : (heap : Heap ℕ) (r count : ℕ) (o : Option (Object ℕ)) → object_at heap.objects r ≡ o → option_map made_as o ≡ Some made.Instance
     → option_map object_length o ≡ Some count → HasFields heap r count
@@ -122,15 +122,15 @@ has_fields h r count kind many = fields_of h.heap r count (object_in h r) refl k
 
 -- ---- an instance that is found
 
-held_if : (b a : Bool) (class : ℕ) (fields : List ℕ) (count : ℕ) → Ok count ≡ holder_told (if b then Null else if a then Holds class fields else NoHolder)
+held_if : (b a : Bool) (class : ℕ) (fields : List ℕ) (count : ℕ) → Ok count ≡ holder_reported (if b then Null else if a then Holds class fields else NoHolder)
     → (if b then Null else if a then Holds class fields else NoHolder) ≡ Holds class fields
 held_if true a class fields count e = absurd cc
 held_if false false class fields count e = absurd cc
 held_if false true class fields count e = refl
 
-pub held : (has : ℕ → Bool) (heap : Heap ℕ) (r count : ℕ) (f : HasFields heap r count) → Ok count ≡ holder_told (holder_by has heap r)
+pub held : (has : ℕ → Bool) (heap : Heap ℕ) (r count : ℕ) (f : HasFields heap r count) → Ok count ≡ holder_reported (holder_by has heap r)
     → holder_by has heap r ≡ Holds f.class f.fields
 held has heap r count f e =
     let there : holder_by has heap r ≡ (if nat_eq r 0 then Null else if has f.class then Holds f.class f.fields else NoHolder) =
     ap (λ (o : Option (Object ℕ)). if nat_eq r 0 then Null else holder_in has o) f.object in
-    there ∙ held_if (nat_eq r 0) (has f.class) f.class f.fields count (e ∙ ap holder_told there)
+    there ∙ held_if (nat_eq r 0) (has f.class) f.class f.fields count (e ∙ ap holder_reported there)

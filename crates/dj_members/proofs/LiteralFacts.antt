@@ -12,15 +12,15 @@ use Rattle.dj_names.specs.trusted.Heaps.{Heap, Text, next_number, text_size, wit
 use Rattle.dj_model.specs.trusted.State.{Next}
 use Rattle.dj_heap.specs.Heaps.{LimitedHeap, Makes, Refuses}
 use Rattle.dj_heap.specs.declared.errors.HeapError.TheVariants as errors
-use Rattle.dj_members.specs.Literals.{KeptBy, kept_by, kept_or_made_by, literal_flows, object_of, object_told, push_text_by, pushed}
+use Rattle.dj_members.specs.Literals.{KeptBy, kept_by, kept_or_made_by, literal_flows, object_of, object_reported, push_text_by, pushed}
 
 zeros : (n text : ℕ) → ◌≡◌ {A = ℕ} (get_or (replicate n 0) text 0) 0
 zeros zero text = refl
 zeros (suc n) zero = refl
 zeros (suc n) (suc text) = zeros n text
 
-pub none_made : (n text : ℕ) → object_told (get_or (replicate n 0) text 0) ≡ None
-none_made n text = ap object_told (zeros n text)
+pub none_made : (n text : ℕ) → object_reported (get_or (replicate n 0) text 0) ≡ None
+none_made n text = ap object_reported (zeros n text)
 
 -- ---- one literal more
 
@@ -45,23 +45,23 @@ object_of_more (l ∷ made) text object other none =
     more_at l made (made ++ (text, object) ∷ []) text object other (nat_eq l.0 text) (nat_eq l.0 other) (nat_eq text other) refl refl refl none
     (object_of_more made text object other)
 
-told_of : (object : ℕ) → 0 < object → object_told object ≡ Some object
-told_of object some = ap (λ (b : Bool). if b then None else Some object) (not_null object (λ null. omega (arith, null, some)))
+reported_of : (object : ℕ) → 0 < object → object_reported object ≡ Some object
+reported_of object some = ap (λ (b : Bool). if b then None else Some object) (not_null object (λ null. omega (arith, null, some)))
 
-told_at : (b : Bool) (objects : List ℕ) (text object other : ℕ) (y : Option ℕ) → nat_eq text other ≡ b → text < length objects → 0 < object
-    → object_told (get_or objects other 0) ≡ y
-    → object_told (get_or (set objects text object) other 0) ≡ (if b then Some object else y)
-told_at true objects text object other y e less some told =
+reported_at : (b : Bool) (objects : List ℕ) (text object other : ℕ) (y : Option ℕ) → nat_eq text other ≡ b → text < length objects → 0 < object
+    → object_reported (get_or objects other 0) ≡ y
+    → object_reported (get_or (set objects text object) other 0) ≡ (if b then Some object else y)
+reported_at true objects text object other y e less some reported =
     let same : other ≡ text = sym (eqb-true text other e) in
-    ap object_told (get_or-set_at objects text other object 0 same less) ∙ told_of object some
-told_at false objects text object other y e less some told =
-    ap object_told (get_or-set_other objects text other object 0 (λ same. eqb-false text other e (sym same))) ∙ told
+    ap object_reported (get_or-set_at objects text other object 0 same less) ∙ reported_of object some
+reported_at false objects text object other y e less some reported =
+    ap object_reported (get_or-set_other objects text other object 0 (λ same. eqb-false text other e (sym same))) ∙ reported
 
-pub keeps_told : (objects : List ℕ) (made : List (ℕ × ℕ)) (text object : ℕ) → ((other : ℕ) → object_told (get_or objects other 0) ≡ object_of made other)
+pub keeps_reported : (objects : List ℕ) (made : List (ℕ × ℕ)) (text object : ℕ) → ((other : ℕ) → object_reported (get_or objects other 0) ≡ object_of made other)
     → text < length objects → 0 < object → object_of made text ≡ None
-    → (other : ℕ) → object_told (get_or (set objects text object) other 0) ≡ object_of (made ++ (text, object) ∷ []) other
-keeps_told objects made text object told less some first other =
-    told_at (nat_eq text other) objects text object other (object_of made other) refl less some (told other) ∙ sym (object_of_more made text object other first)
+    → (other : ℕ) → object_reported (get_or (set objects text object) other 0) ≡ object_of (made ++ (text, object) ∷ []) other
+keeps_reported objects made text object reported less some first other =
+    reported_at (nat_eq text other) objects text object other (object_of made other) refl less some (reported other) ∙ sym (object_of_more made text object other first)
 
 -- ---- what is pushed
 

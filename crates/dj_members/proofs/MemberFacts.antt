@@ -23,11 +23,11 @@ use Rattle.dj_model.specs.trusted.Linking.{chain_of}
 use Rattle.dj_names.specs.declared.descriptor.Base.TheVariants as bases
 use Rattle.dj_names.specs.declared.descriptor.Ty.{Ty}
 use Rattle.dj_names.specs.trusted.Types.{class_type, base_array}
-use Rattle.dj_members.specs.Fields.{get_field_by, put_field_by, holder_by, holder_told}
+use Rattle.dj_members.specs.Fields.{get_field_by, put_field_by, holder_by, holder_reported}
 use Rattle.dj_members.specs.Objects.{HasObject, check_cast_by, instance_of_by, new_by, throw_by}
 use Rattle.dj_members.specs.Statics.{DoesOnStatics, leaves, get_static_by, put_static_by}
 use Rattle.dj_members.specs.declared.literals.Kept.TheVariants as keeps
-use Rattle.dj_members.specs.Literals.{AreTexts, IsFull, kept_by, object_of, object_told, literals_map, push_text_by, literal_flows, OnLiterals, LiteralTable, DoesOnLiterals}
+use Rattle.dj_members.specs.Literals.{AreTexts, IsFull, kept_by, object_of, object_reported, literals_map, push_text_by, literal_flows, OnLiterals, LiteralTable, DoesOnLiterals}
 
 -- the class 2 and those below it have the field, which are those of even numbers
 abbrev even : ℕ → Bool
@@ -46,7 +46,7 @@ frames operands = record { method = 3; number = 7; locals = []; operands = opera
 -- ---- holders
 
 -- null, an instance below the class, one that isn't, an array, and no object
-holders : map (λ r. holder_told (holder_by even (heap 5).heap r)) (0 ∷ 1 ∷ 2 ∷ 3 ∷ 4 ∷ [])
+holders : map (λ r. holder_reported (holder_by even (heap 5).heap r)) (0 ∷ 1 ∷ 2 ∷ 3 ∷ 4 ∷ [])
     ≡ Err (goes.Goes (ways.Raise raises.NullPointer)) ∷ Ok 2 ∷ Err goes.Link ∷ Err goes.Link ∷ Err goes.Link ∷ []
 holders = refl
 
@@ -60,24 +60,24 @@ too_few all =
 
 -- ---- fields
 
-abbrev operands_told : Option (OnHeap ℕ) → List Value
-operands_told None = []
-operands_told (Some e) = e.operands
+abbrev operands_reported : Option (OnHeap ℕ) → List Value
+operands_reported None = []
+operands_reported (Some e) = e.operands
 
-abbrev result_told : Option (OnHeap ℕ) → Result states.Way Outcome
-result_told None = Ok Next
-result_told (Some e) = e.result
+abbrev result_reported : Option (OnHeap ℕ) → Result states.Way Outcome
+result_reported None = Ok Next
+result_reported (Some e) = e.result
 
-abbrev objects_told : Option (OnHeap ℕ) → List (Object ℕ)
-objects_told None = []
-objects_told (Some e) = e.heap.objects
+abbrev objects_reported : Option (OnHeap ℕ) → List (Object ℕ)
+objects_reported None = []
+objects_reported (Some e) = e.heap.objects
 
 got : DoesOnHeap (get_field_by even kinds.Ref 1) (frames (values.Ref 1 ∷ [])) (frames (values.Ref 5 ∷ [])) (heap 5) (heap 5) (Some (goes.Goes ways.Next))
 unfolding get_field_by
 got = record { effect = refl; limit = refl; frames = record { frames = record { count = refl; method = refl; room = refl; below = refl }; number = refl; locals = refl } }
 
 got_other_apart : Some (flows (heap 5).heap (values.Ref 5 ∷ []) (Ok Next)) ≡ Some (flows (heap 5).heap (values.Ref 7 ∷ []) (Ok Next)) → ⊥
-got_other_apart e = let same : values.Ref 5 ∷ [] ≡ values.Ref 7 ∷ [] = ap operands_told e in absurd cc
+got_other_apart e = let same : values.Ref 5 ∷ [] ≡ values.Ref 7 ∷ [] = ap operands_reported e in absurd cc
 
 got_other : DoesOnHeap (get_field_by even kinds.Ref 1) (frames (values.Ref 1 ∷ [])) (frames (values.Ref 7 ∷ [])) (heap 5) (heap 5) (Some (goes.Goes ways.Next)) → ⊥
 unfolding get_field_by
@@ -92,7 +92,7 @@ second_field (Instance class (a ∷ (b ∷ fields)) ∷ others) = b
 second_field others = 0
 
 put_nothing_apart : Some (flows (heap 9).heap [] (Ok Next)) ≡ Some (flows (heap 5).heap [] (Ok Next)) → ⊥
-put_nothing_apart e = let same : 9 ≡ 5 = ap (λ e. second_field (objects_told e)) e in omega (arith, same)
+put_nothing_apart e = let same : 9 ≡ 5 = ap (λ e. second_field (objects_reported e)) e in omega (arith, same)
 
 put_nothing : DoesOnHeap (put_field_by even kinds.Ref 1) (frames (values.Ref 9 ∷ values.Ref 1 ∷ [])) (frames []) (heap 5) (heap 5) (Some (goes.Goes ways.Next)) → ⊥
 unfolding put_field_by
@@ -105,33 +105,33 @@ put_long = refl
 
 -- ---- new objects
 
-made_new : operands_told (new_by (Some 100) 4 0 (heap 5).heap []) ∷ operands_told (new_by (Some 100) 4 1 (heap 5).heap []) ∷ [] ≡ (values.Ref 4 ∷ []) ∷ [] ∷ []
+made_new : operands_reported (new_by (Some 100) 4 0 (heap 5).heap []) ∷ operands_reported (new_by (Some 100) 4 1 (heap 5).heap []) ∷ [] ≡ (values.Ref 4 ∷ []) ∷ [] ∷ []
 made_new = refl
 
-full : result_told (new_by (Some 100) 4 1 (heap 5).heap []) ≡ Err (outcomes.HeapFull 80 24)
+full : result_reported (new_by (Some 100) 4 1 (heap 5).heap []) ≡ Err (outcomes.HeapFull 80 24)
 full = refl
 
 -- ---- casts
 
-cast_results : map (λ r. result_told (check_cast_by even (heap 5).heap (values.Ref r ∷ []))) (0 ∷ 1 ∷ 2 ∷ 3 ∷ [])
+cast_results : map (λ r. result_reported (check_cast_by even (heap 5).heap (values.Ref r ∷ []))) (0 ∷ 1 ∷ 2 ∷ 3 ∷ [])
     ≡ Ok Next ∷ Ok Next ∷ Ok (Raise raises.ClassCast) ∷ Ok Next ∷ []
 unfolding check_cast_by
 cast_results = refl
 
 null_refused_apart : Some (flows (heap 5).heap (values.Ref 0 ∷ []) (Ok Next)) ≡ Some (flows (heap 5).heap (values.Ref 0 ∷ []) (Ok (Raise raises.ClassCast))) → ⊥
-null_refused_apart e = let same : ◌≡◌ {A = Result states.Way Outcome} (Ok Next) (Ok (Raise raises.ClassCast)) = ap result_told e in absurd cc
+null_refused_apart e = let same : ◌≡◌ {A = Result states.Way Outcome} (Ok Next) (Ok (Raise raises.ClassCast)) = ap result_reported e in absurd cc
 
 null_refused : DoesOnHeap (check_cast_by even) (frames (values.Ref 0 ∷ [])) (frames (values.Ref 0 ∷ [])) (heap 5) (heap 5) (Some (goes.Goes (ways.Raise raises.ClassCast))) → ⊥
 unfolding check_cast_by
 null_refused does = null_refused_apart does.effect
 
-instances : map (λ r. operands_told (instance_of_by even (heap 5).heap (values.Ref r ∷ []))) (0 ∷ 1 ∷ 2 ∷ [])
+instances : map (λ r. operands_reported (instance_of_by even (heap 5).heap (values.Ref r ∷ []))) (0 ∷ 1 ∷ 2 ∷ [])
     ≡ (values.Int (pos 0) ∷ []) ∷ (values.Int (pos 1) ∷ []) ∷ (values.Int (pos 0) ∷ []) ∷ []
 unfolding instance_of_by
 instances = refl
 
 null_instance_apart : Some (flows (heap 5).heap (values.Int (pos 0) ∷ []) (Ok Next)) ≡ Some (flows (heap 5).heap (values.Int (pos 1) ∷ []) (Ok Next)) → ⊥
-null_instance_apart e = let same : values.Int (pos 0) ∷ [] ≡ values.Int (pos 1) ∷ [] = ap operands_told e in absurd cc
+null_instance_apart e = let same : values.Int (pos 0) ∷ [] ≡ values.Int (pos 1) ∷ [] = ap operands_reported e in absurd cc
 
 null_instance : DoesOnHeap (instance_of_by even) (frames (values.Ref 0 ∷ [])) (frames (values.Int (pos 1) ∷ [])) (heap 5) (heap 5) (Some (goes.Goes ways.Next)) → ⊥
 unfolding instance_of_by
@@ -160,9 +160,9 @@ static_kind = refl
 static_got : get_static_by kinds.Ref 1 (3 ∷ 4 ∷ []) [] ≡ Some (leaves (3 ∷ 4 ∷ []) (values.Ref 4 ∷ []))
 static_got = refl
 
-static_told : DoesOnStatics (put_static_by kinds.Ref 1) (frames (values.Ref 9 ∷ [])) (frames []) (3 ∷ 4 ∷ []) (3 ∷ 9 ∷ []) (Some ways.Next)
+static_reported : DoesOnStatics (put_static_by kinds.Ref 1) (frames (values.Ref 9 ∷ [])) (frames []) (3 ∷ 4 ∷ []) (3 ∷ 9 ∷ []) (Some ways.Next)
 unfolding put_static_by
-static_told = record { effect = refl; next = refl; frames = record { frames = record { count = refl; method = refl; room = refl; below = refl }; number = refl; locals = refl } }
+static_reported = record { effect = refl; next = refl; frames = record { frames = record { count = refl; method = refl; room = refl; below = refl }; number = refl; locals = refl } }
 
 -- the run just goes on
 static_raises : DoesOnStatics (put_static_by kinds.Ref 1) (frames (values.Ref 9 ∷ [])) (frames []) (3 ∷ 4 ∷ []) (3 ∷ 9 ∷ []) (Some (ways.To 2)) → ⊥
@@ -173,7 +173,7 @@ static_raises does = let next = does.next in absurd cc
 found : map (object_of ((5, 1) ∷ (2, 2) ∷ [])) (5 ∷ 2 ∷ 1 ∷ []) ≡ Some 1 ∷ Some 2 ∷ None ∷ []
 found = refl
 
-objects_of : object_told 0 ∷ object_told 3 ∷ [] ≡ None ∷ Some 3 ∷ []
+objects_of : object_reported 0 ∷ object_reported 3 ∷ [] ≡ None ∷ Some 3 ∷ []
 objects_of = refl
 
 texts : AreTexts 3 ((1, 1) ∷ (2, 2) ∷ [])
@@ -198,16 +198,16 @@ full_of_literals = refl
 abbrev table : List (ℕ × ℕ) → LiteralTable
 table made = record { count = 3; made = made }
 
-kept_told : DoesOnLiterals (push_text_by (Some 100) 9 1 (66 ∷ [])) (frames []) (frames (values.Ref 2 ∷ [])) (heap 5) (heap 5) (table ((1, 2) ∷ [])) (table ((1, 2) ∷ [])) (goes.Goes ways.Next)
-kept_told = record {
+kept_reported : DoesOnLiterals (push_text_by (Some 100) 9 1 (66 ∷ [])) (frames []) (frames (values.Ref 2 ∷ [])) (heap 5) (heap 5) (table ((1, 2) ∷ [])) (table ((1, 2) ∷ [])) (goes.Goes ways.Next)
+kept_reported = record {
   effect = refl;
   limit = refl;
   count = refl;
   frames = record { frames = record { count = refl; method = refl; room = refl; below = refl }; number = refl; locals = refl };
 }
 
-abbrev literals_told : OnLiterals → List (ℕ × ℕ)
-literals_told e = e.literals
+abbrev literals_reported : OnLiterals → List (ℕ × ℕ)
+literals_reported e = e.literals
 
 -- and by itself
 kept_by_itself : kept_by (Some 100) 9 1 (66 ∷ []) (heap 5).heap ((1, 2) ∷ []) ≡ Some (record { object = 2; heap = (heap 5).heap; literals = (1, 2) ∷ [] })
@@ -224,7 +224,7 @@ not_so_full full = let size : 16 ≡ 24 = full.1 in omega (arith, size)
 
 -- a literal is made once
 anew_apart : literal_flows (heap 5).heap ((1, 2) ∷ []) (values.Ref 2 ∷ []) (Ok Next) ≡ literal_flows (heap 5).heap ((1, 2) ∷ (1, 4) ∷ []) (values.Ref 2 ∷ []) (Ok Next) → ⊥
-anew_apart e = let same : 1 ≡ 2 = ap (λ e. length (literals_told e)) e in omega (arith, same)
+anew_apart e = let same : 1 ≡ 2 = ap (λ e. length (literals_reported e)) e in omega (arith, same)
 
 anew : DoesOnLiterals (push_text_by (Some 100) 9 1 (66 ∷ [])) (frames []) (frames (values.Ref 2 ∷ [])) (heap 5) (heap 5) (table ((1, 2) ∷ [])) (table ((1, 2) ∷ (1, 4) ∷ []))
     (goes.Goes ways.Next) → ⊥

@@ -41,7 +41,7 @@ new_is program prefix types limit class fields p heap many e =
 -- ---- classes of objects
 
 module _ (program : Program) (prefix : Prefix) (types : List Ty) (class : Ty) (is_below : ℕ → Bool)
-    (tells : (k : ℕ) → is_below k ≡ is_subtype program prefix (type_at types k) class) where
+    (says : (k : ℕ) → is_below k ≡ is_subtype program prefix (type_at types k) class) where
   instance_in : (b : Bool) (r : ℕ) (o : Option (Object ℕ)) → nat_eq r 0 ≡ b → (o ≡ None → r ≡ 0)
       → (b || is_subtype program prefix (class_in (option_map (object_map (type_at types)) o)) class) ≡ (b || below_in is_below o)
   instance_in true r o e there = refl
@@ -49,7 +49,7 @@ module _ (program : Program) (prefix : Prefix) (types : List Ty) (class : Ty) (i
       let null : nat_eq 0 0 ≡ false = subst (λ (r : ℕ). nat_eq r 0 ≡ false) (there refl) e in
       absurd cc
   instance_in false r (Some object) e there =
-      ap (λ (ty : Ty). is_subtype program prefix ty class) (class_of_mapped (type_at types) object) ∙ sym (tells (class_of object))
+      ap (λ (ty : Ty). is_subtype program prefix ty class) (class_of_mapped (type_at types) object) ∙ sym (says (class_of object))
 
   instance_mapped : (heap : Heap ℕ) (r : ℕ) → (object_at heap.objects r ≡ None → r ≡ 0)
       → is_instance program prefix (heap_map (type_at types) heap) r class ≡ is_instance_by is_below heap r
@@ -98,9 +98,9 @@ pub check_cast_is : (program : Program) (prefix : Prefix) (types : List Ty) (cla
     → ((k : ℕ) → is_below k ≡ is_subtype program prefix (type_at types k) class) → p.heap ≡ heap_map (type_at types) heap → HasObject heap p.operands
     → model.check_cast program prefix p class p.operands
     ≡ option_map (λ (e : OnHeap ℕ). heap_effect p (on_heap_map (type_at types) e)) (check_cast_by is_below heap p.operands)
-check_cast_is program prefix types class is_below p heap tells e there =
+check_cast_is program prefix types class is_below p heap says e there =
     ap (λ (q : Part). model.check_cast program prefix q class p.operands) (sym (at_heap p (heap_map (type_at types) heap) e))
-    ∙ (cast_mapped program prefix types class is_below tells p heap p.operands there
+    ∙ (cast_mapped program prefix types class is_below says p heap p.operands there
     ∙ ap (λ (q : Part). option_map (λ (e : OnHeap ℕ). heap_effect q (on_heap_map (type_at types) e)) (check_cast_by is_below heap p.operands))
     (at_heap p (heap_map (type_at types) heap) e))
 
@@ -108,9 +108,9 @@ pub instance_of_is : (program : Program) (prefix : Prefix) (types : List Ty) (cl
     → ((k : ℕ) → is_below k ≡ is_subtype program prefix (type_at types k) class) → p.heap ≡ heap_map (type_at types) heap → HasObject heap p.operands
     → model.instance_of program prefix p class p.operands
     ≡ option_map (λ (e : OnHeap ℕ). heap_effect p (on_heap_map (type_at types) e)) (instance_of_by is_below heap p.operands)
-instance_of_is program prefix types class is_below p heap tells e there =
+instance_of_is program prefix types class is_below p heap says e there =
     ap (λ (q : Part). model.instance_of program prefix q class p.operands) (sym (at_heap p (heap_map (type_at types) heap) e))
-    ∙ (instance_of_mapped program prefix types class is_below tells p heap p.operands there
+    ∙ (instance_of_mapped program prefix types class is_below says p heap p.operands there
     ∙ ap (λ (q : Part). option_map (λ (e : OnHeap ℕ). heap_effect q (on_heap_map (type_at types) e)) (instance_of_by is_below heap p.operands))
     (at_heap p (heap_map (type_at types) heap) e))
 
@@ -118,19 +118,19 @@ throw_mapped : (program : Program) (prefix : Prefix) (types : List Ty) (is_below
     → ((k : ℕ) → is_below k ≡ is_subtype program prefix (type_at types k) (class_type (throwable_name prefix))) → p.heap ≡ heap_map (type_at types) heap → HasObject heap operands
     → model.throw_top program prefix p operands ≡ option_map (λ (t : Thrown). goes p (thrown_view t)) (throw_by is_below heap operands)
 unfolding throw_by
-throw_mapped program prefix types is_below p heap [] tells e there = refl
-throw_mapped program prefix types is_below p heap (values.Int z ∷ rest) tells e there = refl
-throw_mapped program prefix types is_below p heap (values.Long z ∷ rest) tells e there = refl
-throw_mapped program prefix types is_below p heap (values.Ref r ∷ rest) tells e there =
+throw_mapped program prefix types is_below p heap [] says e there = refl
+throw_mapped program prefix types is_below p heap (values.Int z ∷ rest) says e there = refl
+throw_mapped program prefix types is_below p heap (values.Long z ∷ rest) says e there = refl
+throw_mapped program prefix types is_below p heap (values.Ref r ∷ rest) says e there =
     ap (λ (b : Bool). Some (if nat_eq r 0 then goes p (Goes (Raise raises.NullPointer)) else if b then goes p (Catch r) else model.broken p))
     (ap (λ (h : Heap Ty). is_instance program prefix h r (class_type (throwable_name prefix))) e
-    ∙ instance_mapped program prefix types (class_type (throwable_name prefix)) is_below tells heap r there)
-    ∙ ap Some (throw_if program prefix types (class_type (throwable_name prefix)) is_below tells p (nat_eq r 0) (is_instance_by is_below heap r) r)
+    ∙ instance_mapped program prefix types (class_type (throwable_name prefix)) is_below says heap r there)
+    ∙ ap Some (throw_if program prefix types (class_type (throwable_name prefix)) is_below says p (nat_eq r 0) (is_instance_by is_below heap r) r)
 
 pub throw_top_is : (program : Program) (prefix : Prefix) (types : List Ty) (is_below : ℕ → Bool) (p : Part) (heap : Heap ℕ)
     → ((k : ℕ) → is_below k ≡ is_subtype program prefix (type_at types k) (class_type (throwable_name prefix))) → p.heap ≡ heap_map (type_at types) heap → HasObject heap p.operands
     → model.throw_top program prefix p p.operands ≡ option_map (λ (t : Thrown). goes p (thrown_view t)) (throw_by is_below heap p.operands)
-throw_top_is program prefix types is_below p heap tells e there = throw_mapped program prefix types is_below p heap p.operands tells e there
+throw_top_is program prefix types is_below p heap says e there = throw_mapped program prefix types is_below p heap p.operands says e there
 
 -- ---- static fields
 

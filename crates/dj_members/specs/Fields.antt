@@ -50,10 +50,10 @@ put_field_by has kind place heap _ = None
 -- ---- used by the code alone
 
 -- how many fields the instance has, or how the run goes on in its place
-abbrev pub holder_told : Holder → Result ℕ Flow
-holder_told Null = Err (goes.Goes (ways.Raise raises.NullPointer))
-holder_told NoHolder = Err goes.Link
-holder_told (Holds class fields) = Ok (length fields)
+abbrev pub holder_reported : Holder → Result ℕ Flow
+holder_reported Null = Err (goes.Goes (ways.Raise raises.NullPointer))
+holder_reported NoHolder = Err goes.Link
+holder_reported (Holds class fields) = Ok (length fields)
 
 -- the reference is that of an instance with this many fields
 pub record HasFields (heap : Heap ℕ) (r : ℕ) (count : ℕ) : Type 0 where

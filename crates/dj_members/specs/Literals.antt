@@ -19,7 +19,7 @@ use Rattle.dj_stack.specs.Frames.{StackFrame, SameButOperands, top_operands}
 use Rattle.dj_members.specs.declared.literals.Kept as kept
 use Rattle.dj_members.specs.declared.literals.Kept.TheVariants as variants
 use Rattle.dj_effects.specs.declared.way.Flow.{Flow}
-use Rattle.dj_effects.specs.DoesOnHeap.{flow_view, told_beside}
+use Rattle.dj_effects.specs.DoesOnHeap.{flow_view, reported_beside}
 
 -- each literal's text and object, by their numbers, in the order in which they were made; and how many texts there are
 pub record LiteralTable : Type 0 where
@@ -32,8 +32,8 @@ object_of [] text = None
 object_of (l ∷ literals) text = if nat_eq l.0 text then Some l.1 else object_of literals text
 
 -- the number of an object; 0 means none
-abbrev pub object_told : ℕ → Option ℕ
-object_told object = if nat_eq object 0 then None else Some object
+abbrev pub object_reported : ℕ → Option ℕ
+object_reported object = if nat_eq object 0 then None else Some object
 
 abbrev pub text_at : List (List ℕ) → ℕ → List ℕ
 text_at texts text = unwrap_or (slice_get texts text) []
@@ -79,7 +79,7 @@ literals_effect types texts p e =
 
 -- the top frame's operands, the heap and the literals are as the effect has them, and the answer is how the run goes on
 pub record DoesOnLiterals (effect_of : Heap ℕ → List (ℕ × ℕ) → List Value → OnLiterals) (old new : List StackFrame) (before after : LimitedHeap) (literals now : LiteralTable) (flow : Flow) : Type 0 where
-  pub effect : effect_of before.heap literals.made (top_operands old) ≡ literal_flows after.heap now.made (told_beside old new flow) (flow_view flow)
+  pub effect : effect_of before.heap literals.made (top_operands old) ≡ literal_flows after.heap now.made (reported_beside old new flow) (flow_view flow)
   pub limit : after.limit ≡ before.limit
   pub count : now.count ≡ literals.count
   pub frames : SameButOperands old new
@@ -110,9 +110,9 @@ kept_by limit class text units heap literals = kept_or_made_by limit class text 
 abbrev pub kept_map : List Ty → List (List ℕ) → KeptBy → members.Kept
 kept_map types texts k = record { object = k.object; heap = heap_map (type_at types) k.heap; literals = literals_map texts k.literals }
 
-abbrev pub kept_told : LimitedHeap → LiteralTable → kept.Kept → Option KeptBy
-kept_told after now (variants.Object r) = Some (record { object = r; heap = after.heap; literals = now.made })
-kept_told after now (variants.HeapFull used size) = None
+abbrev pub kept_reported : LimitedHeap → LiteralTable → kept.Kept → Option KeptBy
+kept_reported after now (variants.Object r) = Some (record { object = r; heap = after.heap; literals = now.made })
+kept_reported after now (variants.HeapFull used size) = None
 
 -- where it doesn't fit, the answer has the bytes that it needs, and nothing has changed
 abbrev pub IsFull : List ℕ → LimitedHeap → LimitedHeap → LiteralTable → LiteralTable → kept.Kept → Type 0
@@ -120,8 +120,8 @@ IsFull units before after literals now (variants.Object r) = ⊤
 IsFull units before after literals now (variants.HeapFull used size) = (used ≡ before.heap.used) × (size ≡ text_size units) × (after ≡ before) × (now ≡ literals)
 
 -- the heap and the literals are as they are with the object, where there is one
-pub record Keeps (class text : ℕ) (units : List ℕ) (before after : LimitedHeap) (literals now : LiteralTable) (told : kept.Kept) : Type 0 where
-  pub effect : kept_by (Some before.limit) class text units before.heap literals.made ≡ kept_told after now told
-  pub full : IsFull units before after literals now told
+pub record Keeps (class text : ℕ) (units : List ℕ) (before after : LimitedHeap) (literals now : LiteralTable) (reported : kept.Kept) : Type 0 where
+  pub effect : kept_by (Some before.limit) class text units before.heap literals.made ≡ kept_reported after now reported
+  pub full : IsFull units before after literals now reported
   pub limit : after.limit ≡ before.limit
   pub count : now.count ≡ literals.count

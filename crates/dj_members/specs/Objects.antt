@@ -43,11 +43,11 @@ check_cast_by is_below heap (values.Ref r ∷ rest) = Some (cast_flows heap (val
 check_cast_by is_below heap _ = None
 
 -- null is an instance of no class
-abbrev pub instance_told : (ℕ → Bool) → Heap ℕ → ℕ → ℤ
-instance_told is_below heap r = if nat_eq r 0 then pos 0 else instance_number (is_instance_by is_below heap r)
+abbrev pub instance_reported : (ℕ → Bool) → Heap ℕ → ℕ → ℤ
+instance_reported is_below heap r = if nat_eq r 0 then pos 0 else instance_number (is_instance_by is_below heap r)
 
 unfoldable pub instance_of_by : (ℕ → Bool) → Heap ℕ → List Value → Option (OnHeap ℕ)
-instance_of_by is_below heap (values.Ref r ∷ rest) = Some (with_value heap rest (values.Int (instance_told is_below heap r)))
+instance_of_by is_below heap (values.Ref r ∷ rest) = Some (with_value heap rest (values.Int (instance_reported is_below heap r)))
 instance_of_by is_below heap _ = None
 
 -- ---- thrown objects

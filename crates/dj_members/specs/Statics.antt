@@ -29,9 +29,9 @@ put_static_by kind place statics _ = None
 abbrev pub statics_effect : Part → OnStatics → Effect
 statics_effect p e = record { part = record p { operands = e.operands; statics = e.statics }; flow = Goes Next }
 
-abbrev pub told_on_statics : List StackFrame → List ℕ → Option Way → Option OnStatics
-told_on_statics new after None = None
-told_on_statics new after (Some way) = Some (leaves after (top_operands new))
+abbrev pub reported_on_statics : List StackFrame → List ℕ → Option Way → Option OnStatics
+reported_on_statics new after None = None
+reported_on_statics new after (Some way) = Some (leaves after (top_operands new))
 
 abbrev pub IsNext : Option Way → Type 0
 IsNext None = Unit {0}
@@ -39,6 +39,6 @@ IsNext (Some way) = way ≡ ways.Next
 
 -- the top frame's operands and the static fields are as the effect has them, and the run just goes on; none where there is no effect
 pub record DoesOnStatics (effect_of : List ℕ → List Value → Option OnStatics) (old new : List StackFrame) (before after : List ℕ) (way : Option Way) : Type 0 where
-  pub effect : effect_of before (top_operands old) ≡ told_on_statics new after way
+  pub effect : effect_of before (top_operands old) ≡ reported_on_statics new after way
   pub next : IsNext way
   pub frames : SameButOperands old new

@@ -1,6 +1,6 @@
 ghost use Rattle.std.specs.Prelude.{◌≡◌, ◌<◌, ℕ, Bool, IfOk};
 ghost use Rattle.dj_members.specs.Numbering.{AreNumbered};
-ghost use Rattle.dj_members.specs.Fields.{HasFields, holder_by, holder_told};
+ghost use Rattle.dj_members.specs.Fields.{HasFields, holder_by, holder_reported};
 
 use dj_effects::{Flow, Way};
 use dj_heap::{Heap, Made};
@@ -24,7 +24,7 @@ pub trait Holders {
 #[tactic(auto, using(crate::proofs::HolderFacts::null_holder, crate::proofs::HolderFacts::past_holder, crate::proofs::HolderFacts::array_holder, crate::proofs::HolderFacts::text_holder, crate::proofs::HolderFacts::instance_holder, crate::proofs::HolderFacts::other_holder, crate::proofs::HolderFacts::has_fields, crate::proofs::HolderFacts::class_numbered))]
 pub fn holder<H: Holders>(holders: &H, heap: &Heap, declaring: u32, r: u32) -> Result<u32, Flow>
     requires { AreNumbered (H.count holders.now) heap.now.heap }
-    ensures told { result ≡ holder_told (holder_by (H.has holders.now declaring) heap.now.heap r) }
+    ensures reported { result ≡ holder_reported (holder_by (H.has holders.now declaring) heap.now.heap r) }
     ensures there { IfOk result (λ count. HasFields heap.now.heap r count) }
 {
     if r == 0 {

@@ -1,6 +1,6 @@
 ghost use Rattle.std.specs.Prelude.{◌≡◌, ◌<◌, ◌++◌, ◌∷◌, [], ℕ, Some, None, length, slice_index, IfOk, OnOk, OnErr};
 ghost use Rattle.dj_stack.specs.Frames.{top_operands, top_room};
-ghost use Rattle.dj_members.specs.Literals.{DoesOnLiterals, Keeps, object_of, object_told, push_text_by};
+ghost use Rattle.dj_members.specs.Literals.{DoesOnLiterals, Keeps, object_of, object_reported, push_text_by};
 
 use dj_effects::{Flow, Way};
 use dj_heap::{Heap, HeapError};
@@ -16,7 +16,7 @@ pub struct Literals {
     objects: Vec<u32>,
     // Each literal's text and object.
     made: Vec<(u32, u32)>,
-    ghost told: { (text : ℕ) → object_told (slice_index objects.items text) ≡ object_of made.items text },
+    ghost reported: { (text : ℕ) → object_reported (slice_index objects.items text) ≡ object_of made.items text },
 }
 
 /// What a text that has to have an object has.

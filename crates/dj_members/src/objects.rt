@@ -3,7 +3,7 @@ ghost use Rattle.dj_names.specs.declared.run.Value.TheVariants as values;
 ghost use Rattle.dj_stack.specs.Frames.{SameButOperands, top_operands, top_room};
 ghost use Rattle.dj_effects.specs.DoesOnHeap.{DoesOnHeap, FitsOnHeap};
 ghost use Rattle.dj_members.specs.Numbering.{AreNumbered, below_of};
-ghost use Rattle.dj_members.specs.Objects.{check_cast_by, instance_of_by, instance_told, is_instance_by, new_by, throw_by, thrown_by};
+ghost use Rattle.dj_members.specs.Objects.{check_cast_by, instance_of_by, instance_reported, is_instance_by, new_by, throw_by, thrown_by};
 
 use dj_effects::{Flow, Way, pop};
 use dj_heap::{Heap, HeapError};
@@ -125,7 +125,7 @@ fn thrown_by<C: Classes>(classes: &C, heap: &Heap, r: u32, throwable: u32) -> Th
 fn instance_value<C: Classes>(classes: &C, heap: &Heap, r: u32, class: u32) -> Value
     requires numbered { AreNumbered (length (C.types classes.now)) heap.now.heap }
     requires known { class < length (C.types classes.now) }
-    ensures { result ≡ values.Int (instance_told (below_of (C.program classes.now) (C.prefix classes.now) (C.types classes.now) class) heap.now.heap r) }
+    ensures { result ≡ values.Int (instance_reported (below_of (C.program classes.now) (C.prefix classes.now) (C.types classes.now) class) heap.now.heap r) }
 {
     if r != 0 && is_instance(classes, heap, r, class) {
         Value::Int(1)

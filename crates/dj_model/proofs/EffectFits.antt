@@ -27,10 +27,10 @@ use Rattle.dj_model.specs.trusted.Natives.{Answer, Returns, Raises, MakesText, K
 use Rattle.dj_model.specs.trusted.Performing.{class_at_number, is_instance, takes, seen, ended_by, thrown_by, counted, Making, Made, NotMade, text_object, chars_object, set_elements, raises_after, keeps_made, perform, with_answer, host_asked, native_asked, native}
 use Rattle.dj_model.specs.trusted.Members.{get_static, put_static, Holder, NullHolder, NoHolder, Holds, holder_in, holder_at, get_from, put_in, get_field, put_field, Kept, kept_or_made, literal_in, with_literal, push_kept, check_cast, instance_of, throw_top, kinds_of, Arguments, arguments_of, are_instances, run_body, run_method, received, asked_class, call, call_with, invoke}
 use Rattle.dj_model.specs.trusted.Effects.{new_object, effect}
-use Rattle.dj_model.specs.Laws.{Grows, IsPaid, IsTold}
+use Rattle.dj_model.specs.Laws.{Grows, IsPaid, IsReported}
 use Rattle.dj_model.proofs.Flows.{either_way}
 use Rattle.dj_model.proofs.Growth.{grows_same, grows_new, grows_set, same_fields}
-use Rattle.dj_model.proofs.Fits.{PlainFlow, ChargedFits, charge_fits, ChargedTold, charge_told, Fits, part_same, go_plain, simple, values_fit, heap_fits, load_fits, store_fits, length_fits, make_fits, make_array_fits, CountedFits, MakingFits, making_then_fits, returns_fit, goes_fit, SetFits, fields_fit, elements_fit}
+use Rattle.dj_model.proofs.Fits.{PlainFlow, ChargedFits, charge_fits, ChargedReported, charge_reported, Fits, part_same, go_plain, simple, values_fit, heap_fits, load_fits, store_fits, length_fits, make_fits, make_array_fits, CountedFits, MakingFits, making_then_fits, returns_fit, goes_fit, SetFits, fields_fit, elements_fit}
 
 -- ---- native methods
 
@@ -38,14 +38,14 @@ ended_fits : (most : Thresholds) (x : Part) (c : Charged) → (IsPaid most x.acc
 ended_fits most x (Fine account) k = record { heap = grows_same x.heap; account = k }
 ended_fits most x (Over charge account) k = record { heap = grows_same x.heap; account = k }
 
-thrown_fits : (most : Thresholds) (x : Part) (c : Charged) → (IsTold most x.account → ChargedTold most x.account c) → CountedFits (Accounted most) x (thrown_by x c)
+thrown_fits : (most : Thresholds) (x : Part) (c : Charged) → (IsReported most x.account → ChargedReported most x.account c) → CountedFits (Accounted most) x (thrown_by x c)
 thrown_fits most x (Fine account) k = record { heap = grows_same x.heap; account = k }
-thrown_fits most x (Over charge account) k = record { heap = grows_same x.heap; account = λ told. let now = k told in (now.0, now.1, tt) }
+thrown_fits most x (Over charge account) k = record { heap = grows_same x.heap; account = λ reported. let now = k reported in (now.0, now.1, tt) }
 
 counted_fits : (counting : Counting) (x : Part) (charge : Charge) (n : ℕ) → CountedFits counting x (counted counting x charge n)
 counted_fits Uncounted x charge n = part_same Uncounted x
 counted_fits (Metered most) x charge n = ended_fits most x (charge_one most x.account charge n) (charge_fits most x.account charge n)
-counted_fits (Accounted most) x charge n = thrown_fits most x (charge_one most x.account charge n) (charge_told most x.account charge n)
+counted_fits (Accounted most) x charge n = thrown_fits most x (charge_one most x.account charge n) (charge_reported most x.account charge n)
 
 keeps_fit : (counting : Counting) (x : Part) (object : ℕ) (m : Making) → MakingFits counting x m → Fits counting x (keeps_made object m)
 keeps_fit counting x object (Made y r) fits =

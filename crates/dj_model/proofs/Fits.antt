@@ -22,7 +22,7 @@ use Rattle.dj_model.specs.trusted.Arrays.{OnHeap, Found, Null, NoArray, IsArray,
 use Rattle.dj_model.specs.trusted.Charging.{added, passes, Charged, Fine, Over, compared_with, charge_after, charge_one}
 use Rattle.dj_model.specs.trusted.Performing.{takes, Counted, Within, Halts, Making, Made, NotMade, making, making_then, with_fields, with_fields_in, with_elements_in, set_object, set_fields, set_elements, returns_made, goes_on}
 use Rattle.dj_model.specs.trusted.Effects.{values_effect, flow_of, heap_effect}
-use Rattle.dj_model.specs.Laws.{blank, Grows, IsLess, IsOver, IsPaid, IsToldBy, IsTold}
+use Rattle.dj_model.specs.Laws.{blank, Grows, IsLess, IsOver, IsPaid, IsReportedBy, IsReported}
 use Rattle.dj_model.proofs.MappedNames.{either}
 use Rattle.dj_model.proofs.Flows.{either_way}
 use Rattle.dj_model.proofs.Growth.{grows_same, grows_new, grows_then, grows_set, same_length, same_fields, element_length}
@@ -114,12 +114,12 @@ ends_plainly (End outcome) plain = plain
 -- what is paid stays paid, what is reported stays reported, and sums only grow
 abbrev pub StaysPaid : Counting → Account → Account → Type 0
 StaysPaid Uncounted a b = ⊤
-StaysPaid (Accounted most) a b = IsTold most a → IsTold most b × IsLess a.costs b.costs
+StaysPaid (Accounted most) a b = IsReported most a → IsReported most b × IsLess a.costs b.costs
 StaysPaid (Metered most) a b = IsPaid most a → IsPaid most b × IsLess a.costs b.costs
 
 abbrev pub Accounts : Counting → Account → Account → Flow → Type 0
 Accounts Uncounted a b flow = ⊤
-Accounts (Accounted most) a b flow = IsTold most a → IsTold most b × IsLess a.costs b.costs × EndsPlainly flow
+Accounts (Accounted most) a b flow = IsReported most a → IsReported most b × IsLess a.costs b.costs × EndsPlainly flow
 Accounts (Metered most) a b flow = IsPaid most a → FlowPaid most b flow × IsLess a.costs b.costs
 
 pub record PartFits (counting : Counting) (x y : Part) : Type 0 where
@@ -132,14 +132,14 @@ pub record Fits (counting : Counting) (x : Part) (e : Effect) : Type 0 where
 
 stays_same : (counting : Counting) (a : Account) → StaysPaid counting a a
 stays_same Uncounted a = tt
-stays_same (Accounted most) a = λ told. (told, less_same a.costs)
+stays_same (Accounted most) a = λ reported. (reported, less_same a.costs)
 stays_same (Metered most) a = λ paid. (paid, less_same a.costs)
 
 then_plain : (counting : Counting) (a b c : Account) (flow : Flow) → StaysPaid counting a b → c ≡ b → PlainFlow flow → Accounts counting a c flow
 then_plain Uncounted a b c flow s e plain = tt
-then_plain (Accounted most) a b c flow s e plain = λ told.
-    let now = s told in
-    (subst (IsTold most) (sym e) now.0, subst (λ k. IsLess a.costs k.costs) (sym e) now.1, ends_plainly flow plain)
+then_plain (Accounted most) a b c flow s e plain = λ reported.
+    let now = s reported in
+    (subst (IsReported most) (sym e) now.0, subst (λ k. IsLess a.costs k.costs) (sym e) now.1, ends_plainly flow plain)
 then_plain (Metered most) a b c flow s e plain = λ paid.
     let now = s paid in
     (plain_flow most c flow plain (subst (IsPaid most) (sym e) now.0), subst (λ k. IsLess a.costs k.costs) (sym e) now.1)
@@ -207,21 +207,21 @@ NamesCharge (Over charge b) = b.exceeded ≡ Some charge
 compared_names : (most : Thresholds) (charge : Charge) (c : Costs) → NamesCharge (compared_with most charge c)
 compared_names most charge c = either_way NamesCharge (passes most c charge) _ _ refl tt
 
-abbrev pub ChargedTold : Thresholds → Account → Charged → Type 0
-ChargedTold most a (Fine b) = IsTold most b × IsLess a.costs b.costs
-ChargedTold most a (Over charge b) = IsTold most b × IsLess a.costs b.costs
+abbrev pub ChargedReported : Thresholds → Account → Charged → Type 0
+ChargedReported most a (Fine b) = IsReported most b × IsLess a.costs b.costs
+ChargedReported most a (Over charge b) = IsReported most b × IsLess a.costs b.costs
 
-to_told : (most : Thresholds) (a : Account) (c : Charged) → ChargedFits most a c → NamesCharge c → ChargedTold most a c
-to_told most a (Fine b) k e = (subst (IsToldBy most b.costs) (sym k.0.none) k.0.within, k.1)
-to_told most a (Over charge b) k e = (subst (IsToldBy most b.costs) (sym e) k.0, k.1)
+to_reported : (most : Thresholds) (a : Account) (c : Charged) → ChargedFits most a c → NamesCharge c → ChargedReported most a c
+to_reported most a (Fine b) k e = (subst (IsReportedBy most b.costs) (sym k.0.none) k.0.within, k.1)
+to_reported most a (Over charge b) k e = (subst (IsReportedBy most b.costs) (sym e) k.0, k.1)
 
-pub charge_told : (most : Thresholds) (a : Account) (charge : Charge) (n : ℕ) → IsTold most a → ChargedTold most a (charge_one most a charge n)
+pub charge_reported : (most : Thresholds) (a : Account) (charge : Charge) (n : ℕ) → IsReported most a → ChargedReported most a (charge_one most a charge n)
 unfolding charge_one
-charge_told most a charge n told = go a.exceeded refl where
-  go : (before : Option Charge) → a.exceeded ≡ before → ChargedTold most a (charge_after most a charge n before)
-  go None e = to_told most a (compared_with most charge (added a.costs charge n))
-      (compared_fits most a charge n (record { none = e; within = subst (IsToldBy most a.costs) e told })) (compared_names most charge (added a.costs charge n))
-  go (Some before) e = (told, less_same a.costs)
+charge_reported most a charge n reported = go a.exceeded refl where
+  go : (before : Option Charge) → a.exceeded ≡ before → ChargedReported most a (charge_after most a charge n before)
+  go None e = to_reported most a (compared_with most charge (added a.costs charge n))
+      (compared_fits most a charge n (record { none = e; within = subst (IsReportedBy most a.costs) e reported })) (compared_names most charge (added a.costs charge n))
+  go (Some before) e = (reported, less_same a.costs)
 
 -- ---- values and arrays
 

@@ -21,7 +21,7 @@ use Rattle.dj_model.proofs.Paying.{step_clears, unpaid_pays, paid_acts}
 use Rattle.dj_model.proofs.MappedRuns.{begin_mapped, run_mapped}
 use Rattle.dj_model.proofs.Shapes.{one_shape_fault, no_fault_with_shape, shape_or_fault}
 use Rattle.dj_model.proofs.Growth.{grows_sum}
-use Rattle.dj_model.proofs.StepFits.{steps_grow, begins_grow, turn_within, runs_within, step_told, begin_told, run_over}
+use Rattle.dj_model.proofs.StepFits.{steps_grow, begins_grow, turn_within, runs_within, step_reported, begin_reported, run_over}
 use Rattle.dj_model.proofs.SoundCalls.{kinds_kept}
 use Rattle.dj_model.proofs.SoundSteps.{step_made}
 use Rattle.dj_model.proofs.SoundRuns.{step_stands, begin_stands, plain_stands, never_starved, turn_stands, metered_stands}
@@ -31,7 +31,7 @@ use Rattle.dj_model.proofs.SmallRuns as rows
 use Rattle.dj_model.proofs.MappedNames as names
 use Rattle.dj_model.proofs.MappedEffects as effects
 use Rattle.dj_model.proofs.MappedSteps as steps
-use Rattle.dj_model.proofs.NameMaps.{front_at, front_statics, same_map, sandbox_map, accounter_apart, instruction_same, part_same, effect_same, option_same}
+use Rattle.dj_model.proofs.NameMaps.{prefix_at, prefix_statics, same_map, sandbox_map, accounter_apart, instruction_same, part_same, effect_same, option_same}
 
 mapped_from : (f : Name → Name) (g : Code → Code) (p q : Prefix) (is : IsNameMap f p q) (program other : Program)
     → ((name : Name) → class_at other (f name) ≡ option_map (class_map f g) (class_at program name))
@@ -44,9 +44,9 @@ mapped_from f g p q is program other at statics = record {
 }
 
 pub effect_commutes_with_names : CommutesWithNames
-effect_commutes_with_names f g p q program front is apart = mapped_from f g p q is program (front ++ program_map f g program)
-    (λ name. front_at f front (program_map f g program) apart name ∙ names.class_mapped f g p q is program name)
-    (λ class name desc. front_statics f front (program_map f g program) apart class name (desc_map f desc) ∙ names.static_place_alike f g p q is program class name desc)
+effect_commutes_with_names f g p q program prefix is apart = mapped_from f g p q is program (prefix ++ program_map f g program)
+    (λ name. prefix_at f prefix (program_map f g program) apart name ∙ names.class_mapped f g p q is program name)
+    (λ class name desc. prefix_statics f prefix (program_map f g program) apart class name (desc_map f desc) ∙ names.static_place_alike f g p q is program class name desc)
 
 pub effect_reads_no_code : ReadsNoCode
 effect_reads_no_code g p program =
@@ -92,7 +92,7 @@ pub heaps_grow : HeapsGrow
 heaps_grow = record { steps = steps_grow; sums = grows_sum; begins = begins_grow }
 
 pub costs_stay_within : CostsStayWithin
-costs_stay_within = record { turns = turn_within; runs = runs_within; accounted = step_told; accounted_begins = begin_told; accounted_runs = run_over }
+costs_stay_within = record { turns = turn_within; runs = runs_within; accounted = step_reported; accounted_begins = begin_reported; accounted_runs = run_over }
 
 pub pays_first : PaysFirst
 pays_first = record { unpaid = unpaid_pays; paid = paid_acts; cleared = step_clears }
@@ -101,8 +101,8 @@ pub keeps_kinds : KeepsKinds
 keeps_kinds = kinds_kept
 
 pub steps_are_made : StepsAreMade
-steps_are_made program prefix terms s f below i signature code k left is stands at linked h room told =
-    step_made program prefix terms s f below i signature code k left is linked h room told stands at
+steps_are_made program prefix terms s f below i signature code k left is stands at linked h room reported =
+    step_made program prefix terms s f below i signature code k left is linked h room reported stands at
 
 pub answers_have_kinds : AnswersHaveKinds
 answers_have_kinds = answer_kind

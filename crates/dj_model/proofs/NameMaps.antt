@@ -138,15 +138,15 @@ sandbox_map = record {
 
 -- ---- more classes in front
 
-pub front_at : (f : Name → Name) (front program : Program) → AreApart f front → (name : Name) → class_at (front ++ program) (f name) ≡ class_at program (f name)
-front_at f [] program apart name = refl
-front_at f (c ∷ front) program apart name = rw (apart.0 name) (front_at f front program apart.2 name)
+pub prefix_at : (f : Name → Name) (prefix program : Program) → AreApart f prefix → (name : Name) → class_at (prefix ++ program) (f name) ≡ class_at program (f name)
+prefix_at f [] program apart name = refl
+prefix_at f (c ∷ prefix) program apart name = rw (apart.0 name) (prefix_at f prefix program apart.2 name)
 
-pub front_statics : (f : Name → Name) (front program : Program) → AreApart f front → (class name : Name) (desc : Desc)
-    → static_place (front ++ program) (f class) name desc ≡ static_place program (f class) name desc
+pub prefix_statics : (f : Name → Name) (prefix program : Program) → AreApart f prefix → (class name : Name) (desc : Desc)
+    → static_place (prefix ++ program) (f class) name desc ≡ static_place program (f class) name desc
 unfolding static_place
-front_statics f [] program apart class name desc = refl
-front_statics f (c ∷ front) program apart class name desc = rw (apart.0 class, apart.1, front_statics f front program apart.2 class name desc) omega arith
+prefix_statics f [] program apart class name desc = refl
+prefix_statics f (c ∷ prefix) program apart class name desc = rw (apart.0 class, apart.1, prefix_statics f prefix program apart.2 class name desc) omega arith
 
 pub accounter_apart : AreApart in_sandbox (library_class (below_object accounter_class accounter_methods) ∷ library_class (below_object stop_class []) ∷ [])
 accounter_apart = (λ name. refl, refl, (λ name. refl, refl, tt))

@@ -26,7 +26,7 @@ use Rattle.dj_model.specs.trusted.State.{Metered, Account, Flow, Next, Goes, End
 use Rattle.dj_model.specs.trusted.Charging.{charge_one, new_account}
 use Rattle.dj_model.specs.trusted.Natives.{MakesText, answer, host_answer, name_units, shown_class}
 use Rattle.dj_model.specs.trusted.Performing.{seen, perform, native}
-use Rattle.dj_model.specs.Laws.{IsTold, IsEndTold}
+use Rattle.dj_model.specs.Laws.{IsReported, IsEndReported}
 use Rattle.dj_model.specs.SmallRuns.{class_with, field_with}
 use Rattle.dj_model.specs.Sound.{is_linked}
 
@@ -103,21 +103,21 @@ linked_by_name = refl
 abbrev fours : Thresholds
 fours = record { alloc = 4; invoke = 4; jump = 4; throw = 4 }
 
-abbrev told_after : ℕ → ℕ → Option Charge → Account
-told_after alloc invoke exceeded = record { costs = record { alloc = alloc; invoke = invoke; jump = 4; throw = 0 }; exceeded = exceeded }
+abbrev reported_after : ℕ → ℕ → Option Charge → Account
+reported_after alloc invoke exceeded = record { costs = record { alloc = alloc; invoke = invoke; jump = 4; throw = 0 }; exceeded = exceeded }
 
 -- none is above its threshold and none is reported, or the one that is
-told_ones : IsTold fours (told_after 4 0 None) × IsTold fours (told_after 5 4 (Some charges.Alloc))
-told_ones = (
+reported_ones : IsReported fours (reported_after 4 0 None) × IsReported fours (reported_after 5 4 (Some charges.Alloc))
+reported_ones = (
   record { alloc = omega arith; invoke = omega arith; jump = omega arith; throw = omega arith },
   (omega arith, omega arith, omega arith, omega arith),
 )
 
 -- not one that is above without being reported, one that is reported but isn't above, another one than the one that is, nor two that are
-untold_ones : (IsTold fours (told_after 5 0 None) → ⊥) × (IsTold fours (told_after 4 0 (Some charges.Alloc)) → ⊥) × (IsTold fours (told_after 5 0 (Some charges.Invoke)) → ⊥)
-    × (IsTold fours (told_after 5 5 (Some charges.Alloc)) → ⊥)
-untold_ones = ((λ t. omega (arith, t.alloc)), (λ t. omega (arith, t.0)), (λ t. omega (arith, t.0)), (λ t. omega (arith, t.1)))
+unreported_ones : (IsReported fours (reported_after 5 0 None) → ⊥) × (IsReported fours (reported_after 4 0 (Some charges.Alloc)) → ⊥) × (IsReported fours (reported_after 5 0 (Some charges.Invoke)) → ⊥)
+    × (IsReported fours (reported_after 5 5 (Some charges.Alloc)) → ⊥)
+unreported_ones = ((λ t. omega (arith, t.alloc)), (λ t. omega (arith, t.0)), (λ t. omega (arith, t.0)), (λ t. omega (arith, t.1)))
 
 -- a stop is by the one that is reported
-stops : IsEndTold (Some charges.Alloc) (outcomes.Stopped charges.Alloc) × (IsEndTold (Some charges.Alloc) (outcomes.Stopped charges.Jump) → ⊥) × (IsEndTold None (outcomes.Stopped charges.Alloc) → ⊥)
+stops : IsEndReported (Some charges.Alloc) (outcomes.Stopped charges.Alloc) × (IsEndReported (Some charges.Alloc) (outcomes.Stopped charges.Jump) → ⊥) × (IsEndReported None (outcomes.Stopped charges.Alloc) → ⊥)
 stops = (refl, (λ e. absurd cc), (λ e. absurd cc))

@@ -129,13 +129,13 @@ first_frames = refl
 abbrev before_end : Form → Judged
 before_end form = of (op 0 ∷ op 0 ∷ op 1 ∷ op 176 ∷ []) (frame 2 form ∷ []) []
 
-told_frames : before_end (forms.Append (types.Float ∷ [])) ∷ before_end (forms.Append (types.Double ∷ [])) ∷ before_end (forms.Append (types.Uninitialized 0 ∷ [])) ∷ before_end (forms.Append (types.Uninitialized 9 ∷ []))
+reported_frames : before_end (forms.Append (types.Float ∷ [])) ∷ before_end (forms.Append (types.Double ∷ [])) ∷ before_end (forms.Append (types.Uninitialized 0 ∷ [])) ∷ before_end (forms.Append (types.Uninitialized 9 ∷ []))
     ∷ before_end (forms.Chop 1) ∷ before_end (forms.Chop 2) ∷ before_end (forms.Stack1 types.Top) ∷ before_end (forms.Append (types.Top ∷ types.Top ∷ types.Top ∷ [])) ∷ before_end (forms.Append (types.Top ∷ types.Top ∷ []))
     ∷ before_end (forms.Full [] (types.Null ∷ types.Null ∷ types.Null ∷ [])) ∷ before_end (forms.Full (types.Long ∷ types.Long ∷ []) []) ∷ before_end (forms.Full [] (types.Long ∷ types.Null ∷ [])) ∷ []
     ≡ Fault (Some 2) ∷ Fault (Some 2) ∷ Fault (Some 2) ∷ Fault (Some 2) ∷ Shape ∷ Fault (Some 2) ∷ Fault (Some 2) ∷ Fault (Some 2) ∷ Shape
     ∷ Fault (Some 2) ∷ Fault (Some 2) ∷ Fault (Some 2) ∷ []
 unfolding after instruction_of simple state_before frames_after moved
-told_frames = refl
+reported_frames = refl
 
 -- goto N, D: aload_0, areturn, N: new, goto D: what new made is named by its number
 abbrev made_at : ℕ → Judged

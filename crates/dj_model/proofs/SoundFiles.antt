@@ -65,8 +65,8 @@ i_type = class_type (codes "I")
 abbrev error : Ty
 error = class_type (lang_name (codes "Error"))
 
-abbrev told : List VType
-told = types.Object 1 ∷ types.Integer ∷ types.Object 1 ∷ types.Long ∷ []
+abbrev reported : List VType
+reported = types.Object 1 ∷ types.Integer ∷ types.Object 1 ∷ types.Long ∷ []
 
 -- a text's length is kept in a field of a C, two calls give it, and their sum goes through k; 1 returns an array of two bytes, 2 does so after
 -- another look at the input, and else an Error with a text or null is thrown, caught at 37, and the input returned
@@ -85,8 +85,8 @@ verify_code =
 abbrev verify_frames : List Frame
 verify_frames =
     frame 21 (forms.Append (types.Integer ∷ types.Object 1 ∷ types.Long ∷ [])) ∷ frame 24 forms.Same ∷ frame 28 forms.Same
-    ∷ frame 34 (forms.Full told (types.Uninitialized 28 ∷ types.Uninitialized 28 ∷ []))
-    ∷ frame 35 (forms.Full told (types.Uninitialized 28 ∷ types.Uninitialized 28 ∷ types.Object 1 ∷ []))
+    ∷ frame 34 (forms.Full reported (types.Uninitialized 28 ∷ types.Uninitialized 28 ∷ []))
+    ∷ frame 35 (forms.Full reported (types.Uninitialized 28 ∷ types.Uninitialized 28 ∷ types.Object 1 ∷ []))
     ∷ frame 37 (forms.Full (types.Object 1 ∷ []) (types.Object 1 ∷ [])) ∷ []
 
 -- 7 gives 1, and every other int 2, which goes through a static field

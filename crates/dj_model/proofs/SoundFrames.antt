@@ -40,21 +40,21 @@ flow_stack (a ∷ x) [] e = absurd cc
 flow_stack (a ∷ x) (b ∷ y) e = let p = both_parts (same_kind a b) (pointwise same_kind x y) e in
     λ i. same_kind_is a b p.0 i ∷ flow_stack x y p.1 i
 
-flow_has : (vs : List (Option Value)) (ks told : List (Option Kind)) → length vs ≡ length told → LocalsHave vs ks → locals_flow ks told ≡ true → LocalsHave vs told
+flow_has : (vs : List (Option Value)) (ks reported : List (Option Kind)) → length vs ≡ length reported → LocalsHave vs ks → locals_flow ks reported ≡ true → LocalsHave vs reported
 flow_has [] [] [] n h e = tt
-flow_has [] (k ∷ ks) told n h e = absurd h
-flow_has [] [] (t ∷ told) n h e = absurd (omega arith)
+flow_has [] (k ∷ ks) reported n h e = absurd h
+flow_has [] [] (t ∷ reported) n h e = absurd (omega arith)
 flow_has (v ∷ vs) ks [] n h e = absurd (omega arith)
-flow_has (None ∷ vs) [] (t ∷ told) n h e = absurd h
-flow_has (Some v ∷ vs) [] (t ∷ told) n h e = absurd h
-flow_has (None ∷ vs) (None ∷ ks) (None ∷ told) n h e = flow_has vs ks told (omega arith) h e
-flow_has (Some v ∷ vs) (None ∷ ks) (None ∷ told) n h e = flow_has vs ks told (omega arith) h e
-flow_has (None ∷ vs) (Some k ∷ ks) (t ∷ told) n h e = absurd h
-flow_has (Some v ∷ vs) (Some k ∷ ks) (None ∷ told) n h e = flow_has vs ks told (omega arith) h.1 e
-flow_has (None ∷ vs) (None ∷ ks) (Some t ∷ told) n h e = absurd cc
-flow_has (Some v ∷ vs) (None ∷ ks) (Some t ∷ told) n h e = absurd cc
-flow_has (Some v ∷ vs) (Some k ∷ ks) (Some t ∷ told) n h e = let p = both_parts (same_kind t k) (locals_flow ks told) e in
-    (h.0 ∙ sym (same_kind_is t k p.0), flow_has vs ks told (omega arith) h.1 p.1)
+flow_has (None ∷ vs) [] (t ∷ reported) n h e = absurd h
+flow_has (Some v ∷ vs) [] (t ∷ reported) n h e = absurd h
+flow_has (None ∷ vs) (None ∷ ks) (None ∷ reported) n h e = flow_has vs ks reported (omega arith) h e
+flow_has (Some v ∷ vs) (None ∷ ks) (None ∷ reported) n h e = flow_has vs ks reported (omega arith) h e
+flow_has (None ∷ vs) (Some k ∷ ks) (t ∷ reported) n h e = absurd h
+flow_has (Some v ∷ vs) (Some k ∷ ks) (None ∷ reported) n h e = flow_has vs ks reported (omega arith) h.1 e
+flow_has (None ∷ vs) (None ∷ ks) (Some t ∷ reported) n h e = absurd cc
+flow_has (Some v ∷ vs) (None ∷ ks) (Some t ∷ reported) n h e = absurd cc
+flow_has (Some v ∷ vs) (Some k ∷ ks) (Some t ∷ reported) n h e = let p = both_parts (same_kind t k) (locals_flow ks reported) e in
+    (h.0 ∙ sym (same_kind_is t k p.0), flow_has vs ks reported (omega arith) h.1 p.1)
 
 -- ---- frames of a stack map have kinds of as many local variables as the code has
 
@@ -74,46 +74,46 @@ fitting_room code locals (Some stack) k e =
     sym (ap (λ (l : List (Option Kind)). length l) is) ∙ padded_room code.max_locals (entry_slots locals) le
 
 placed_room : (code : Code) (before : List (Option Kind)) (frames : List MapFrame) (placed : List Placed) → frames_after code before frames ≡ Read placed
-    → (number : ℕ) (told : Kinds) → placed_at placed number ≡ Some told → length told.locals ≡ code.max_locals
+    → (number : ℕ) (reported : Kinds) → placed_at placed number ≡ Some reported → length reported.locals ≡ code.max_locals
 unfolding frames_after
-placed_room code before [] placed e number told at =
+placed_room code before [] placed e number reported at =
     let none : [] ≡ placed = cc in
-    let no : None ≡ Some told = subst (λ (l : List Placed). placed_at l number ≡ Some told) (sym none) at in absurd cc
-placed_room code before (f ∷ rest) placed e number told at =
-    by_entries (form_entries code before f.form) (λ locals more is. placed_room code locals rest more is number told) e where
+    let no : None ≡ Some reported = subst (λ (l : List Placed). placed_at l number ≡ Some reported) (sym none) at in absurd cc
+placed_room code before (f ∷ rest) placed e number reported at =
+    by_entries (form_entries code before f.form) (λ locals more is. placed_room code locals rest more is number reported) e where
       by_map : (k : Kinds) (map : Map) → length k.locals ≡ code.max_locals
-          → ((more : List Placed) → map ≡ Read more → placed_at more number ≡ Some told → length told.locals ≡ code.max_locals)
-          → and_then (record { at = f.at; kinds = k }) map ≡ Read placed → length told.locals ≡ code.max_locals
+          → ((more : List Placed) → map ≡ Read more → placed_at more number ≡ Some reported → length reported.locals ≡ code.max_locals)
+          → and_then (record { at = f.at; kinds = k }) map ≡ Read placed → length reported.locals ≡ code.max_locals
       by_map k (Faulty other) room each e = absurd cc
       by_map k NoMap room each e = absurd cc
       by_map k (Read more) room each e =
           let is : record { at = f.at; kinds = k } ∷ more ≡ placed = cc in
-          let there : placed_at (record { at = f.at; kinds = k } ∷ more) number ≡ Some told = subst (λ (l : List Placed). placed_at l number ≡ Some told) (sym is) at in
+          let there : placed_at (record { at = f.at; kinds = k } ∷ more) number ≡ Some reported = subst (λ (l : List Placed). placed_at l number ≡ Some reported) (sym is) at in
           elim (either (nat_eq f.at number)) [
-            | inl here ↦ let same : Some k ≡ Some told = rw here at there in
-                let kinds_are : k ≡ told = cc in subst (λ (j : Kinds). length j.locals ≡ code.max_locals) kinds_are room
+            | inl here ↦ let same : Some k ≡ Some reported = rw here at there in
+                let kinds_are : k ≡ reported = cc in subst (λ (j : Kinds). length j.locals ≡ code.max_locals) kinds_are room
             | inr later ↦ each more refl (rw later at there)
           ]
 
       by_fitting : (k : Option Kinds) (map : Map) → ((j : Kinds) → k ≡ Some j → length j.locals ≡ code.max_locals)
-          → ((more : List Placed) → map ≡ Read more → placed_at more number ≡ Some told → length told.locals ≡ code.max_locals)
-          → with_fitting f.at k map ≡ Read placed → length told.locals ≡ code.max_locals
+          → ((more : List Placed) → map ≡ Read more → placed_at more number ≡ Some reported → length reported.locals ≡ code.max_locals)
+          → with_fitting f.at k map ≡ Read placed → length reported.locals ≡ code.max_locals
       by_fitting None map room each e = absurd cc
       by_fitting (Some k) map room each e = by_map k map (room k refl) each e
 
       by_entries : (entries : Option Entries)
-          → ((locals : List (Option Kind)) (more : List Placed) → frames_after code locals rest ≡ Read more → placed_at more number ≡ Some told → length told.locals ≡ code.max_locals)
-          → with_frame code f.at entries (λ locals. frames_after code locals rest) ≡ Read placed → length told.locals ≡ code.max_locals
+          → ((locals : List (Option Kind)) (more : List Placed) → frames_after code locals rest ≡ Read more → placed_at more number ≡ Some reported → length reported.locals ≡ code.max_locals)
+          → with_frame code f.at entries (λ locals. frames_after code locals rest) ≡ Read placed → length reported.locals ≡ code.max_locals
       by_entries None each e = absurd cc
       by_entries (Some entries) each e = by_fitting (fitting code entries.locals (stack_of entries.stack)) (frames_after code entries.locals rest)
           (fitting_room code entries.locals (stack_of entries.stack)) (each entries.locals) e
 
-told_room : (signature : Signature) (code : Code) (placed : List Placed) → map_of signature code ≡ Read placed → (number : ℕ) (told : Kinds) → placed_at placed number ≡ Some told
-    → length told.locals ≡ code.max_locals
-told_room signature code placed e number told at = by code.frames e where
-  by : (frames : Option (List MapFrame)) → frames_in code (parameter_entries signature) frames ≡ Read placed → length told.locals ≡ code.max_locals
+reported_room : (signature : Signature) (code : Code) (placed : List Placed) → map_of signature code ≡ Read placed → (number : ℕ) (reported : Kinds) → placed_at placed number ≡ Some reported
+    → length reported.locals ≡ code.max_locals
+reported_room signature code placed e number reported at = by code.frames e where
+  by : (frames : Option (List MapFrame)) → frames_in code (parameter_entries signature) frames ≡ Read placed → length reported.locals ≡ code.max_locals
   by None e = absurd cc
-  by (Some frames) e = placed_room code (parameter_entries signature) frames placed e number told at
+  by (Some frames) e = placed_room code (parameter_entries signature) frames placed e number reported at
 
 -- ---- parameters in their slots
 
@@ -212,11 +212,11 @@ held program prefix is m method code signature placed there body described map_i
 -- ---- where a frame stands
 
 -- before an instruction with a frame stands what the frame declares
-placed_state : (signature : Signature) (code : Code) (placed : List Placed) (number : ℕ) (told : Kinds) → placed_at placed number ≡ Some told
-    → state_before signature code placed number ≡ Some told
+placed_state : (signature : Signature) (code : Code) (placed : List Placed) (number : ℕ) (reported : Kinds) → placed_at placed number ≡ Some reported
+    → state_before signature code placed number ≡ Some reported
 unfolding state_before
-placed_state signature code placed zero told e = rw e refl
-placed_state signature code placed (suc number) told e = rw e refl
+placed_state signature code placed zero reported e = rw e refl
+placed_state signature code placed (suc number) reported e = rw e refl
 
 -- an instruction of the code is below its length, and one below has an instruction
 module _ (program : Program) (prefix : Prefix) (is : IsSound program prefix) (f : Frame Declared) (s : IsAt program f) where
@@ -304,13 +304,13 @@ module _ (program : Program) (prefix : Prefix) (is : IsSound program prefix) (f 
   ready_at number lt k state vs os have room = record { at = at_place number lt k state vs os have.locals room; operands = have.operands }
 
   -- what is left flows into a frame
-  flows_in : (left told : Kinds) (number : ℕ) → placed_at s.placed number ≡ Some told → flows_into left told ≡ true → (vs : List (Option Value)) (os : List Value)
-      → HasKinds vs os left → Room vs → HasKinds vs os told
-  flows_in left told number at flows vs os have room =
-      let p = both_parts (locals_flow left.locals told.locals) (pointwise same_kind left.stack told.stack) flows in
+  flows_in : (left reported : Kinds) (number : ℕ) → placed_at s.placed number ≡ Some reported → flows_into left reported ≡ true → (vs : List (Option Value)) (os : List Value)
+      → HasKinds vs os left → Room vs → HasKinds vs os reported
+  flows_in left reported number at flows vs os have room =
+      let p = both_parts (locals_flow left.locals reported.locals) (pointwise same_kind left.stack reported.stack) flows in
       record {
-        locals = flow_has vs left.locals told.locals (room ∙ sym (told_room s.signature s.code s.placed s.map number told at)) have.locals p.0;
-        operands = have.operands ∙ flow_stack left.stack told.stack p.1;
+        locals = flow_has vs left.locals reported.locals (room ∙ sym (reported_room s.signature s.code s.placed s.map number reported at)) have.locals p.0;
+        operands = have.operands ∙ flow_stack left.stack reported.stack p.1;
       }
 
   pub goes_next : (left : Kinds) → after s.signature s.code s.instruction s.before ≡ Some left → ends s.instruction ≡ false → (vs : List (Option Value)) (os : List Value)
@@ -325,13 +325,13 @@ module _ (program : Program) (prefix : Prefix) (is : IsSound program prefix) (f 
         lt : suc f.number < length s.code.instructions
         lt = let t = first_or (ends s.instruction) _ h.last goes_on in grind (arith, nat_tests, t)
 
-        by : (told : Option Kinds) → placed_at s.placed (suc f.number) ≡ told → IsReady program (moved (suc f.number) vs os)
+        by : (reported : Option Kinds) → placed_at s.placed (suc f.number) ≡ reported → IsReady program (moved (suc f.number) vs os)
         by None none = ready_at (suc f.number) lt left after_it vs os have room where
           after_it : state_before s.signature s.code s.placed (suc f.number) ≡ Some left
           after_it = rw (none, s.state, s.at, goes_on) e
-        by (Some told) some =
-            let flows : flows_to left (Some told) ≡ true = subst (λ (t : Option Kinds). flows_to left t ≡ true) some (first_or (ends s.instruction) _ h.goes_on goes_on) in
-            ready_at (suc f.number) lt told (placed_state s.signature s.code s.placed (suc f.number) told some) vs os (flows_in left told (suc f.number) some flows vs os have room) room
+        by (Some reported) some =
+            let flows : flows_to left (Some reported) ≡ true = subst (λ (t : Option Kinds). flows_to left t ≡ true) some (first_or (ends s.instruction) _ h.goes_on goes_on) in
+            ready_at (suc f.number) lt reported (placed_state s.signature s.code s.placed (suc f.number) reported some) vs os (flows_in left reported (suc f.number) some flows vs os have room) room
 
   among : (xs : List ℕ) (test : ℕ → Bool) (n : ℕ) → IsTrue (list_all test xs) → IsAmong xs n → test n ≡ true
   among [] test n all a = absurd a
@@ -349,17 +349,17 @@ module _ (program : Program) (prefix : Prefix) (is : IsSound program prefix) (f 
     frame : flows_to_frame left (placed_at s.placed target) ≡ true
     frame = among (targets s.instruction) (λ t. flows_to_frame left (placed_at s.placed t)) target (here left e).jumps a
 
-    by : (told : Option Kinds) → placed_at s.placed target ≡ told → IsReady program (moved target vs os)
+    by : (reported : Option Kinds) → placed_at s.placed target ≡ reported → IsReady program (moved target vs os)
     by None none = absurd (let no : flows_to_frame left None ≡ true = subst (λ (t : Option Kinds). flows_to_frame left t ≡ true) none frame in cc)
-    by (Some told) some = ready_at target within_code told (placed_state s.signature s.code s.placed target told some) vs os
-        (flows_in left told target some (subst (λ (t : Option Kinds). flows_to_frame left t ≡ true) some frame) vs os have room) room
+    by (Some reported) some = ready_at target within_code reported (placed_state s.signature s.code s.placed target reported some) vs os
+        (flows_in left reported target some (subst (λ (t : Option Kinds). flows_to_frame left t ≡ true) some frame) vs os have room) room
 
   -- an exception comes to a handler that finds its frame
-  handler_told : (number : ℕ) → is_handler_frame (placed_at s.placed number) ≡ true → (told : Kinds) × (placed_at s.placed number ≡ Some told) × (told.stack ≡ kinds.Ref ∷ [])
-  handler_told number e = by (placed_at s.placed number) refl e where
-    by : (told : Option Kinds) → placed_at s.placed number ≡ told → is_handler_frame told ≡ true → (told : Kinds) × (placed_at s.placed number ≡ Some told) × (told.stack ≡ kinds.Ref ∷ [])
+  handler_reported : (number : ℕ) → is_handler_frame (placed_at s.placed number) ≡ true → (reported : Kinds) × (placed_at s.placed number ≡ Some reported) × (reported.stack ≡ kinds.Ref ∷ [])
+  handler_reported number e = by (placed_at s.placed number) refl e where
+    by : (reported : Option Kinds) → placed_at s.placed number ≡ reported → is_handler_frame reported ≡ true → (reported : Kinds) × (placed_at s.placed number ≡ Some reported) × (reported.stack ≡ kinds.Ref ∷ [])
     by None none h = absurd cc
-    by (Some told) some h = (told, some, flow_stack told.stack (kinds.Ref ∷ []) h)
+    by (Some reported) some h = (reported, some, flow_stack reported.stack (kinds.Ref ∷ []) h)
 
   equal_self : (n : ℕ) → nat_eq n n ≡ true
   equal_self n = grind (arith, nat_tests)
@@ -370,14 +370,14 @@ module _ (program : Program) (prefix : Prefix) (is : IsSound program prefix) (f 
       let h = is_held.holds range.handler lt in
       let frame = not_or (nat_eq range.handler range.handler) (is_handler_frame (placed_at s.placed range.handler))
       (all_at (λ (r : Range). not (nat_eq range.handler r.handler) || is_handler_frame (placed_at s.placed range.handler)) s.code.ranges range h.handles there) (equal_self range.handler) in
-      let told = handler_told range.handler frame in
+      let reported = handler_reported range.handler frame in
       let flows = not_or (covers range f.number) (locals_flow_to s.before (placed_at s.placed range.handler))
       (all_at (λ (r : Range). not (covers r f.number) || locals_flow_to s.before (placed_at s.placed r.handler)) s.code.ranges range handled_here there) covered in
-      let flow : locals_flow s.before.locals told.0.locals ≡ true = subst (λ (t : Option Kinds). locals_flow_to s.before t ≡ true) told.1 flows in
-      ready_at range.handler lt told.0 (placed_state s.signature s.code s.placed range.handler told.0 told.1) f.locals (values.Ref exception ∷ [])
+      let flow : locals_flow s.before.locals reported.0.locals ≡ true = subst (λ (t : Option Kinds). locals_flow_to s.before t ≡ true) reported.1 flows in
+      ready_at range.handler lt reported.0 (placed_state s.signature s.code s.placed range.handler reported.0 reported.1) f.locals (values.Ref exception ∷ [])
       (record {
-        locals = flow_has f.locals s.before.locals told.0.locals (s.room ∙ sym (told_room s.signature s.code s.placed s.map range.handler told.0 told.1)) s.locals flow;
-        operands = sym told.2;
+        locals = flow_has f.locals s.before.locals reported.0.locals (s.room ∙ sym (reported_room s.signature s.code s.placed s.map range.handler reported.0 reported.1)) s.locals flow;
+        operands = sym reported.2;
       }) s.room
 
 -- ---- a frame at its first instruction
@@ -424,13 +424,13 @@ begins_ready program prefix is m method code signature placed there body describ
         operands = operands;
       }
 
-      by : (told : Option Kinds) → placed_at placed 0 ≡ told → IsReady program (record { method = m; number = 0; locals = padded code.max_locals (in_slots is_long args); operands = []; paid = false })
+      by : (reported : Option Kinds) → placed_at placed 0 ≡ reported → IsReady program (record { method = m; number = 0; locals = padded code.max_locals (in_slots is_long args); operands = []; paid = false })
       by None none = ready (first_kinds signature code) (rw none refl) have refl
-      by (Some told) some =
-          let flows : flows_into (first_kinds signature code) told ≡ true = subst (λ (t : Option Kinds). flows_to (first_kinds signature code) t ≡ true) some h.begins in
-          let p = both_parts (locals_flow (padded code.max_locals (in_slots is_wide signature.parameters)) told.locals) (pointwise same_kind [] told.stack) flows in
-          ready told (rw some refl) (flow_has (padded code.max_locals (in_slots is_long args)) (padded code.max_locals (in_slots is_wide signature.parameters)) told.locals
-          (room ∙ sym (told_room signature code placed map_is 0 told some)) have p.0) (flow_stack [] told.stack p.1)
+      by (Some reported) some =
+          let flows : flows_into (first_kinds signature code) reported ≡ true = subst (λ (t : Option Kinds). flows_to (first_kinds signature code) t ≡ true) some h.begins in
+          let p = both_parts (locals_flow (padded code.max_locals (in_slots is_wide signature.parameters)) reported.locals) (pointwise same_kind [] reported.stack) flows in
+          ready reported (rw some refl) (flow_has (padded code.max_locals (in_slots is_long args)) (padded code.max_locals (in_slots is_wide signature.parameters)) reported.locals
+          (room ∙ sym (reported_room signature code placed map_is 0 reported some)) have p.0) (flow_stack [] reported.stack p.1)
 
 pub starts_ready : (program : Program) (prefix : Prefix) → IsSound program prefix → (m : Declared) (method : Method) (code : Code) (signature : Signature) → method_at program m ≡ Some method
     → method.body ≡ Runs code → signature_of (is_static method.flags) method.desc ≡ Some signature → (args : List Value) → map value_kind args ≡ signature.parameters

@@ -188,11 +188,11 @@ module _ (program : Program) (prefix : Prefix) (is : IsSound program prefix) whe
 
   -- what follows the effect of an instruction
   module _ (terms : Terms) (f : Frame Declared) (s : IsAt program f) (below : List (Frame Declared)) (callers : AreCallers program f.method below) (left : Kinds)
-      (told : after s.signature s.code s.instruction s.before ≡ Some left) where
+      (known : after s.signature s.code s.instruction s.before ≡ Some left) where
     way_stands : (t : State) (x : Part) (way : Way) → IsSoundFlow program s.signature s.code s.instruction s.before left x (Goes way)
         → AnswerStands program (settle_way program prefix terms t (frame_with f x) below way)
-    way_stands t x Next flow = (goes_next program prefix is f s left told flow.1 x.locals x.operands flow.0.kinds flow.0.room, callers)
-    way_stands t x (To target) flow = (jumps_to program prefix is f s left told target flow.1 x.locals x.operands flow.0.kinds flow.0.room, callers)
+    way_stands t x Next flow = (goes_next program prefix is f s left known flow.1 x.locals x.operands flow.0.kinds flow.0.room, callers)
+    way_stands t x (To target) flow = (jumps_to program prefix is f s left known target flow.1 x.locals x.operands flow.0.kinds flow.0.room, callers)
     way_stands t x (Raise raised) flow = throw_new_stands terms (record t { frames = frame_with f x ∷ below }) (new_exception prefix raised) (kept f s x.locals x.operands flow, callers)
     way_stands t x (Back result) flow = returned_like below callers where
       returned_like : (below : List (Frame Declared)) → AreCallers program f.method below → AnswerStands program (returned t (frame_with f x) result below)
@@ -214,7 +214,7 @@ module _ (program : Program) (prefix : Prefix) (is : IsSound program prefix) whe
             at = kept f s x.locals x.operands flow.keeps;
             calls = flow.calls;
             left = left;
-            found = told;
+            found = known;
             locals = flow.locals;
             gives = subst (λ (r : Option Kind). with_given r (map value_kind x.operands) ≡ left.stack) (result flow) flow.gives;
           },

@@ -54,14 +54,14 @@ settle_formed program prefix terms s f below (End outcome) = tt
 
 module _ (program : Program) (prefix : Prefix) (terms : Terms) (s : State) (f : Frame Declared) (below : List (Frame Declared)) (i : Instruction) (signature : Signature) (code : Code) (k left : Kinds)
     (is : IsSound program prefix) (linked : IsTrue (is_linked program prefix i)) (h : HasKinds f.locals f.operands k) (room : length f.locals ≡ code.max_locals)
-    (told : after signature code i k ≡ Some left) where
+    (reported : after signature code i k ≡ Some left) where
   starved_at : s.frames ≡ f ∷ below → instruction_at program f ≡ Some i → (t : State) → prepared program prefix terms (used_class program prefix i) s ≡ Ready t
       → IsStarved program prefix terms f.method.class i (part_of f t) → IsStarvedAt program prefix terms s
   starved_at stands at t ready starved = record { top = f; below = below; frames = stands; instruction = i; at = at; ready = t; prepared = ready; starved = starved }
 
   act_formed : s.frames ≡ f ∷ below → instruction_at program f ≡ Some i → (r : Initialised) → prepared program prefix terms (used_class program prefix i) s ≡ r
       → IsFormed (done program prefix terms f below i r) ⊎ IsStarvedAt program prefix terms s
-  act_formed stands at (Ready t) ready = elim (kinds_kept program prefix terms f.method.class signature code i k left (part_of f t) is linked h room told) [
+  act_formed stands at (Ready t) ready = elim (kinds_kept program prefix terms f.method.class signature code i k left (part_of f t) is linked h room reported) [
     | inl e ↦ inl (rw e.has (settle_formed program prefix terms (with_part t e.does.part) (frame_with f e.does.part) below e.does.flow))
     | inr starved ↦ inr (starved_at stands at t ready starved)
   ]

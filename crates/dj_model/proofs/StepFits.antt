@@ -29,32 +29,32 @@ use Rattle.dj_model.specs.trusted.Runs as runs
 use Rattle.dj_model.specs.Runs as more_runs
 use Rattle.dj_model.specs.trusted.Runs.{input_array, empty_heap, input_heap, start_state, begun, begin, Ran}
 use Rattle.dj_model.specs.Runs.{amounts, Run, Stuck, paid_run, pay, top_is_paid, answer_run, metered_terms, turn, turns, then_turn, metered_run}
-use Rattle.dj_model.specs.Laws.{Grows, IsLess, IsPaid, AnswerGrows, IsEndWithin, RunWithin, IsToldBy, IsTold, IsEndTold, AnswerTold, IsStopOver, accounted_terms}
+use Rattle.dj_model.specs.Laws.{Grows, IsLess, IsPaid, AnswerGrows, IsEndWithin, RunWithin, IsReportedBy, IsReported, IsEndReported, AnswerReported, IsStopOver, accounted_terms}
 use Rattle.dj_model.proofs.Flows.{either_way}
 use Rattle.dj_model.proofs.Growth.{grows_same, grows_new, grows_then}
 use Rattle.dj_model.proofs.Fits.{PlainOutcome, OutcomePaid, plain_outcome, less_same, less_then, StaysPaid, Accounts, Fits, ChargedFits, charge_fits}
 use Rattle.dj_model.proofs.EffectFits as effects
 
-told_end : (exceeded : Option Charge) (outcome : Outcome) → PlainOutcome outcome → IsEndTold exceeded outcome
-told_end exceeded (outcomes.Stopped charge) plain = absurd plain
-told_end exceeded outcomes.OkNull plain = tt
-told_end exceeded (outcomes.OkBytes bytes) plain = tt
-told_end exceeded (outcomes.Threw class message) plain = tt
-told_end exceeded (outcomes.Init class exception message) plain = tt
-told_end exceeded outcomes.Link plain = tt
-told_end exceeded outcomes.TooDeep plain = tt
-told_end exceeded (outcomes.HeapFull used size) plain = tt
-told_end exceeded (outcomes.OutOfSteps steps) plain = tt
+reported_end : (exceeded : Option Charge) (outcome : Outcome) → PlainOutcome outcome → IsEndReported exceeded outcome
+reported_end exceeded (outcomes.Stopped charge) plain = absurd plain
+reported_end exceeded outcomes.OkNull plain = tt
+reported_end exceeded (outcomes.OkBytes bytes) plain = tt
+reported_end exceeded (outcomes.Threw class message) plain = tt
+reported_end exceeded (outcomes.Init class exception message) plain = tt
+reported_end exceeded outcomes.Link plain = tt
+reported_end exceeded outcomes.TooDeep plain = tt
+reported_end exceeded (outcomes.HeapFull used size) plain = tt
+reported_end exceeded (outcomes.OutOfSteps steps) plain = tt
 
-told_stop : (exceeded : Option Charge) (outcome : Outcome) → PlainOutcome outcome → IsEndTold exceeded (stopped_by exceeded outcome)
-told_stop None outcome plain = told_end None outcome plain
-told_stop (Some charge) outcome plain = refl
+reported_stop : (exceeded : Option Charge) (outcome : Outcome) → PlainOutcome outcome → IsEndReported exceeded (stopped_by exceeded outcome)
+reported_stop None outcome plain = reported_end None outcome plain
+reported_stop (Some charge) outcome plain = refl
 
 module _ (program : Program) (prefix : Prefix) (terms : Terms) (b : State) where
   -- how the account stands at an end
   abbrev EndPaid : Counting → Account → Account → Outcome → Type 0
   EndPaid Uncounted a c outcome = ⊤
-  EndPaid (Accounted most) a c outcome = IsTold most a → IsTold most c × IsLess a.costs c.costs × IsEndTold c.exceeded outcome
+  EndPaid (Accounted most) a c outcome = IsReported most a → IsReported most c × IsLess a.costs c.costs × IsEndReported c.exceeded outcome
   EndPaid (Metered most) a c outcome = IsPaid most a → OutcomePaid most c outcome × IsLess a.costs c.costs
 
   abbrev pub FromHere : State → Type 0
@@ -67,16 +67,16 @@ module _ (program : Program) (prefix : Prefix) (terms : Terms) (b : State) where
 
   end_plain : (counting : Counting) (a c : Account) (outcome : Outcome) → PlainOutcome outcome → StaysPaid counting a c → EndPaid counting a c outcome
   end_plain Uncounted a c outcome plain k = tt
-  end_plain (Accounted most) a c outcome plain k = λ told. let now = k told in (now.0, now.1, told_end c.exceeded outcome plain)
+  end_plain (Accounted most) a c outcome plain k = λ reported. let now = k reported in (now.0, now.1, reported_end c.exceeded outcome plain)
   end_plain (Metered most) a c outcome plain k = λ paid. let now = k paid in (plain_outcome most c outcome plain now.0, now.1)
 
   ends_paid : (counting : Counting) (a c : Account) (class : Ty) (outcome : Outcome) → PlainOutcome outcome → StaysPaid counting a c
       → EndPaid counting a c (if is_stop prefix class then stopped_by c.exceeded outcome else outcome)
   ends_paid Uncounted a c class outcome plain k = tt
-  ends_paid (Accounted most) a c class outcome plain k = λ told. let now = k told in (
+  ends_paid (Accounted most) a c class outcome plain k = λ reported. let now = k reported in (
     now.0,
     now.1,
-    either_way (IsEndTold c.exceeded) (is_stop prefix class) _ _ (told_stop c.exceeded outcome plain) (told_end c.exceeded outcome plain),
+    either_way (IsEndReported c.exceeded) (is_stop prefix class) _ _ (reported_stop c.exceeded outcome plain) (reported_end c.exceeded outcome plain),
   )
   ends_paid (Metered most) a c class outcome plain k = λ paid. let now = k paid in (
     either_way (OutcomePaid most c) (is_stop prefix class) _ _
@@ -152,12 +152,12 @@ module _ (program : Program) (prefix : Prefix) (terms : Terms) (b : State) where
   flow_fits Uncounted a s c (Catch exception) k e = tt
   flow_fits Uncounted a s c Stop k e = tt
   flow_fits Uncounted a s c (Call m arguments) k e = tt
-  flow_fits (Accounted most) a s c (End outcome) k e = λ told. let now = k told in let then_ = e now.0 in
-      (then_.0, less_then a.costs s.costs c.costs now.1 then_.1, told_end c.exceeded outcome then_.2)
-  flow_fits (Accounted most) a s c (Goes way) k e = λ told. let now = k told in let then_ = e now.0 in (then_.0, less_then a.costs s.costs c.costs now.1 then_.1)
-  flow_fits (Accounted most) a s c (Catch exception) k e = λ told. let now = k told in let then_ = e now.0 in (then_.0, less_then a.costs s.costs c.costs now.1 then_.1)
-  flow_fits (Accounted most) a s c Stop k e = λ told. let now = k told in let then_ = e now.0 in (then_.0, less_then a.costs s.costs c.costs now.1 then_.1)
-  flow_fits (Accounted most) a s c (Call m arguments) k e = λ told. let now = k told in let then_ = e now.0 in (then_.0, less_then a.costs s.costs c.costs now.1 then_.1)
+  flow_fits (Accounted most) a s c (End outcome) k e = λ reported. let now = k reported in let then_ = e now.0 in
+      (then_.0, less_then a.costs s.costs c.costs now.1 then_.1, reported_end c.exceeded outcome then_.2)
+  flow_fits (Accounted most) a s c (Goes way) k e = λ reported. let now = k reported in let then_ = e now.0 in (then_.0, less_then a.costs s.costs c.costs now.1 then_.1)
+  flow_fits (Accounted most) a s c (Catch exception) k e = λ reported. let now = k reported in let then_ = e now.0 in (then_.0, less_then a.costs s.costs c.costs now.1 then_.1)
+  flow_fits (Accounted most) a s c Stop k e = λ reported. let now = k reported in let then_ = e now.0 in (then_.0, less_then a.costs s.costs c.costs now.1 then_.1)
+  flow_fits (Accounted most) a s c (Call m arguments) k e = λ reported. let now = k reported in let then_ = e now.0 in (then_.0, less_then a.costs s.costs c.costs now.1 then_.1)
   flow_fits (Metered most) a s c (End outcome) k e = λ paid. let now = k paid in let then_ = e now.0 in (then_.0, less_then a.costs s.costs c.costs now.1 then_.1)
   flow_fits (Metered most) a s c (Goes way) k e = λ paid. let now = k paid in let then_ = e now.0 in (then_.0, less_then a.costs s.costs c.costs now.1 then_.1)
   flow_fits (Metered most) a s c (Catch exception) k e = λ paid. let now = k paid in let then_ = e now.0 in (then_.0, less_then a.costs s.costs c.costs now.1 then_.1)
@@ -269,7 +269,7 @@ module _ (program : Program) (prefix : Prefix) (terms : Terms) (b : State) where
 
 stays : (counting : Counting) (a : Account) → StaysPaid counting a a
 stays Uncounted a = tt
-stays (Accounted most) a = λ told. (told, less_same a.costs)
+stays (Accounted most) a = λ reported. (reported, less_same a.costs)
 stays (Metered most) a = λ paid. (paid, less_same a.costs)
 
 pub steps_grow : (program : Program) (prefix : Prefix) (terms : Terms) (s : State) → AnswerGrows s.heap (step program prefix terms s)
@@ -289,7 +289,7 @@ begin_fits program prefix terms entry input answers =
     (initialise_fit program prefix terms b entry.class s (grown input, stays terms.counting b.account))) where
       end_paid : (counting : Counting) (a : Account) (size : ℕ) → EndPaid program prefix terms (start_state program entry empty_heap answers) counting a a (outcomes.HeapFull 0 size)
       end_paid Uncounted a size = tt
-      end_paid (Accounted most) a size = λ told. (told, less_same a.costs, tt)
+      end_paid (Accounted most) a size = λ reported. (reported, less_same a.costs, tt)
       end_paid (Metered most) a size = λ paid. (paid, less_same a.costs)
 
       grown : (input : List ℕ) → Grows empty_heap (input_heap input)
@@ -369,66 +369,66 @@ runs_within program entry input most n =
 
 -- ---- runs whose charges the accounter counts
 
-told_answer : (program : Program) (prefix : Prefix) (limit : Option ℕ) (most : Thresholds) (b : State) (answer : Answer)
-    → AnswerFits program prefix (accounted_terms limit most) b answer → IsTold most b.account → AnswerTold most b.account.costs answer
-told_answer program prefix limit most b (Went t) k told = k.1 told
-told_answer program prefix limit most b (Ended outcome t) k told = k.1 told
-told_answer program prefix limit most b IllFormed k told = tt
+reported_answer : (program : Program) (prefix : Prefix) (limit : Option ℕ) (most : Thresholds) (b : State) (answer : Answer)
+    → AnswerFits program prefix (accounted_terms limit most) b answer → IsReported most b.account → AnswerReported most b.account.costs answer
+reported_answer program prefix limit most b (Went t) k reported = k.1 reported
+reported_answer program prefix limit most b (Ended outcome t) k reported = k.1 reported
+reported_answer program prefix limit most b IllFormed k reported = tt
 
-pub step_told : (program : Program) (prefix : Prefix) (limit : Option ℕ) (most : Thresholds) (s : State) → IsTold most s.account
-    → AnswerTold most s.account.costs (step program prefix (accounted_terms limit most) s)
-step_told program prefix limit most s told = told_answer program prefix limit most s (step program prefix (accounted_terms limit most) s)
-    (step_fit program prefix (accounted_terms limit most) s s (grows_same s.heap, stays (Accounted most) s.account)) told
+pub step_reported : (program : Program) (prefix : Prefix) (limit : Option ℕ) (most : Thresholds) (s : State) → IsReported most s.account
+    → AnswerReported most s.account.costs (step program prefix (accounted_terms limit most) s)
+step_reported program prefix limit most s reported = reported_answer program prefix limit most s (step program prefix (accounted_terms limit most) s)
+    (step_fit program prefix (accounted_terms limit most) s s (grows_same s.heap, stays (Accounted most) s.account)) reported
 
-pub begin_told : (program : Program) (prefix : Prefix) (limit : Option ℕ) (most : Thresholds) (entry : Declared) (input : List ℕ) (answers : List HostAnswer)
-    → AnswerTold most no_costs (begin program prefix (accounted_terms limit most) entry input answers)
-begin_told program prefix limit most entry input answers =
-    told_answer program prefix limit most (start_state program entry empty_heap answers) (begin program prefix (accounted_terms limit most) entry input answers)
+pub begin_reported : (program : Program) (prefix : Prefix) (limit : Option ℕ) (most : Thresholds) (entry : Declared) (input : List ℕ) (answers : List HostAnswer)
+    → AnswerReported most no_costs (begin program prefix (accounted_terms limit most) entry input answers)
+begin_reported program prefix limit most entry input answers =
+    reported_answer program prefix limit most (start_state program entry empty_heap answers) (begin program prefix (accounted_terms limit most) entry input answers)
     (begin_fits program prefix (accounted_terms limit most) entry input answers)
     (record { alloc = omega arith; invoke = omega arith; jump = omega arith; throw = omega arith })
 
-abbrev RanTold : Thresholds → Ran → Type 0
-RanTold most (runs.Going s) = IsTold most s.account
-RanTold most (runs.Finished outcome s n) = IsTold most s.account × IsEndTold s.account.exceeded outcome
-RanTold most runs.NoStep = ⊤
+abbrev RanReported : Thresholds → Ran → Type 0
+RanReported most (runs.Going s) = IsReported most s.account
+RanReported most (runs.Finished outcome s n) = IsReported most s.account × IsEndReported s.account.exceeded outcome
+RanReported most runs.NoStep = ⊤
 
-one_told : (most : Thresholds) (r : Ran) → RanTold most r → RanTold most (runs.one_more r)
-one_told most (runs.Going s) k = k
-one_told most (runs.Finished outcome s n) k = k
-one_told most runs.NoStep k = k
+one_reported : (most : Thresholds) (r : Ran) → RanReported most r → RanReported most (runs.one_more r)
+one_reported most (runs.Going s) k = k
+one_reported most (runs.Finished outcome s n) k = k
+one_reported most runs.NoStep k = k
 
-then_told : (most : Thresholds) (before : Costs) (more : State → Ran) → ((t : State) → IsTold most t.account → RanTold most (more t)) → (answer : Answer)
-    → AnswerTold most before answer → RanTold most (runs.then_steps more answer)
-then_told most before more each (Went t) k = one_told most (more t) (each t k.0)
-then_told most before more each (Ended outcome t) k = (k.0, k.2)
-then_told most before more each IllFormed k = tt
+then_reported : (most : Thresholds) (before : Costs) (more : State → Ran) → ((t : State) → IsReported most t.account → RanReported most (more t)) → (answer : Answer)
+    → AnswerReported most before answer → RanReported most (runs.then_steps more answer)
+then_reported most before more each (Went t) k = one_reported most (more t) (each t k.0)
+then_reported most before more each (Ended outcome t) k = (k.0, k.2)
+then_reported most before more each IllFormed k = tt
 
-steps_told : (program : Program) (prefix : Prefix) (limit : Option ℕ) (most : Thresholds) (n : ℕ) (s : State) → IsTold most s.account
-    → RanTold most (runs.steps program prefix (accounted_terms limit most) n s)
+steps_reported : (program : Program) (prefix : Prefix) (limit : Option ℕ) (most : Thresholds) (n : ℕ) (s : State) → IsReported most s.account
+    → RanReported most (runs.steps program prefix (accounted_terms limit most) n s)
 unfolding runs.steps
-steps_told program prefix limit most zero s told = told
-steps_told program prefix limit most (suc n) s told =
-    then_told most s.account.costs (runs.steps program prefix (accounted_terms limit most) n) (steps_told program prefix limit most n)
-    (step program prefix (accounted_terms limit most) s) (step_told program prefix limit most s told)
+steps_reported program prefix limit most zero s reported = reported
+steps_reported program prefix limit most (suc n) s reported =
+    then_reported most s.account.costs (runs.steps program prefix (accounted_terms limit most) n) (steps_reported program prefix limit most n)
+    (step program prefix (accounted_terms limit most) s) (step_reported program prefix limit most s reported)
 
-start_told : (most : Thresholds) (before : Costs) (more : State → Ran) → ((t : State) → IsTold most t.account → RanTold most (more t)) → (answer : Answer)
-    → AnswerTold most before answer → RanTold most (runs.from_start more answer)
-start_told most before more each (Went t) k = each t k.0
-start_told most before more each (Ended outcome t) k = (k.0, k.2)
-start_told most before more each IllFormed k = tt
+start_reported : (most : Thresholds) (before : Costs) (more : State → Ran) → ((t : State) → IsReported most t.account → RanReported most (more t)) → (answer : Answer)
+    → AnswerReported most before answer → RanReported most (runs.from_start more answer)
+start_reported most before more each (Went t) k = each t k.0
+start_reported most before more each (Ended outcome t) k = (k.0, k.2)
+start_reported most before more each IllFormed k = tt
 
-stop_over : (most : Thresholds) (a : Account) (outcome : Outcome) → IsTold most a → IsEndTold a.exceeded outcome → IsStopOver most a.costs outcome
-stop_over most a (outcomes.Stopped charge) told e = subst (IsToldBy most a.costs) e told
-stop_over most a outcomes.OkNull told e = tt
-stop_over most a (outcomes.OkBytes bytes) told e = tt
-stop_over most a (outcomes.Threw class message) told e = tt
-stop_over most a (outcomes.Init class exception message) told e = tt
-stop_over most a outcomes.Link told e = tt
-stop_over most a outcomes.TooDeep told e = tt
-stop_over most a (outcomes.HeapFull used size) told e = tt
-stop_over most a (outcomes.OutOfSteps steps) told e = tt
+stop_over : (most : Thresholds) (a : Account) (outcome : Outcome) → IsReported most a → IsEndReported a.exceeded outcome → IsStopOver most a.costs outcome
+stop_over most a (outcomes.Stopped charge) reported e = subst (IsReportedBy most a.costs) e reported
+stop_over most a outcomes.OkNull reported e = tt
+stop_over most a (outcomes.OkBytes bytes) reported e = tt
+stop_over most a (outcomes.Threw class message) reported e = tt
+stop_over most a (outcomes.Init class exception message) reported e = tt
+stop_over most a outcomes.Link reported e = tt
+stop_over most a outcomes.TooDeep reported e = tt
+stop_over most a (outcomes.HeapFull used size) reported e = tt
+stop_over most a (outcomes.OutOfSteps steps) reported e = tt
 
-report_over : (most : Thresholds) (answers : List HostAnswer) (n : ℕ) (r : Ran) → RanTold most r
+report_over : (most : Thresholds) (answers : List HostAnswer) (n : ℕ) (r : Ran) → RanReported most r
     → IfSome (runs.report_of answers n r) (λ report. IsStopOver most report.costs report.outcome)
 report_over most answers n (runs.Going s) k = tt
 report_over most answers n (runs.Finished outcome s m) k = stop_over most s.account outcome k.0 k.1
@@ -439,5 +439,5 @@ pub run_over : (program : Program) (prefix : Prefix) (limit : Option ℕ) (most 
 unfolding runs.plain_run
 run_over program prefix limit most entry input answers n =
     report_over most answers n (runs.from_start (runs.steps program prefix (accounted_terms limit most) n) (begin program prefix (accounted_terms limit most) entry input answers))
-    (start_told most no_costs (runs.steps program prefix (accounted_terms limit most) n) (steps_told program prefix limit most n)
-    (begin program prefix (accounted_terms limit most) entry input answers) (begin_told program prefix limit most entry input answers))
+    (start_reported most no_costs (runs.steps program prefix (accounted_terms limit most) n) (steps_reported program prefix limit most n)
+    (begin program prefix (accounted_terms limit most) entry input answers) (begin_reported program prefix limit most entry input answers))

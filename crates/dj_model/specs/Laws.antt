@@ -56,8 +56,8 @@ pub record IsMapped (f : Name → Name) (p q : Prefix) (program other : Program)
   pub used : (i : Instruction) → used_class other q (instruction_map f i) ≡ option_map f (used_class program p i)
 
 abbrev pub CommutesWithNames : Type 0
-CommutesWithNames = (f : Name → Name) (g : Code → Code) (p q : Prefix) (program : Program) (front : List Class)
-    → IsNameMap f p q → AreApart f front → IsMapped f p q program (front ++ program_map f g program)
+CommutesWithNames = (f : Name → Name) (g : Code → Code) (p q : Prefix) (program : Program) (prefix : List Class)
+    → IsNameMap f p q → AreApart f prefix → IsMapped f p q program (prefix ++ program_map f g program)
 
 -- no code is read
 pub record IsSame (p : Prefix) (program other : Program) : Type 0 where
@@ -223,29 +223,29 @@ RunWithin most before (Ends outcome c) = IsEndWithin most c outcome × IsLess be
 RunWithin most before Stuck = ⊤
 
 -- the sums are within their thresholds where nothing was exceeded, and else the one that was exceeded is above its own, and no other
-abbrev pub IsToldBy : Thresholds → Costs → Option Charge → Type 0
-IsToldBy most c None = IsWithin most c
-IsToldBy most c (Some charge) = IsOver most charge c
+abbrev pub IsReportedBy : Thresholds → Costs → Option Charge → Type 0
+IsReportedBy most c None = IsWithin most c
+IsReportedBy most c (Some charge) = IsOver most charge c
 
-abbrev pub IsTold : Thresholds → Account → Type 0
-IsTold most a = IsToldBy most a.costs a.exceeded
+abbrev pub IsReported : Thresholds → Account → Type 0
+IsReported most a = IsReportedBy most a.costs a.exceeded
 
 -- an end by a charge is by the one that was exceeded
-abbrev pub IsEndTold : Option Charge → Outcome → Type 0
-IsEndTold exceeded (outcomes.Stopped charge) = exceeded ≡ Some charge
-IsEndTold exceeded outcomes.OkNull = ⊤
-IsEndTold exceeded (outcomes.OkBytes bytes) = ⊤
-IsEndTold exceeded (outcomes.Threw class message) = ⊤
-IsEndTold exceeded (outcomes.Init class exception message) = ⊤
-IsEndTold exceeded outcomes.Link = ⊤
-IsEndTold exceeded outcomes.TooDeep = ⊤
-IsEndTold exceeded (outcomes.HeapFull used size) = ⊤
-IsEndTold exceeded (outcomes.OutOfSteps steps) = ⊤
+abbrev pub IsEndReported : Option Charge → Outcome → Type 0
+IsEndReported exceeded (outcomes.Stopped charge) = exceeded ≡ Some charge
+IsEndReported exceeded outcomes.OkNull = ⊤
+IsEndReported exceeded (outcomes.OkBytes bytes) = ⊤
+IsEndReported exceeded (outcomes.Threw class message) = ⊤
+IsEndReported exceeded (outcomes.Init class exception message) = ⊤
+IsEndReported exceeded outcomes.Link = ⊤
+IsEndReported exceeded outcomes.TooDeep = ⊤
+IsEndReported exceeded (outcomes.HeapFull used size) = ⊤
+IsEndReported exceeded (outcomes.OutOfSteps steps) = ⊤
 
-abbrev pub AnswerTold : Thresholds → Costs → Answer → Type 0
-AnswerTold most before (Went t) = IsTold most t.account × IsLess before t.account.costs
-AnswerTold most before (Ended outcome t) = IsTold most t.account × IsLess before t.account.costs × IsEndTold t.account.exceeded outcome
-AnswerTold most before IllFormed = ⊤
+abbrev pub AnswerReported : Thresholds → Costs → Answer → Type 0
+AnswerReported most before (Went t) = IsReported most t.account × IsLess before t.account.costs
+AnswerReported most before (Ended outcome t) = IsReported most t.account × IsLess before t.account.costs × IsEndReported t.account.exceeded outcome
+AnswerReported most before IllFormed = ⊤
 
 -- a run that is reported as stopped by a charge has that sum above its threshold, and no other
 abbrev pub IsStopOver : Thresholds → Costs → Outcome → Type 0
@@ -269,10 +269,10 @@ pub record CostsStayWithin : Type 0 where
   pub runs : (program : Program) (entry : Declared) (input : List ℕ) (most : Thresholds) (n : ℕ) → RunWithin most no_costs (metered_run program entry input most n)
   -- a step of a run whose charges the accounter counts only adds to the sums; none passes its threshold but the one that the account has as exceeded, and no other
   -- one stops the run
-  pub accounted : (program : Program) (prefix : Prefix) (limit : Option ℕ) (most : Thresholds) (s : State) → IsTold most s.account
-      → AnswerTold most s.account.costs (step program prefix (accounted_terms limit most) s)
+  pub accounted : (program : Program) (prefix : Prefix) (limit : Option ℕ) (most : Thresholds) (s : State) → IsReported most s.account
+      → AnswerReported most s.account.costs (step program prefix (accounted_terms limit most) s)
   pub accounted_begins : (program : Program) (prefix : Prefix) (limit : Option ℕ) (most : Thresholds) (entry : Declared) (input : List ℕ) (answers : List HostAnswer)
-      → AnswerTold most no_costs (begin program prefix (accounted_terms limit most) entry input answers)
+      → AnswerReported most no_costs (begin program prefix (accounted_terms limit most) entry input answers)
   pub accounted_runs : (program : Program) (prefix : Prefix) (limit : Option ℕ) (most : Thresholds) (entry : Declared) (input : List ℕ) (answers : List HostAnswer) (n : ℕ)
       → IfSome (plain_run program prefix (accounted_terms limit most) entry input answers n) (λ report. IsStopOver most report.costs report.outcome)
 

@@ -108,29 +108,29 @@ walk_goes_on count i s bytes ty after lt some other e few =
     sym (after_more ty (params_read (count - (i + 1)) (s + type_slots ty) after)) ∙ ap after_all (sym (param_goes_on count i s bytes ty after lt some other e few))
 
 -- the parameters before, and those that are read
-abbrev pub with_front : List Ty → Option (List Ty × List ℕ) → Option (List Ty × List ℕ)
-with_front front o = o >>= λ y. Some (front ++ y.0, y.1)
+abbrev pub with_prefix : List Ty → Option (List Ty × List ℕ) → Option (List Ty × List ℕ)
+with_prefix prefix o = o >>= λ y. Some (prefix ++ y.0, y.1)
 
-front_more : (front : List Ty) (ty : Ty) (o : Option (List Ty × List ℕ)) → with_front front (then_more ty o) ≡ with_front (front ++ ty ∷ []) o
-front_more front ty (Some x) = ap (λ (ps : List Ty). Some (ps, x.1)) (sym (append_assoc front (ty ∷ []) x.0))
-front_more front ty None = refl
+prefix_more : (prefix : List Ty) (ty : Ty) (o : Option (List Ty × List ℕ)) → with_prefix prefix (then_more ty o) ≡ with_prefix (prefix ++ ty ∷ []) o
+prefix_more prefix ty (Some x) = ap (λ (ps : List Ty). Some (ps, x.1)) (sym (append_assoc prefix (ty ∷ []) x.0))
+prefix_more prefix ty None = refl
 
-pub read_goes_on : (front : List Ty) (count i s : ℕ) (bytes : List ℕ) (ty : Ty) (after : List ℕ) → i < count → 1 ≤ length bytes → (get_or bytes 0 0 ≡ 41 → ⊥) → type_read bytes ≡ Some (ty, after) → s + type_slots ty ≤ 255
-    → with_front (front ++ ty ∷ []) (params_read (count - (i + 1)) (s + type_slots ty) after) ≡ with_front front (params_read (count - i) s bytes)
-read_goes_on front count i s bytes ty after lt some other e few =
-    sym (front_more front ty (params_read (count - (i + 1)) (s + type_slots ty) after)) ∙ ap (with_front front) (sym (param_goes_on count i s bytes ty after lt some other e few))
+pub read_goes_on : (prefix : List Ty) (count i s : ℕ) (bytes : List ℕ) (ty : Ty) (after : List ℕ) → i < count → 1 ≤ length bytes → (get_or bytes 0 0 ≡ 41 → ⊥) → type_read bytes ≡ Some (ty, after) → s + type_slots ty ≤ 255
+    → with_prefix (prefix ++ ty ∷ []) (params_read (count - (i + 1)) (s + type_slots ty) after) ≡ with_prefix prefix (params_read (count - i) s bytes)
+read_goes_on prefix count i s bytes ty after lt some other e few =
+    sym (prefix_more prefix ty (params_read (count - (i + 1)) (s + type_slots ty) after)) ∙ ap (with_prefix prefix) (sym (param_goes_on count i s bytes ty after lt some other e few))
 
 abbrev none_follow : Option (List Ty × List ℕ)
 none_follow = None
 
-pub read_closes : (front : List Ty) (count i s : ℕ) (bytes after : List ℕ) (total : Option (List Ty × List ℕ)) → i < count → bytes ≡ 41 ∷ after → with_front front (params_read (count - i) s bytes) ≡ total → total ≡ Some (front, after)
+pub read_closes : (prefix : List Ty) (count i s : ℕ) (bytes after : List ℕ) (total : Option (List Ty × List ℕ)) → i < count → bytes ≡ 41 ∷ after → with_prefix prefix (params_read (count - i) s bytes) ≡ total → total ≡ Some (prefix, after)
 unfolding params_read
-read_closes front count i s bytes after total lt is so_far =
+read_closes prefix count i s bytes after total lt is so_far =
     let k : count - i ≡ suc (count - (i + 1)) = omega arith in
     sym so_far
-    ∙ ap (λ (n : ℕ). with_front front (params_read n s bytes)) k
-    ∙ ap (λ (u : List ℕ). with_front front (params_read (suc (count - (i + 1))) s u)) is
-    ∙ ap (λ (ps : List Ty). Some (ps, after)) (append-nil front)
+    ∙ ap (λ (n : ℕ). with_prefix prefix (params_read n s bytes)) k
+    ∙ ap (λ (u : List ℕ). with_prefix prefix (params_read (suc (count - (i + 1))) s u)) is
+    ∙ ap (λ (ps : List Ty). Some (ps, after)) (append-nil prefix)
 
 no_step : (n s : ℕ) (bytes : List ℕ) → (get_or bytes 0 0 ≡ 41 → ⊥) → type_read bytes ≡ None → params_read (suc n) s bytes ≡ None
 unfolding params_read
@@ -139,11 +139,11 @@ no_step n s (b ∷ more) other e =
     ap (λ (t : Bool). cond t (Some ([], more)) (type_read (b ∷ more) >>= goes_on n s)) (ne_eqb b 41 other)
     ∙ ap (λ (o : Option (Ty × List ℕ)). o >>= goes_on n s) e
 
-pub read_fails : (e : DescError) (front : List Ty) (count i s : ℕ) (bytes : List ℕ) (total : Option (List Ty × List ℕ)) → i < count → (get_or bytes 0 0 ≡ 41 → ⊥) → Fails (is_memory e) (type_read bytes) → with_front front (params_read (count - i) s bytes) ≡ total → Fails (is_memory e) total
-read_fails errors.Memory front count i s bytes total lt other h so_far = tt
-read_fails errors.NotADescriptor front count i s bytes total lt other h so_far =
+pub read_fails : (e : DescError) (prefix : List Ty) (count i s : ℕ) (bytes : List ℕ) (total : Option (List Ty × List ℕ)) → i < count → (get_or bytes 0 0 ≡ 41 → ⊥) → Fails (is_memory e) (type_read bytes) → with_prefix prefix (params_read (count - i) s bytes) ≡ total → Fails (is_memory e) total
+read_fails errors.Memory prefix count i s bytes total lt other h so_far = tt
+read_fails errors.NotADescriptor prefix count i s bytes total lt other h so_far =
     let k : count - i ≡ suc (count - (i + 1)) = omega arith in
-    sym so_far ∙ ap (λ (n : ℕ). with_front front (params_read n s bytes)) k ∙ ap (with_front front) (no_step (count - (i + 1)) s bytes other h)
+    sym so_far ∙ ap (λ (n : ℕ). with_prefix prefix (params_read n s bytes)) k ∙ ap (with_prefix prefix) (no_step (count - (i + 1)) s bytes other h)
 
 full_step : (n s : ℕ) (bytes : List ℕ) (ty : Ty) (after : List ℕ) → (get_or bytes 0 0 ≡ 41 → ⊥) → type_read bytes ≡ Some (ty, after) → 255 < s + type_slots ty → params_read (suc n) s bytes ≡ None
 unfolding params_read
@@ -153,10 +153,10 @@ full_step n s (b ∷ more) ty after other e full =
     ∙ ap (λ (o : Option (Ty × List ℕ)). o >>= goes_on n s) e
     ∙ ap (λ (t : Bool). cond t (then_more ty (params_read n (s + type_slots ty) after)) none_follow) (lt-leb (s + type_slots ty) 255 full)
 
-pub read_is_full : (front : List Ty) (count i s : ℕ) (bytes : List ℕ) (ty : Ty) (after : List ℕ) (total : Option (List Ty × List ℕ)) → i < count → (get_or bytes 0 0 ≡ 41 → ⊥) → type_read bytes ≡ Some (ty, after) → 255 < s + type_slots ty → with_front front (params_read (count - i) s bytes) ≡ total → total ≡ None
-read_is_full front count i s bytes ty after total lt other e full so_far =
+pub read_is_full : (prefix : List Ty) (count i s : ℕ) (bytes : List ℕ) (ty : Ty) (after : List ℕ) (total : Option (List Ty × List ℕ)) → i < count → (get_or bytes 0 0 ≡ 41 → ⊥) → type_read bytes ≡ Some (ty, after) → 255 < s + type_slots ty → with_prefix prefix (params_read (count - i) s bytes) ≡ total → total ≡ None
+read_is_full prefix count i s bytes ty after total lt other e full so_far =
     let k : count - i ≡ suc (count - (i + 1)) = omega arith in
-    sym so_far ∙ ap (λ (n : ℕ). with_front front (params_read n s bytes)) k ∙ ap (with_front front) (full_step (count - (i + 1)) s bytes ty after other e full)
+    sym so_far ∙ ap (λ (n : ℕ). with_prefix prefix (params_read n s bytes)) k ∙ ap (with_prefix prefix) (full_step (count - (i + 1)) s bytes ty after other e full)
 
 -- a type has a first byte
 type_some : (bytes : List ℕ) (ty : Ty) (after : List ℕ) → type_read bytes ≡ Some (ty, after) → 1 ≤ length bytes
@@ -167,10 +167,10 @@ type_some [] ty after e =
     absurd cc
 type_some (b ∷ more) ty after e = omega arith
 
-pub read_one_more : (front : List Ty) (count i s : ℕ) (bytes : List ℕ) (ty : Ty) (after : List ℕ) (total : Option (List Ty × List ℕ)) → i < count → (get_or bytes 0 0 ≡ 41 → ⊥) → type_read bytes ≡ Some (ty, after) → s + type_slots ty ≤ 255
-    → with_front front (params_read (count - i) s bytes) ≡ total → with_front (front ++ ty ∷ []) (params_read (count - (i + 1)) (s + type_slots ty) after) ≡ total
-read_one_more front count i s bytes ty after total lt other e few so_far =
-    read_goes_on front count i s bytes ty after lt (type_some bytes ty after e) other e few ∙ so_far
+pub read_one_more : (prefix : List Ty) (count i s : ℕ) (bytes : List ℕ) (ty : Ty) (after : List ℕ) (total : Option (List Ty × List ℕ)) → i < count → (get_or bytes 0 0 ≡ 41 → ⊥) → type_read bytes ≡ Some (ty, after) → s + type_slots ty ≤ 255
+    → with_prefix prefix (params_read (count - i) s bytes) ≡ total → with_prefix (prefix ++ ty ∷ []) (params_read (count - (i + 1)) (s + type_slots ty) after) ≡ total
+read_one_more prefix count i s bytes ty after total lt other e few so_far =
+    read_goes_on prefix count i s bytes ty after lt (type_some bytes ty after e) other e few ∙ so_far
 
 -- ---- fields and returns
 

@@ -125,31 +125,31 @@ dims_again (suc count) n b more other few =
 
 -- ---- class names
 
-record UpToStop (front bytes : List ℕ) (x : List ℕ × List ℕ) : Type 0 where
+record UpToStop (prefix bytes : List ℕ) (x : List ℕ × List ℕ) : Type 0 where
   pub name : List ℕ
-  pub front_is : x.0 ≡ front ++ name
+  pub prefix_is : x.0 ≡ prefix ++ name
   pub parts : bytes ≡ name ++ (59 ∷ x.1)
 
-name_takes : (bytes front : List ℕ) (x : List ℕ × List ℕ) → name_read front bytes ≡ Some x → UpToStop front bytes x
+name_takes : (bytes prefix : List ℕ) (x : List ℕ × List ℕ) → name_read prefix bytes ≡ Some x → UpToStop prefix bytes x
 unfolding name_read
-name_takes [] front x e = absurd cc
-name_takes (b ∷ more) front x e =
-    elim (chosen (eqb b 59) (Some (front, more)) (name_read (front ++ b ∷ []) more) (Some x) e) [
+name_takes [] prefix x e = absurd cc
+name_takes (b ∷ more) prefix x e =
+    elim (chosen (eqb b 59) (Some (prefix, more)) (name_read (prefix ++ b ∷ []) more) (Some x) e) [
       | inl h ↦
-          let made : List ℕ × List ℕ = (front, more) in
-          subst (λ (y : List ℕ × List ℕ). UpToStop front (b ∷ more) y) (some_is made x h.1) (record { name = []; front_is = sym (append-nil front); parts = ap (λ (c : ℕ). c ∷ more) (eqb-true b 59 h.0) })
+          let made : List ℕ × List ℕ = (prefix, more) in
+          subst (λ (y : List ℕ × List ℕ). UpToStop prefix (b ∷ more) y) (some_is made x h.1) (record { name = []; prefix_is = sym (append-nil prefix); parts = ap (λ (c : ℕ). c ∷ more) (eqb-true b 59 h.0) })
       | inr h ↦
-          let r = name_takes more (front ++ b ∷ []) x h.1 in
-          record { name = b ∷ r.name; front_is = r.front_is ∙ append_assoc front (b ∷ []) r.name; parts = ap (λ (t : List ℕ). b ∷ t) r.parts }
+          let r = name_takes more (prefix ++ b ∷ []) x h.1 in
+          record { name = b ∷ r.name; prefix_is = r.prefix_is ∙ append_assoc prefix (b ∷ []) r.name; parts = ap (λ (t : List ℕ). b ∷ t) r.parts }
     ]
 
-name_again : (name front rest : List ℕ) → AllByRecursion (λ b. b ≢ 59) name → name_read front (name ++ (59 ∷ rest)) ≡ Some (front ++ name, rest)
+name_again : (name prefix rest : List ℕ) → AllByRecursion (λ b. b ≢ 59) name → name_read prefix (name ++ (59 ∷ rest)) ≡ Some (prefix ++ name, rest)
 unfolding name_read
-name_again [] front rest free = ap (λ (t : List ℕ). Some (t, rest)) (sym (append-nil front))
-name_again (b ∷ name) front rest free =
-    ap (λ (t : Bool). cond t (Some (front, name ++ (59 ∷ rest))) (name_read (front ++ b ∷ []) (name ++ (59 ∷ rest)))) (ne_eqb b 59 free.0)
-    ∙ name_again name (front ++ b ∷ []) rest free.1
-    ∙ ap (λ (t : List ℕ). Some (t, rest)) (append_assoc front (b ∷ []) name)
+name_again [] prefix rest free = ap (λ (t : List ℕ). Some (t, rest)) (sym (append-nil prefix))
+name_again (b ∷ name) prefix rest free =
+    ap (λ (t : Bool). cond t (Some (prefix, name ++ (59 ∷ rest))) (name_read (prefix ++ b ∷ []) (name ++ (59 ∷ rest)))) (ne_eqb b 59 free.0)
+    ∙ name_again name (prefix ++ b ∷ []) rest free.1
+    ∙ ap (λ (t : List ℕ). Some (t, rest)) (append_assoc prefix (b ∷ []) name)
 
 -- a class name has no semicolon
 no_stop : (name : List ℕ) → AllByRecursion IsNameByte name → AllByRecursion (λ b. b ≢ 59) name
@@ -185,7 +185,7 @@ class_takes bytes x e =
     let made : Of × List ℕ = (ofs.Class a.0.0, a.0.1) in
     let g = chose_some (reads_class_name true a.0.0) made x a.2 in
     let r = name_takes bytes [] a.0 a.1 in
-    let parts : bytes ≡ a.0.0 ++ (59 ∷ a.0.1) = r.parts ∙ ap (λ (t : List ℕ). t ++ (59 ∷ a.0.1)) (sym r.front_is) in
+    let parts : bytes ≡ a.0.0 ++ (59 ∷ a.0.1) = r.parts ∙ ap (λ (t : List ℕ). t ++ (59 ∷ a.0.1)) (sym r.prefix_is) in
     subst (λ (y : Of × List ℕ). IsOfAt (76 ∷ bytes) y) g.1 (ap (λ (t : List ℕ). 76 ∷ t) parts ∙ class_text a.0.0 a.0.1, class_name_read a.0.0 g.0)
 
 class_again : (name rest : List ℕ) → IsClassName name → class_read (name ++ (59 ∷ rest)) ≡ Some (ofs.Class name, rest)

@@ -126,8 +126,8 @@ unit_again u rest fits =
 
 -- ---- no spelling begins another
 
-pub one_front : (u v : ℕ) (x y : List ℕ) → u < 2 ^ 16 → v < 2 ^ 16 → unit_text u ++ x ≡ unit_text v ++ y → (u ≡ v) × (x ≡ y)
-one_front u v x y u_fits v_fits e =
+pub one_prefix : (u v : ℕ) (x y : List ℕ) → u < 2 ^ 16 → v < 2 ^ 16 → unit_text u ++ x ≡ unit_text v ++ y → (u ≡ v) × (x ≡ y)
+one_prefix u v x y u_fits v_fits e =
     let r = unit_again u x u_fits in
     let s = unit_again v y v_fits in
     let t = ap unit_read e in
@@ -156,7 +156,7 @@ one_list [] [] fits fit e = refl
 one_list [] (v ∷ vs) fits fit e = absurd (unit_some v (units_text vs) fit.0 (sym e))
 one_list (u ∷ us) [] fits fit e = absurd (unit_some u (units_text us) fits.0 e)
 one_list (u ∷ us) (v ∷ vs) fits fit e =
-    let p = one_front u v (units_text us) (units_text vs) fits.0 fit.0 e in
+    let p = one_prefix u v (units_text us) (units_text vs) fits.0 fit.0 e in
     let q = one_list us vs fits.1 fit.1 p.1 in
     let h = p.0 in
     cc
@@ -181,7 +181,7 @@ modified_rest bytes [] u rest e s =
     absurd (unit_some u rest t.1 (sym t.0 ∙ s.text_is))
 modified_rest bytes (v ∷ vs) u rest e s =
     let t = unit_takes bytes (u, rest) e in
-    let p = one_front u v rest (units_text vs) t.1 s.units_fit.0 (sym t.0 ∙ s.text_is) in
+    let p = one_prefix u v rest (units_text vs) t.1 s.units_fit.0 (sym t.0 ∙ s.text_is) in
     (vs, record { text_is = p.1; units_fit = s.units_fit.1 })
 
 pub unit_before : (bytes : List ℕ) (u : ℕ) (rest : List ℕ) → unit_read bytes ≡ Some (u, rest) → IsModifiedUtf8 bytes → IsModifiedUtf8 rest
@@ -223,11 +223,11 @@ all_spelled text units rest nothing s =
 pub breaks_here : (text units rest : List ℕ) (place : ℕ) → place ≡ length text - length rest → rest ≢ [] → unit_read rest ≡ None → SpellsUpTo text units rest → BreaksAt text place
 breaks_here text units rest place is some none s =
     record {
-      front = units_text units;
+      prefix = units_text units;
       units = units;
       rest = rest;
       parts = s.parts;
-      front_is = record { text_is = refl; units_fit = s.fit };
+      prefix_is = record { text_is = refl; units_fit = s.fit };
       place_is = omega (arith, length-append (units_text units) rest, ap length s.parts);
       left = some;
       broken = begins_none rest none;

@@ -8,11 +8,11 @@ BeginsNoUnit bytes = (u : ℕ) (more : List ℕ) → u < 2 ^ 16 → bytes ≢ un
 
 -- the text spells units up to this place, and from there on it doesn't begin with the spelling of one
 pub record BreaksAt (text : List ℕ) (place : ℕ) : Type 0 where
-  pub front : List ℕ
+  pub prefix : List ℕ
   pub units : List ℕ
   pub rest : List ℕ
-  pub parts : text ≡ front ++ rest
-  pub front_is : SpellsUnits front units
-  pub place_is : length front ≡ place
+  pub parts : text ≡ prefix ++ rest
+  pub prefix_is : SpellsUnits prefix units
+  pub place_is : length prefix ≡ place
   pub left : rest ≢ []
   pub broken : BeginsNoUnit rest

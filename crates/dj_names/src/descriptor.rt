@@ -1,6 +1,7 @@
 ghost use Rattle.std.specs.Prelude.{◌≡◌, ℕ, List, [], ◌∷◌, ◌++◌, OnOk, OnErr, IfOk};
 
-use crate::lists::{Name, NoMemory};
+use crate::lists::Name;
+use dj_bytes::NoMemory;
 use std::alloc::Global;
 use std::marker::Model;
 

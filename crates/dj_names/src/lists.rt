@@ -1,35 +1,8 @@
 ghost use Rattle.std.specs.Prelude.{◌≡◌, ℕ, List, [], ◌∷◌, ◌++◌, OnOk, OnErr, IfOk};
 
-use std::alloc::{AllocError, AllocFailed, Global};
+use dj_bytes::NoMemory;
+use std::alloc::Global;
 use std::marker::Model;
-use thiserror::Error;
-
-/// There was no memory.
-#[derive(Clone, Copy, Debug, PartialEq, Eq, Error)]
-pub enum NoMemory {
-    #[error("out of memory")]
-    Memory,
-}
-
-impl From<AllocError> for NoMemory {
-    ghost use Rattle.dj_names.specs.declared.lists.NoMemory.TheVariants.{Memory};
-
-    ghost from_gives = { λ _ e. e ≡ Memory };
-
-    fn from(_error: AllocError) -> NoMemory {
-        NoMemory::Memory
-    }
-}
-
-impl<T: Drop> From<AllocFailed<T>> for NoMemory {
-    ghost use Rattle.dj_names.specs.declared.lists.NoMemory.TheVariants.{Memory};
-
-    ghost from_gives = { λ _ e. e ≡ Memory };
-
-    fn from(_error: AllocFailed<T>) -> NoMemory {
-        NoMemory::Memory
-    }
-}
 
 /// The bytes of a name or a text.
 #[derive(Debug, Drop)]

@@ -6,9 +6,10 @@ ghost use Rattle.dj_names.specs.trusted.DescReading.{type_read, params_read, fie
 ghost use Rattle.dj_names.specs.DescReading.{is_memory, element_of};
 
 use crate::descriptor::{Desc, Of, Ty, Tys};
-use crate::lists::{Name, NoMemory};
+use crate::lists::Name;
 use crate::measure::type_slots_of;
 use crate::walk::{Element, type_at};
+use dj_bytes::NoMemory;
 use std::alloc::Global;
 use thiserror::Error;
 

@@ -3,8 +3,9 @@ ghost use Rattle.dj_names.specs.trusted.ModifiedUtf8.{SpellsUnits, IsModifiedUtf
 ghost use Rattle.dj_names.specs.ModifiedUtf8.{BreaksAt};
 ghost use Rattle.dj_names.specs.Tests.{modified_utf8_test};
 
-use crate::lists::{NoMemory, Units};
+use crate::lists::Units;
 use crate::unit::unit_at;
+use dj_bytes::NoMemory;
 use std::alloc::Global;
 use thiserror::Error;
 

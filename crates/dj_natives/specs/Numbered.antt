@@ -44,8 +44,8 @@ is_number None k = false
 is_number (Some n) k = nat_eq n k
 
 -- of all numbers this one alone, where there is one, is of the class of the object that stops a run
-abbrev pub TellsStop : List Ty → Prefix → Option ℕ → Type 0
-TellsStop types prefix result = (k : ℕ) → k < length types → is_stop prefix (type_at types k) ≡ is_number result k
+abbrev pub SaysStop : List Ty → Prefix → Option ℕ → Type 0
+SaysStop types prefix result = (k : ℕ) → k < length types → is_stop prefix (type_at types k) ≡ is_number result k
 
 -- ---- laws of classes and arrays that have numbers
 

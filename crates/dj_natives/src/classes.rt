@@ -9,7 +9,7 @@ ghost use Rattle.dj_model.specs.trusted.Natives.{class_name};
 
 /// The classes and arrays of a program, by numbers.
 pub trait Classes {
-    ghost use Rattle.dj_natives.specs.Numbered.{type_at, IsNumberOf, superclass_type, component_of, TellsStop, ArePlain, HaveComponents};
+    ghost use Rattle.dj_natives.specs.Numbered.{type_at, IsNumberOf, superclass_type, component_of, SaysStop, ArePlain, HaveComponents};
 
     /// The class or the array of each number.
     ghost types: { Self → List Ty };
@@ -52,7 +52,7 @@ pub trait Classes {
     /// The class of the object that stops a run, where it is there.
     fn stop(&self) -> Option<u32>
         ensures there { IfSome result (λ class. class < length (types self.now)) }
-        ensures alone { TellsStop (types self.now) (prefix self.now) result };
+        ensures alone { SaysStop (types self.now) (prefix self.now) result };
 
     /// A law: no class has a name that begins as the descriptor of an array does.
     fn are_plain(&self)

@@ -6,5 +6,6 @@ mod library;
 mod lists;
 
 pub use classes::Classes;
+pub use dj_names::NoMemory;
 pub use library::{LibClass, LibMethod};
-pub use lists::{LibMethods, Library, Names, NoMemory};
+pub use lists::{LibMethods, Library, Names};

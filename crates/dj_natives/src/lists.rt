@@ -1,38 +1,9 @@
 ghost use Rattle.std.specs.Prelude.{◌≡◌, [], ◌∷◌, ◌++◌, OnOk, OnErr};
 
 use crate::library::{LibClass, LibMethod};
-use dj_names::Name;
-use std::alloc::{AllocError, AllocFailed, Global};
+use dj_names::{Name, NoMemory};
+use std::alloc::Global;
 use std::marker::Model;
-use thiserror::Error;
-
-/// There was no memory.
-#[derive(Clone, Copy, Debug, PartialEq, Eq, Error)]
-pub enum NoMemory {
-    /// There was no memory.
-    #[error("there was no memory")]
-    Memory,
-}
-
-impl From<AllocError> for NoMemory {
-    ghost use Rattle.dj_natives.specs.declared.lists.NoMemory.TheVariants.{Memory};
-
-    ghost from_gives = { λ _ e. e ≡ Memory };
-
-    fn from(_error: AllocError) -> NoMemory {
-        NoMemory::Memory
-    }
-}
-
-impl<T: Drop> From<AllocFailed<T>> for NoMemory {
-    ghost use Rattle.dj_natives.specs.declared.lists.NoMemory.TheVariants.{Memory};
-
-    ghost from_gives = { λ _ e. e ≡ Memory };
-
-    fn from(_error: AllocFailed<T>) -> NoMemory {
-        NoMemory::Memory
-    }
-}
 
 /// Names, in order.
 #[derive(Drop)]

@@ -209,10 +209,10 @@ pub padded_table_again : (at : ℕ) (default low : ℤ) (targets : List ℤ) (te
 unfolding padded_at table_from
 padded_table_again at default low targets text c next table is spans =
     let high : ℤ = high_of low targets in
-    let front : List ℕ = target_bytes at default ++ (s4 low ++ s4 high) in
+    let prefix : List ℕ = target_bytes at default ++ (s4 low ++ s4 high) in
     let back : List ℕ = flat_map (target_bytes at) targets in
-    let text-is : text ≡ is.padding ++ (front ++ back) = behind (is.are ∙ sym (table_regroup is.padding (target_bytes at default) (s4 low) (s4 high) back)) in
-    let p = step_again (block_reads cut (padding_count at)) c is.padding (front ++ back) next (padding_is at is.padding is.padded) (subst (λ (t : List ℕ). Spans c t next) text-is spans) in
+    let text-is : text ≡ is.padding ++ (prefix ++ back) = behind (is.are ∙ sym (table_regroup is.padding (target_bytes at default) (s4 low) (s4 high) back)) in
+    let p = step_again (block_reads cut (padding_count at)) c is.padding (prefix ++ back) next (padding_is at is.padding is.padded) (subst (λ (t : List ℕ). Spans c t next) text-is spans) in
     let b = step_again (bounds_reads at) p.0 (default, (low, high)) back next (is.offsets.0, (table.low_fits, table.high_fits)) p.2 in
     let rising : int_lt high low ≡ false = lt_false high low (omega (arith, ints, table.some)) in
     let t = (many_reads (target_reads at) (unsigned_abs (high -ℤ low) + 1)).again b.0 targets next (targets_are low targets table.some, is.offsets.1) b.2 in
@@ -223,10 +223,10 @@ pub padded_lookup_again : (at : ℕ) (default : ℤ) (pairs : List (ℤ × ℤ))
 unfolding padded_at lookup_from
 padded_lookup_again at default pairs text c next lookup is spans =
     let count : ℤ = pos (length pairs) in
-    let front : List ℕ = target_bytes at default ++ s4 count in
+    let prefix : List ℕ = target_bytes at default ++ s4 count in
     let back : List ℕ = flat_map (pair_bytes at) pairs in
-    let text-is : text ≡ is.padding ++ (front ++ back) = behind (is.are ∙ sym (lookup_regroup is.padding (target_bytes at default) (s4 count) back)) in
-    let p = step_again (block_reads cut (padding_count at)) c is.padding (front ++ back) next (padding_is at is.padding is.padded) (subst (λ (t : List ℕ). Spans c t next) text-is spans) in
+    let text-is : text ≡ is.padding ++ (prefix ++ back) = behind (is.are ∙ sym (lookup_regroup is.padding (target_bytes at default) (s4 count) back)) in
+    let p = step_again (block_reads cut (padding_count at)) c is.padding (prefix ++ back) next (padding_is at is.padding is.padded) (subst (λ (t : List ℕ). Spans c t next) text-is spans) in
     let few : length pairs < 2 ^ 31 = lookup.count in
     let n = step_again (count_reads at) p.0 (default, count) back next (is.offsets.0, count_fits (length pairs) few) p.2 in
     let t = (many_reads (pair_reads at) (length pairs)).again n.0 pairs next (refl, pairs_fit at pairs lookup.matches is.offsets.1) n.2 in

@@ -24,16 +24,16 @@ use Rattle.dj_ops.proofs.Refused.{Refused, form_fails, form_refuses}
 -- ---- what is read
 
 -- these bytes at the front are the instruction
-record Front (c : Cursor) (x : Instr × Cursor) : Type 0 where
+record Prefix (c : Cursor) (x : Instr × Cursor) : Type 0 where
   pub text : List ℕ
   pub some : 0 < length text
   pub spans : Spans c text x.1
   pub spelled : SpellsInstruction c.place x.0 text
   pub proper : IsProper x.0
 
-front_taken : (c : Cursor) (x : Instr × Cursor) → IsBytes c.rest → instr_at c ≡ Ok x → Front c x
+prefix_taken : (c : Cursor) (x : Instr × Cursor) → IsBytes c.rest → instr_at c ≡ Ok x → Prefix c x
 unfolding instr_at
-front_taken c x fits e =
+prefix_taken c x fits e =
     let op = step_takes (u1_reads cut) c fits e in
     let t = form_taken (form_of op.value) c.place op.value op.next x refl op.good op.fits op.rest in
     record {
@@ -46,7 +46,7 @@ front_taken c x fits e =
 
 pub what_is_read : (code : List ℕ) (at : ℕ) (x : Instr × Cursor) → IsBytes code → at < length code → instr_at (cursor_at at code) ≡ Ok x → Stands code at x.0 x.1.place
 what_is_read code at x fits lt e =
-    let f = front_taken (cursor_at at code) x (IsBytes-drop at code fits) e in
+    let f = prefix_taken (cursor_at at code) x (IsBytes-drop at code fits) e in
     let many : x.1.place - at ≡ length f.text = omega (arith, f.spans.place) in
     let slice : slice_range code at x.1.place ≡ f.text = ap₂ (λ (n : ℕ) (l : List ℕ). take n l) many f.spans.parts ∙ take_at f.text x.1.rest (length f.text) refl in
     record {
@@ -86,18 +86,18 @@ one_at code at m n a b s t =
 -- ---- refusals
 
 -- what stands behind the first byte, and why it was refused
-front_fails : (c : Cursor) (e : OpError) → IsBytes c.rest → 0 < length c.rest → instr_at c ≡ Err e → (op : ℕ) × (more : List ℕ) × (c.rest ≡ op ∷ more) × (op < 256) × Refused c.place op (form_of op) more e
+prefix_fails : (c : Cursor) (e : OpError) → IsBytes c.rest → 0 < length c.rest → instr_at c ≡ Err e → (op : ℕ) × (more : List ℕ) × (c.rest ≡ op ∷ more) × (op < 256) × Refused c.place op (form_of op) more e
 unfolding instr_at
-front_fails c e fits some h =
+prefix_fails c e fits some h =
     bind_err h
     (λ r. absurd (omega (arith, some, (u1_fixed.fails c e r).1)))
     (λ x r g.
     let t = (u1_reads cut).takes c x fits r in
     (x.0, x.1.rest, t.0.parts, t.1, form_fails (form_of x.0) c.place x.0 x.1 e (IsBytes-Spans t.0 fits) g))
 
-front_refuses : (c : Cursor) (e : OpError) → IsBytes c.rest → (op : ℕ) (more : List ℕ) → c.rest ≡ op ∷ more → Refused c.place op (form_of op) more e → instr_at c ≡ Err e
+prefix_refuses : (c : Cursor) (e : OpError) → IsBytes c.rest → (op : ℕ) (more : List ℕ) → c.rest ≡ op ∷ more → Refused c.place op (form_of op) more e → instr_at c ≡ Err e
 unfolding instr_at
-front_refuses c e fits op more parts h =
+prefix_refuses c e fits op more parts h =
     elim (outcome (u1_at cut c)) [
       | inl x ↦
           let t = (u1_reads cut).takes c x.0 fits x.1 in
@@ -140,7 +140,7 @@ first_there (op ∷ more) some = (op, more, refl)
 
 pub has_cause : (code : List ℕ) (at : ℕ) (e : OpError) → IsBytes code → at < length code → instr_at (cursor_at at code) ≡ Err e → Refuses code at e
 has_cause code at e fits lt h =
-    let f = front_fails (cursor_at at code) e (IsBytes-drop at code fits) (some_there code at lt) h in
+    let f = prefix_fails (cursor_at at code) e (IsBytes-drop at code fits) (some_there code at lt) h in
     to_cause code at f.0 f.1 e f.2 f.3 f.4
 
 pub cause_refuses : (code : List ℕ) (at : ℕ) (e : OpError) → IsBytes code → at < length code → Refuses code at e → instr_at (cursor_at at code) ≡ Err e
@@ -148,7 +148,7 @@ cause_refuses code at e fits lt h =
     let l = first_there (drop at code) (some_there code at lt) in
     let here : IsBytes (drop at code) = IsBytes-drop at code fits in
     let below : l.0 < 256 = subst (λ (t : List ℕ). get_or t 0 0 < 256) l.2 (here 0) in
-    front_refuses (cursor_at at code) e here l.0 l.1 l.2 (from_cause code at l.0 l.1 e l.2 below h)
+    prefix_refuses (cursor_at at code) e here l.0 l.1 l.2 (from_cause code at l.0 l.1 e l.2 below h)
 
 -- ---- want of memory aside
 

@@ -1,7 +1,7 @@
 ghost use Rattle.std.specs.Prelude.{◌≡◌, [], ◌∷◌, ◌++◌, IfOk, OnOk, OnErr};
 
 use crate::instruction::Instr;
-use crate::lists::NoMemory;
+use dj_bytes::NoMemory;
 use std::alloc::Global;
 use std::marker::Model;
 

@@ -16,6 +16,7 @@ mod switches;
 mod write;
 mod write_switches;
 
+pub use dj_bytes::NoMemory;
 pub use frames::{Form, Frame, Frames, VType, VTypes};
 pub use instrs::Instrs;
 pub use instruction::Instr;
@@ -24,7 +25,7 @@ pub use laws::{
     one_refusal, spelled_length, written_spells, written_stands,
 };
 pub use lengths::length;
-pub use lists::{NoMemory, Pairs, Targets};
+pub use lists::{Pairs, Targets};
 pub use read::{OpError, read_instr};
 pub use rows::{CatchRow, CatchRows};
 pub use starts::Starts;

@@ -3,36 +3,9 @@ ghost use Rattle.dj_ops.specs.trusted.Lookups.{rises};
 ghost use Rattle.dj_ops.specs.Lookups.{first_target};
 
 use crate::matches::{is_above_last, is_rising, target_by_halving, target_in_turn};
-use std::alloc::{AllocError, AllocFailed, Global};
+use dj_bytes::NoMemory;
+use std::alloc::Global;
 use std::marker::Model;
-use thiserror::Error;
-
-/// There was no memory.
-#[derive(Clone, Copy, Debug, PartialEq, Eq, Error)]
-pub enum NoMemory {
-    #[error("out of memory")]
-    Memory,
-}
-
-impl From<AllocError> for NoMemory {
-    ghost use Rattle.dj_ops.specs.declared.lists.NoMemory.TheVariants.{Memory};
-
-    ghost from_gives = { λ _ e. e ≡ Memory };
-
-    fn from(_error: AllocError) -> NoMemory {
-        NoMemory::Memory
-    }
-}
-
-impl<T: Drop> From<AllocFailed<T>> for NoMemory {
-    ghost use Rattle.dj_ops.specs.declared.lists.NoMemory.TheVariants.{Memory};
-
-    ghost from_gives = { λ _ e. e ≡ Memory };
-
-    fn from(_error: AllocFailed<T>) -> NoMemory {
-        NoMemory::Memory
-    }
-}
 
 /// The targets of a table, in its order.
 #[derive(Debug, Drop)]

@@ -83,10 +83,8 @@ pub fn read_instr(alloc: Global, code: &[u8], at: u32) -> Result<(Instr, u32), O
     if let Some((op, after)) = bare_from(cursor) {
         return Ok((Instr::Simple { op }, after.place));
     }
-    match instr_from(alloc, cursor) {
-        Ok((instr, after)) => Ok((instr, after.place)),
-        Err(e) => Err(e),
-    }
+    let (instr, after) = instr_from(alloc, cursor)?;
+    Ok((instr, after.place))
 }
 
 /// Whether the opcode is of an instruction that has no operands.

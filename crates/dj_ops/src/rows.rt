@@ -1,6 +1,6 @@
 ghost use Rattle.std.specs.Prelude.{◌≡◌, [], ◌∷◌, ◌++◌, OnOk, OnErr};
 
-use crate::lists::NoMemory;
+use dj_bytes::NoMemory;
 use std::alloc::Global;
 use std::marker::Model;
 

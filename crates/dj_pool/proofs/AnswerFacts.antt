@@ -53,7 +53,7 @@ good-refused (pool_errors.Link index) h = absurd (no_pool_where_fault class_byte
 good-refused (pool_errors.Text index) h = absurd (no_pool_where_fault class_bytes 1 class_pool 10 (pool_errors.Text index) class_pool-stands h)
 
 good-cut_not : ReadsPool class_bytes 1 (Err (pool_errors.Cut 2)) → ⊥
-good-cut_not h = let told = good-refused (pool_errors.Cut 2) h in absurd cc
+good-cut_not h = let reported = good-refused (pool_errors.Cut 2) h in absurd cc
 
 -- at 0 stands none: the first two bytes would be the count, an int follows, and then no tag
 elsewhere-read : ReadsPool class_bytes 0 (Err (pool_errors.Tag 7))

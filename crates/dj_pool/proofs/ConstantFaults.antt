@@ -53,7 +53,7 @@ cuts_item {A} {X} part bytes_of P n reads refuses x good len k items next = reco
         let same : bytes_of x ≡ item = cc in
         let short : length c.rest < n = omega (arith, ap length p, ap length same, len, lt) in
         let place : c.place ≡ c.place + 0 = omega arith in
-        bind_fails k (refuses.again c (pool_errors.Cut (c.place + 0)) (record { short = short; told = ap pool_errors.Cut (sym place) }))
+        bind_fails k (refuses.again c (pool_errors.Cut (c.place + 0)) (record { short = short; reported = ap pool_errors.Cut (sym place) }))
     here (b ∷ bs) item later e c rest p lt =
         let same : bytes_of x ≡ b = cc in
         let more : items ≡ bs ++ item ∷ later = cc in
@@ -187,7 +187,7 @@ record NoTextTail (index tag : ℕ) (c : Cursor) (e : PoolError) : Type 0 where
   tag_is : tag ≡ 1
   short : length text < 2 ^ 16
   wrong : IsModifiedUtf8 text → ⊥
-  told : e ≡ pool_errors.Text index
+  reported : e ≡ pool_errors.Text index
 
 -- the first item is cut
 first_cut : (tag : ℕ) (k : Constant) (item : List ℕ) (later : List (List ℕ)) → IsSized k → items_of k ≡ u1 tag ∷ (item ∷ later) → (c : Cursor) (e : PoolError) → IsCut pool_errors.Cut (length item) c e → CutTail tag c e
@@ -200,7 +200,7 @@ first_cut tag k item later sized is c e cut = record {
   items = is;
   rest = c.rest;
   parts = refl;
-  cut = record { short = cut.short; told = cut.told ∙ ap pool_errors.Cut (omega arith) };
+  cut = record { short = cut.short; reported = cut.reported ∙ ap pool_errors.Cut (omega arith) };
 }
 
 -- the second item is cut
@@ -214,31 +214,31 @@ second_cut tag k first item sized is c mid e s cut = record {
   items = is;
   rest = mid.rest;
   parts = s.parts ∙ ap (λ (t : List ℕ). t ++ mid.rest) (sym (append-nil first));
-  cut = record { short = cut.short; told = cut.told ∙ ap pool_errors.Cut (omega (arith, s.place, ap length (append-nil first))) };
+  cut = record { short = cut.short; reported = cut.reported ∙ ap pool_errors.Cut (omega (arith, s.place, ap length (append-nil first))) };
 }
 
-one_tells : (tag n : ℕ) (part : Cursor → Result (ℕ × Cursor) PoolError) (make : ℕ → Constant) (k : Constant) (item : List ℕ) → Refuses part (IsCut pool_errors.Cut n) → IsSized k → items_of k ≡ u1 tag ∷ (item ∷ []) → length item ≡ n
+one_says : (tag n : ℕ) (part : Cursor → Result (ℕ × Cursor) PoolError) (make : ℕ → Constant) (k : Constant) (item : List ℕ) → Refuses part (IsCut pool_errors.Cut n) → IsSized k → items_of k ≡ u1 tag ∷ (item ∷ []) → length item ≡ n
     → (c : Cursor) (e : PoolError) → IsBytes c.rest → (let r : Result (Constant × Cursor) PoolError = Err e in (part c >>= λ x. Ok (make x.0, x.1)) ≡ r) → CutTail tag c e
-one_tells tag n part make k item refuses sized is len c e fits h =
-    bind_err h (λ r. first_cut tag k item [] sized is c e (subst (λ (m : ℕ). IsCut pool_errors.Cut m c e) (sym len) (refuses.tells c e fits r))) (λ x r g. absurd cc)
+one_says tag n part make k item refuses sized is len c e fits h =
+    bind_err h (λ r. first_cut tag k item [] sized is c e (subst (λ (m : ℕ). IsCut pool_errors.Cut m c e) (sym len) (refuses.says c e fits r))) (λ x r g. absurd cc)
 
-two_tells : (tag w : ℕ) (bytes_of : ℕ → List ℕ) (P : ℕ → Type 0) (part : Cursor → Result (ℕ × Cursor) PoolError) (make : ℕ → ℕ → Constant) → Reads part bytes_of P → Refuses part (IsCut pool_errors.Cut w) → P 0 → ((n : ℕ) → length (bytes_of n) ≡ w)
+two_says : (tag w : ℕ) (bytes_of : ℕ → List ℕ) (P : ℕ → Type 0) (part : Cursor → Result (ℕ × Cursor) PoolError) (make : ℕ → ℕ → Constant) → Reads part bytes_of P → Refuses part (IsCut pool_errors.Cut w) → P 0 → ((n : ℕ) → length (bytes_of n) ≡ w)
     → ((m : ℕ) → P m → IsSized (make m 0)) → ((m : ℕ) → items_of (make m 0) ≡ u1 tag ∷ (bytes_of m ∷ (u2 0 ∷ [])))
     → (c : Cursor) (e : PoolError) → IsBytes c.rest → (let r : Result (Constant × Cursor) PoolError = Err e in (part c >>= λ x. u2_at pool_errors.Cut x.1 >>= λ y. Ok (make x.0 y.0, y.1)) ≡ r) → CutTail tag c e
-two_tells tag w bytes_of P part make reads refuses none len sized is c e fits h =
+two_says tag w bytes_of P part make reads refuses none len sized is c e fits h =
     bind_err h
-    (λ r. first_cut tag (make 0 0) (bytes_of 0) (u2 0 ∷ []) (sized 0 none) (is 0) c e (subst (λ (m : ℕ). IsCut pool_errors.Cut m c e) (sym (len 0)) (refuses.tells c e fits r)))
+    (λ r. first_cut tag (make 0 0) (bytes_of 0) (u2 0 ∷ []) (sized 0 none) (is 0) c e (subst (λ (m : ℕ). IsCut pool_errors.Cut m c e) (sym (len 0)) (refuses.says c e fits r)))
     (λ x r g.
     let t = reads.takes c x fits r in
     bind_err g
-    (λ r. second_cut tag (make x.0 0) (bytes_of x.0) (u2 0) (sized x.0 t.1) (is x.0) c x.1 e t.0 ((u2_refuses pool_errors.Cut).tells x.1 e (IsBytes-Spans t.0 fits) r))
+    (λ r. second_cut tag (make x.0 0) (bytes_of x.0) (u2 0) (sized x.0 t.1) (is x.0) c x.1 e t.0 ((u2_refuses pool_errors.Cut).says x.1 e (IsBytes-Spans t.0 fits) r))
     (λ y r k. absurd cc))
 
-utf8_tells : TestsDecide → (index : ℕ) (c : Cursor) (e : PoolError) → IsBytes c.rest → utf8_at index c ≡ Err e → CutTail 1 c e ⊎ NoTextTail index 1 c e
+utf8_says : TestsDecide → (index : ℕ) (c : Cursor) (e : PoolError) → IsBytes c.rest → utf8_at index c ≡ Err e → CutTail 1 c e ⊎ NoTextTail index 1 c e
 unfolding utf8_at
-utf8_tells d index c e fits h =
+utf8_says d index c e fits h =
     bind_err h
-    (λ r. inl (first_cut 1 (Utf8 []) (u2 0) ([] ∷ []) (omega arith) refl c e ((u2_refuses pool_errors.Cut).tells c e fits r)))
+    (λ r. inl (first_cut 1 (Utf8 []) (u2 0) ([] ∷ []) (omega arith) refl c e ((u2_refuses pool_errors.Cut).says c e fits r)))
     (λ n r g.
     let t = (u2_reads pool_errors.Cut).takes c n fits r in
     let dummy : List ℕ = replicate n.0 0 in
@@ -247,12 +247,12 @@ utf8_tells d index c e fits h =
     bind_err g
     (λ r.
     let s : Spans c (u2 (length dummy)) n.1 = subst (λ (k : ℕ). Spans c (u2 k) n.1) (sym len) t.0 in
-    inl (second_cut 1 (Utf8 dummy) (u2 (length dummy)) dummy (omega (arith, len, t.1)) refl c n.1 e s (subst (λ (m : ℕ). IsCut pool_errors.Cut m n.1 e) (sym len) ((block_refuses pool_errors.Cut n.0).tells n.1 e more r))))
+    inl (second_cut 1 (Utf8 dummy) (u2 (length dummy)) dummy (omega (arith, len, t.1)) refl c n.1 e s (subst (λ (m : ℕ). IsCut pool_errors.Cut m n.1 e) (sym len) ((block_refuses pool_errors.Cut n.0).says n.1 e more r))))
     (λ b r g.
     let u = (block_reads pool_errors.Cut n.0).takes n.1 b more r in
     cond_either (modified_utf8_test b.0) _ _ g (λ y k. absurd cc) (λ unproved k.
     let parts : c.rest ≡ (u2 (length b.0) ++ b.0) ++ b.1.rest = t.0.parts ∙ ap (λ (l : List ℕ). u2 n.0 ++ l) u.0.parts ∙ ap (λ (m : ℕ). u2 m ++ (b.0 ++ b.1.rest)) (sym u.1) ∙ sym (append_assoc (u2 (length b.0)) b.0 b.1.rest) in
-    inr (record { text = b.0; rest = b.1.rest; parts = parts; tag_is = refl; short = omega (arith, u.1, t.1); wrong = λ is. apart ((d.modified_utf8 b.0).1 is) unproved; told = err_same _ _ k }))))
+    inr (record { text = b.0; rest = b.1.rest; parts = parts; tag_is = refl; short = omega (arith, u.1, t.1); wrong = λ is. apart ((d.modified_utf8 b.0).1 is) unproved; reported = err_same _ _ k }))))
 
 abbrev TailFault : ℕ → ℕ → ℕ → Cursor → PoolError → Type 0
 TailFault index place tag c e = CutTail tag c e ⊎ (((Contains tags tag → ⊥) × (e ≡ pool_errors.Tag place)) ⊎ NoTextTail index tag c e)
@@ -263,28 +263,28 @@ fits_2 n lt = (lt, omega arith)
 abbrev AtTag : (ℕ → Cursor → Result (Constant × Cursor) PoolError) → Cursor → PoolError → ℕ → Type 0
 AtTag part c e tag = part tag c ≡ Err e → CutTail tag c e
 
-named_tells : (tag : ℕ) (k : Constant) → IsSized k → items_of k ≡ u1 tag ∷ (u2 0 ∷ []) → (c : Cursor) (e : PoolError) → IsBytes c.rest → AtTag named_at c e tag
+named_says : (tag : ℕ) (k : Constant) → IsSized k → items_of k ≡ u1 tag ∷ (u2 0 ∷ []) → (c : Cursor) (e : PoolError) → IsBytes c.rest → AtTag named_at c e tag
 unfolding named_at
-named_tells tag k sized is c e fits = one_tells tag 2 (u2_at pool_errors.Cut) (named tag) k (u2 0) (u2_refuses pool_errors.Cut) sized is refl c e fits
+named_says tag k sized is c e fits = one_says tag 2 (u2_at pool_errors.Cut) (named tag) k (u2 0) (u2_refuses pool_errors.Cut) sized is refl c e fits
 
-number4_tells : (tag : ℕ) (k : Constant) → IsSized k → items_of k ≡ u1 tag ∷ (u4 0 ∷ []) → (c : Cursor) (e : PoolError) → IsBytes c.rest → AtTag number4_at c e tag
+number4_says : (tag : ℕ) (k : Constant) → IsSized k → items_of k ≡ u1 tag ∷ (u4 0 ∷ []) → (c : Cursor) (e : PoolError) → IsBytes c.rest → AtTag number4_at c e tag
 unfolding number4_at
-number4_tells tag k sized is c e fits = one_tells tag 4 (u4_at pool_errors.Cut) (number4 tag) k (u4 0) (u4_refuses pool_errors.Cut) sized is refl c e fits
+number4_says tag k sized is c e fits = one_says tag 4 (u4_at pool_errors.Cut) (number4 tag) k (u4 0) (u4_refuses pool_errors.Cut) sized is refl c e fits
 
-number8_tells : (tag : ℕ) (k : Constant) → IsSized k → items_of k ≡ u1 tag ∷ (u8 0 ∷ []) → (c : Cursor) (e : PoolError) → IsBytes c.rest → AtTag number8_at c e tag
+number8_says : (tag : ℕ) (k : Constant) → IsSized k → items_of k ≡ u1 tag ∷ (u8 0 ∷ []) → (c : Cursor) (e : PoolError) → IsBytes c.rest → AtTag number8_at c e tag
 unfolding number8_at
-number8_tells tag k sized is c e fits = one_tells tag 8 (u8_at pool_errors.Cut) (number8 tag) k (u8 0) (u8_refuses pool_errors.Cut) sized is refl c e fits
+number8_says tag k sized is c e fits = one_says tag 8 (u8_at pool_errors.Cut) (number8 tag) k (u8 0) (u8_refuses pool_errors.Cut) sized is refl c e fits
 
-paired_tells : (tag : ℕ) → ((m : ℕ) → m < 2 ^ 16 → IsSized (paired tag m 0)) → ((m : ℕ) → items_of (paired tag m 0) ≡ u1 tag ∷ (u2 m ∷ (u2 0 ∷ [])))
+paired_says : (tag : ℕ) → ((m : ℕ) → m < 2 ^ 16 → IsSized (paired tag m 0)) → ((m : ℕ) → items_of (paired tag m 0) ≡ u1 tag ∷ (u2 m ∷ (u2 0 ∷ [])))
     → (c : Cursor) (e : PoolError) → IsBytes c.rest → AtTag paired_at c e tag
 unfolding paired_at
-paired_tells tag sized is c e fits =
-    two_tells tag 2 u2 (λ n. n < 2 ^ 16) (u2_at pool_errors.Cut) (paired tag) (u2_reads pool_errors.Cut) (u2_refuses pool_errors.Cut) (omega arith) (λ n. refl) sized is c e fits
+paired_says tag sized is c e fits =
+    two_says tag 2 u2 (λ n. n < 2 ^ 16) (u2_at pool_errors.Cut) (paired tag) (u2_reads pool_errors.Cut) (u2_refuses pool_errors.Cut) (omega arith) (λ n. refl) sized is c e fits
 
-handle_tells : (c : Cursor) (e : PoolError) → IsBytes c.rest → handle_at c ≡ Err e → CutTail 15 c e
+handle_says : (c : Cursor) (e : PoolError) → IsBytes c.rest → handle_at c ≡ Err e → CutTail 15 c e
 unfolding handle_at
-handle_tells c e fits =
-    two_tells 15 1 u1 (λ n. n < 2 ^ 8) (u1_at pool_errors.Cut) Handle (u1_reads pool_errors.Cut) (u1_refuses pool_errors.Cut) (omega arith) (λ n. refl) (λ m lt. (lt, omega arith)) (λ m. refl) c e fits
+handle_says c e fits =
+    two_says 15 1 u1 (λ n. n < 2 ^ 8) (u1_at pool_errors.Cut) Handle (u1_reads pool_errors.Cut) (u1_refuses pool_errors.Cut) (omega arith) (λ n. refl) (λ m lt. (lt, omega arith)) (λ m. refl) c e fits
 
 zero_fits_4 : FitsSigned w32 (pos 0)
 zero_fits_4 = omega (arith, ints)
@@ -303,15 +303,15 @@ tags_asked = (refl, (refl, (refl, (refl, (refl, (refl, (refl, (refl, (refl, (ref
 tag_asked : (tag : ℕ) → Contains tags tag → IsAsked tag
 tag_asked tag h = subst IsAsked h.2 (All-from_recursion IsAsked tags tags_asked h.0 tag h.1)
 
-untagged_tells : TestsDecide → (index place tag : ℕ) (c : Cursor) (e : PoolError) → IsBytes c.rest → untagged_at index place tag c ≡ Err e → TailFault index place tag c e
+untagged_says : TestsDecide → (index place tag : ℕ) (c : Cursor) (e : PoolError) → IsBytes c.rest → untagged_at index place tag c ≡ Err e → TailFault index place tag c e
 unfolding untagged_at
-untagged_tells d index place tag c e fits h =
-    cond_either (eqb tag 1) _ _ h (λ t r. at_one 1 (λ (n : ℕ). TailFault index place n c e) tag t (elim (utf8_tells d index c e fits r) as (λ _. TailFault index place 1 c e) [ inl f ↦ inl f | inr f ↦ inr (inr f) ])) (λ t1 r.
-    cond_either (eqb tag 3 || eqb tag 4) _ _ r (λ t r. inl (at_two 3 4 (AtTag number4_at c e) tag t (number4_tells 3 (Integer (pos 0)) zero_fits_4 refl c e fits) (number4_tells 4 (Float 0) (omega arith) refl c e fits) r)) (λ t2 r.
-    cond_either (eqb tag 5 || eqb tag 6) _ _ r (λ t r. inl (at_two 5 6 (AtTag number8_at c e) tag t (number8_tells 5 (Long (pos 0)) zero_fits_8 refl c e fits) (number8_tells 6 (Double 0) (omega arith) refl c e fits) r)) (λ t3 r.
-    cond_either (is_named tag) _ _ r (λ t r. inl (at_named (AtTag named_at c e) tag t (named_tells 7 (Class 0) (omega arith) refl c e fits) (named_tells 8 (Text 0) (omega arith) refl c e fits) (named_tells 16 (MethodType 0) (omega arith) refl c e fits) r)) (λ t4 r.
-    cond_either (is_paired tag) _ _ r (λ t r. inl (at_paired (AtTag paired_at c e) tag t (paired_tells 9 fits_2 (λ m. refl) c e fits) (paired_tells 10 fits_2 (λ m. refl) c e fits) (paired_tells 11 fits_2 (λ m. refl) c e fits) (paired_tells 12 fits_2 (λ m. refl) c e fits) (paired_tells 18 fits_2 (λ m. refl) c e fits) r)) (λ t5 r.
-    cond_either (eqb tag 15) _ _ r (λ t r. inl (at_one 15 (λ (n : ℕ). CutTail n c e) tag t (handle_tells c e fits r))) (λ t6 r.
+untagged_says d index place tag c e fits h =
+    cond_either (eqb tag 1) _ _ h (λ t r. at_one 1 (λ (n : ℕ). TailFault index place n c e) tag t (elim (utf8_says d index c e fits r) as (λ _. TailFault index place 1 c e) [ inl f ↦ inl f | inr f ↦ inr (inr f) ])) (λ t1 r.
+    cond_either (eqb tag 3 || eqb tag 4) _ _ r (λ t r. inl (at_two 3 4 (AtTag number4_at c e) tag t (number4_says 3 (Integer (pos 0)) zero_fits_4 refl c e fits) (number4_says 4 (Float 0) (omega arith) refl c e fits) r)) (λ t2 r.
+    cond_either (eqb tag 5 || eqb tag 6) _ _ r (λ t r. inl (at_two 5 6 (AtTag number8_at c e) tag t (number8_says 5 (Long (pos 0)) zero_fits_8 refl c e fits) (number8_says 6 (Double 0) (omega arith) refl c e fits) r)) (λ t3 r.
+    cond_either (is_named tag) _ _ r (λ t r. inl (at_named (AtTag named_at c e) tag t (named_says 7 (Class 0) (omega arith) refl c e fits) (named_says 8 (Text 0) (omega arith) refl c e fits) (named_says 16 (MethodType 0) (omega arith) refl c e fits) r)) (λ t4 r.
+    cond_either (is_paired tag) _ _ r (λ t r. inl (at_paired (AtTag paired_at c e) tag t (paired_says 9 fits_2 (λ m. refl) c e fits) (paired_says 10 fits_2 (λ m. refl) c e fits) (paired_says 11 fits_2 (λ m. refl) c e fits) (paired_says 12 fits_2 (λ m. refl) c e fits) (paired_says 18 fits_2 (λ m. refl) c e fits) r)) (λ t5 r.
+    cond_either (eqb tag 15) _ _ r (λ t r. inl (at_one 15 (λ (n : ℕ). CutTail n c e) tag t (handle_says c e fits r))) (λ t6 r.
     inr (inl (
       (λ in_table.
           let asked : IsAsked tag = tag_asked tag in_table in
@@ -320,16 +320,16 @@ untagged_tells d index place tag c e fits h =
       err_same _ _ r,
     ))))))))
 
-constant_tells : TestsDecide → (index : ℕ) (c : Cursor) (e : PoolError) → IsBytes c.rest → constant_at_cursor index c ≡ Err e → ConstantFault index c e
+constant_says : TestsDecide → (index : ℕ) (c : Cursor) (e : PoolError) → IsBytes c.rest → constant_at_cursor index c ≡ Err e → ConstantFault index c e
 unfolding constant_at_cursor
-constant_tells d index c e fits h =
+constant_says d index c e fits h =
     bind_err h
     (λ r.
-    let cut = (u1_refuses pool_errors.Cut).tells c e fits r in
-    inl (record { constant = Class 0; sized = omega arith; before = []; item = u1 7; later = u2 0 ∷ []; items = refl; rest = c.rest; parts = refl; cut = record { short = cut.short; told = cut.told ∙ ap pool_errors.Cut (omega arith) } }))
+    let cut = (u1_refuses pool_errors.Cut).says c e fits r in
+    inl (record { constant = Class 0; sized = omega arith; before = []; item = u1 7; later = u2 0 ∷ []; items = refl; rest = c.rest; parts = refl; cut = record { short = cut.short; reported = cut.reported ∙ ap pool_errors.Cut (omega arith) } }))
     (λ t r g.
     let s = (u1_reads pool_errors.Cut).takes c t fits r in
-    elim (untagged_tells d index c.place t.0 t.1 e (IsBytes-Spans s.0 fits) g) as (λ _. ConstantFault index c e) [
+    elim (untagged_says d index c.place t.0 t.1 e (IsBytes-Spans s.0 fits) g) as (λ _. ConstantFault index c e) [
       | inl f ↦ inl (record {
         constant = f.constant;
         sized = f.sized;
@@ -339,17 +339,17 @@ constant_tells d index c e fits h =
         items = f.items;
         rest = f.rest;
         parts = s.0.parts ∙ ap (λ (l : List ℕ). u1 t.0 ++ l) f.parts;
-        cut = record { short = f.cut.short; told = f.cut.told ∙ ap pool_errors.Cut (omega (arith, s.0.place)) };
+        cut = record { short = f.cut.short; reported = f.cut.reported ∙ ap pool_errors.Cut (omega (arith, s.0.place)) };
       })
       | inr f ↦ elim f as (λ _. ConstantFault index c e) [
-        | inl g ↦ inr (inl (record { value = t.0; rest = t.1.rest; parts = s.0.parts; item = s.1; wrong = g.0; told = g.1 }))
+        | inl g ↦ inr (inl (record { value = t.0; rest = t.1.rest; parts = s.0.parts; item = s.1; wrong = g.0; reported = g.1 }))
         | inr g ↦ inr (inr (record {
           text = g.text;
           rest = g.rest;
           parts = s.0.parts ∙ ap (λ (n : ℕ). u1 n ++ t.1.rest) g.tag_is ∙ ap (λ (l : List ℕ). u1 1 ++ l) g.parts;
           short = g.short;
           wrong = g.wrong;
-          told = g.told;
+          reported = g.reported;
         }))
       ]
     ])
@@ -362,19 +362,19 @@ no_text d index c e g =
     let t = step_again (u1_reads pool_errors.Cut) c 1 (u2 (length g.text) ++ g.text) next (omega arith) s in
     let n = step_again (u2_reads pool_errors.Cut) t.0 (length g.text) g.text next g.short t.2 in
     let no : modified_utf8_test g.text ≡ false = untrue _ (λ yes. g.wrong ((d.modified_utf8 g.text).0 yes)) in
-    bind_again _ t.1 (bind_again _ n.1 (bind_again _ ((block_reads pool_errors.Cut (length g.text)).again n.0 g.text next refl n.2) (cond_false _ no (ap (λ (x : PoolError). Err x) (sym g.told)))))
+    bind_again _ t.1 (bind_again _ n.1 (bind_again _ ((block_reads pool_errors.Cut (length g.text)).again n.0 g.text next refl n.2) (cond_false _ no (ap (λ (x : PoolError). Err x) (sym g.reported)))))
 
 constant_halts : TestsDecide → (index : ℕ) (c : Cursor) (e : PoolError) → ConstantFault index c e → constant_at_cursor index c ≡ Err e
 unfolding constant_at_cursor untagged_at utf8_at
 constant_halts d index c e fault = elim fault as (λ _. constant_at_cursor index c ≡ Err e) [
-  | inl f ↦ (constant_cuts index f.constant f.sized).cut f.before f.item f.later f.items c f.rest f.parts f.cut.short ∙ ap (λ (x : PoolError). Err x) (sym f.cut.told)
+  | inl f ↦ (constant_cuts index f.constant f.sized).cut f.before f.item f.later f.items c f.rest f.parts f.cut.short ∙ ap (λ (x : PoolError). Err x) (sym f.cut.reported)
   | inr f ↦ elim f as (λ _. constant_at_cursor index c ≡ Err e) [
     | inl g ↦ (
         let read = (u1_reads pool_errors.Cut).again c g.value (after c (u1 g.value) g.rest) g.item (after-Spans c (u1 g.value) g.rest g.parts) in
-        bind_again _ read (untagged_denied index c.place g.value (after c (u1 g.value) g.rest) g.wrong ∙ ap (λ (x : PoolError). Err x) (sym g.told)))
+        bind_again _ read (untagged_denied index c.place g.value (after c (u1 g.value) g.rest) g.wrong ∙ ap (λ (x : PoolError). Err x) (sym g.reported)))
     | inr g ↦ no_text d index c e g
   ]
 ]
 
 pub constant_refuses : TestsDecide → (index : ℕ) → Refuses (constant_at_cursor index) (ConstantFault index)
-constant_refuses d index = record { tells = constant_tells d index; again = constant_halts d index }
+constant_refuses d index = record { says = constant_says d index; again = constant_halts d index }

@@ -215,7 +215,7 @@ long_at_end-fault = inr (record {
   parts = refl;
   good = (omega arith, omega arith);
   fault = inr (record {
-    front = [];
+    prefix = [];
     last = Long (pos 1);
     rest = [];
     parts = refl;
@@ -229,7 +229,7 @@ long_at_end-fault = inr (record {
     at = refl;
     wrong = inr (refl, omega arith);
     lowest = none_lower;
-    told = refl;
+    reported = refl;
   });
 })
 

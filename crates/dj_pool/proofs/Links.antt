@@ -153,15 +153,15 @@ pub record IsFirst (pool : List Constant) (index : ℕ) (ks : List Constant) (m 
   pub unfit : is_fit pool m constant ≡ false
   pub before : (i : ℕ) (k : Constant) → i < j → slice_get ks i ≡ Some k → is_fit pool (index + i) k ≡ true
 
-at_front : (pool : List Constant) (index i : ℕ) (k t : Constant) → i ≡ 0 → is_fit pool index t ≡ true → Some t ≡ Some k → is_fit pool (index + i) k ≡ true
-at_front pool index i k t none fit e =
+at_prefix : (pool : List Constant) (index i : ℕ) (k t : Constant) → i ≡ 0 → is_fit pool index t ≡ true → Some t ≡ Some k → is_fit pool (index + i) k ≡ true
+at_prefix pool index i k t none fit e =
     let same : t ≡ k = cc in
     let at : index ≡ index + i = omega (arith, none) in
     subst (λ (n : ℕ). is_fit pool n k ≡ true) at (subst (λ (x : Constant). is_fit pool index x ≡ true) same fit)
 
 before_more : (pool : List Constant) (index j : ℕ) (t : Constant) (ts : List Constant) → is_fit pool index t ≡ true → ((i : ℕ) (k : Constant) → i < j → slice_get ts i ≡ Some k → is_fit pool (index + 1 + i) k ≡ true)
     → (i : ℕ) (k : Constant) → i < suc j → slice_get (t ∷ ts) i ≡ Some k → is_fit pool (index + i) k ≡ true
-before_more pool index j t ts fit rest zero k lt e = at_front pool index 0 k t refl fit e
+before_more pool index j t ts fit rest zero k lt e = at_prefix pool index 0 k t refl fit e
 before_more pool index j t ts fit rest (suc i) k lt e =
     let at : index + 1 + i ≡ index + suc i = omega arith in
     subst (λ (n : ℕ). is_fit pool n k ≡ true) at (rest i k (omega (arith, lt)) e)

@@ -27,17 +27,17 @@ pool_from_takes d bytes at x fits e =
 pool_at_again : TestsDecide → (bytes : List ℕ) (at : ℕ) (pool : List Constant) (next : ℕ) (h : IsPoolAt bytes at pool next) → (let c : Cursor = cursor_at at bytes in pool_at c ≡ Ok (pool, record { place = next; rest = h.rest }))
 pool_at_again d bytes at pool next h = (pool_reads d).again (cursor_at at bytes) pool (record { place = next; rest = h.rest }) h.valid (record { parts = h.parts; place = h.next_is })
 
-pool_from_tells : TestsDecide → (bytes : List ℕ) (at : ℕ) (e : PoolError) → IsBytes bytes → pool_from bytes at ≡ Err e → PoolFault (cursor_at at bytes) e
+pool_from_says : TestsDecide → (bytes : List ℕ) (at : ℕ) (e : PoolError) → IsBytes bytes → pool_from bytes at ≡ Err e → PoolFault (cursor_at at bytes) e
 unfolding pool_from
-pool_from_tells d bytes at e fits h = bind_err h (λ r. (pool_refuses d).tells (cursor_at at bytes) e (IsBytes-drop at bytes fits) r) (λ x r g. absurd cc)
+pool_from_says d bytes at e fits h = bind_err h (λ r. (pool_refuses d).says (cursor_at at bytes) e (IsBytes-drop at bytes fits) r) (λ x r g. absurd cc)
 
 pub reads_pool : TestsDecide → (bytes : List ℕ) (at : ℕ) (r : Result (List Constant × ℕ) PoolError) → IsBytes bytes → Gives pool_is_memory (λ (x : List Constant × ℕ). (x.0, x.1)) r (pool_from bytes at) → ReadsPool bytes at r
 reads_pool d bytes at (Ok x) fits given = pool_from_takes d bytes at x fits given
 reads_pool d bytes at (Err pool_errors.Memory) fits given = tt
-reads_pool d bytes at (Err (pool_errors.Cut p)) fits given = pool_from_tells d bytes at _ fits given
-reads_pool d bytes at (Err (pool_errors.Tag p)) fits given = pool_from_tells d bytes at _ fits given
-reads_pool d bytes at (Err (pool_errors.Link p)) fits given = pool_from_tells d bytes at _ fits given
-reads_pool d bytes at (Err (pool_errors.Text p)) fits given = pool_from_tells d bytes at _ fits given
+reads_pool d bytes at (Err (pool_errors.Cut p)) fits given = pool_from_says d bytes at _ fits given
+reads_pool d bytes at (Err (pool_errors.Tag p)) fits given = pool_from_says d bytes at _ fits given
+reads_pool d bytes at (Err (pool_errors.Link p)) fits given = pool_from_says d bytes at _ fits given
+reads_pool d bytes at (Err (pool_errors.Text p)) fits given = pool_from_says d bytes at _ fits given
 
 -- ---- laws
 
@@ -70,4 +70,4 @@ pub pool_or_fault : PoolOrFault
 pool_or_fault bytes at fits =
     by_result (pool_from bytes at)
     (λ x r. inl (x.0, (x.1, pool_from_takes tests_decide bytes at x fits r)))
-    (λ e r. inr (e, pool_from_tells tests_decide bytes at e fits r))
+    (λ e r. inr (e, pool_from_says tests_decide bytes at e fits r))

@@ -36,8 +36,8 @@ linked_err x None e h = absurd cc
 linked_err x (Some i) e h = (i, refl, cc)
 
 linked_fails : {A : Type 0} (x : A) (o : Option ℕ) (m : ℕ) (e : PoolError) → o ≡ Some m → e ≡ pool_errors.Link m → linked x o ≡ Err e
-linked_fails x None m e h told = absurd cc
-linked_fails x (Some i) m e h told = cc
+linked_fails x None m e h reported = absurd cc
+linked_fails x (Some i) m e h reported = cc
 
 -- this many indexes, with valid constants
 abbrev pub AreLinked : ℕ → List Constant → Type 0
@@ -89,25 +89,25 @@ pool_reads d = record { takes = pool_takes d; again = pool_again d }
 
 -- ---- faults
 
-among_tells : TestsDecide → (n count : ℕ) → count ≡ n + 1 → (c : Cursor) (e : PoolError) → SlotsStop n false 1 c e → IsAmongConstants count c e
-among_tells d n count is c e s =
-    let at : 1 + (0 + length (indexed s.front)) ≡ length (indexed s.front) + 1 = omega arith in
-    let failed : constant_at_cursor (length (indexed s.front) + 1) s.mid ≡ Err e = subst (λ (i : ℕ). constant_at_cursor i s.mid ≡ Err e) at s.failed in
+among_says : TestsDecide → (n count : ℕ) → count ≡ n + 1 → (c : Cursor) (e : PoolError) → SlotsStop n false 1 c e → IsAmongConstants count c e
+among_says d n count is c e s =
+    let at : 1 + (0 + length (indexed s.prefix)) ≡ length (indexed s.prefix) + 1 = omega arith in
+    let failed : constant_at_cursor (length (indexed s.prefix) + 1) s.mid ≡ Err e = subst (λ (i : ℕ). constant_at_cursor i s.mid ≡ Err e) at s.failed in
     record {
-      front = s.front;
+      prefix = s.prefix;
       rest = s.mid.rest;
       parts = s.spans.parts;
       whole = s.whole;
       below = omega (arith, is, s.within);
-      fault = subst (λ (m : Cursor). ConstantFault (length (indexed s.front) + 1) m e) (Spans-after s.spans) ((constant_refuses d (length (indexed s.front) + 1)).tells s.mid e s.fits failed);
+      fault = subst (λ (m : Cursor). ConstantFault (length (indexed s.prefix) + 1) m e) (Spans-after s.spans) ((constant_refuses d (length (indexed s.prefix) + 1)).says s.mid e s.fits failed);
     }
 
 among_halts : TestsDecide → (n count : ℕ) → count ≡ n + 1 → (c : Cursor) (e : PoolError) → IsAmongConstants count c e → slots_at n false 1 c ≡ Err e
 among_halts d n count is c e f =
-    let mid : Cursor = after c (flat_map constant_bytes f.front) f.rest in
-    let at : length (indexed f.front) + 1 ≡ 1 + (0 + length (indexed f.front)) = omega arith in
-    let failed = subst (λ (i : ℕ). constant_at_cursor i mid ≡ Err e) at ((constant_refuses d (length (indexed f.front) + 1)).again mid e f.fault) in
-    slots_halt d n false 1 c mid f.front e (omega (arith, is, f.below)) f.whole (after-Spans c (flat_map constant_bytes f.front) f.rest f.parts) failed
+    let mid : Cursor = after c (flat_map constant_bytes f.prefix) f.rest in
+    let at : length (indexed f.prefix) + 1 ≡ 1 + (0 + length (indexed f.prefix)) = omega arith in
+    let failed = subst (λ (i : ℕ). constant_at_cursor i mid ≡ Err e) at ((constant_refuses d (length (indexed f.prefix) + 1)).again mid e f.fault) in
+    slots_halt d n false 1 c mid f.prefix e (omega (arith, is, f.below)) f.whole (after-Spans c (flat_map constant_bytes f.prefix) f.rest f.parts) failed
 
 -- the constant at an index, where indexes count from 1
 constant_from : (pool : List Constant) (i j : ℕ) → i ≡ 1 + j → constant_at pool i ≡ slice_get pool j
@@ -146,15 +146,15 @@ first_is d count ks (suc j) constant len at wrong lowest =
     let before = λ (i : ℕ) (k : Constant) (lt : i < j) (e : slice_get ks i ≡ Some k). fit_before d count ks i k len (lowest (suc i) k (omega (arith, lt)) e) in
     first_again ks 1 ks j constant at unfit before ∙ ap Some place
 
-unlinked_tells : TestsDecide → (n count : ℕ) → count ≡ n + 1 → (c next : Cursor) (ks : List Constant) (m : ℕ) → HasSlots n false ks → Spans c (flat_map constant_bytes ks) next → first_unlinked ks 1 ks ≡ Some m → (e : PoolError) → e ≡ pool_errors.Link m → IsUnlinked count c e
-unlinked_tells d n count is c next ks m slots s h e told =
+unlinked_says : TestsDecide → (n count : ℕ) → count ≡ n + 1 → (c next : Cursor) (ks : List Constant) (m : ℕ) → HasSlots n false ks → Spans c (flat_map constant_bytes ks) next → first_unlinked ks 1 ks ≡ Some m → (e : PoolError) → e ≡ pool_errors.Link m → IsUnlinked count c e
+unlinked_says d n count is c next ks m slots s h e reported =
     let f = first_takes ks 1 ks m h in
     let within : f.j < length ks = slice_get_within ks f.j f.constant f.at in
     let some : 0 < length ks = omega (arith, within) in
     let g = slots_filled ks some slots.1 in
     let len : count ≡ length ks + 1 = omega (arith, is, slots.0) in
     record {
-      front = g.front;
+      prefix = g.prefix;
       last = g.last;
       rest = next.rest;
       parts = s.parts ∙ ap (λ (t : List ℕ). t ++ next.rest) g.bytes;
@@ -162,38 +162,38 @@ unlinked_tells d n count is c next ks m slots s h e told =
       below = omega (arith, len, g.below);
       all = omega (arith, len, g.all);
       pool = ks;
-      pool_is = g.is ∙ ap (λ (k : ℕ). take k (indexed (g.front ++ g.last ∷ []))) (omega (arith, len));
+      pool_is = g.is ∙ ap (λ (k : ℕ). take k (indexed (g.prefix ++ g.last ∷ []))) (omega (arith, len));
       index = m;
       constant = f.constant;
       at = constant_from ks m f.j f.m_is ∙ f.at;
       wrong = unfit_takes d count ks m f.constant len f.unfit;
       lowest = λ i k lt at. lowest_is d count ks m f len i k lt at;
-      told = told;
+      reported = reported;
     }
 
 unlinked_halts : TestsDecide → (n count : ℕ) → count ≡ n + 1 → (c : Cursor) (e : PoolError) → IsUnlinked count c e → linked_slots_at n c ≡ Err e
 unfolding linked_slots_at
 unlinked_halts d n count is c e f =
     let n-is : count - 1 ≡ n = omega (arith, is) in
-    let pool_is : f.pool ≡ take n (indexed (f.front ++ f.last ∷ [])) = f.pool_is ∙ ap (λ (k : ℕ). take k (indexed (f.front ++ f.last ∷ []))) n-is in
-    let len : length f.pool ≡ n = ap length pool_is ∙ length-take n (indexed (f.front ++ f.last ∷ [])) ∙ omega (arith, is, f.all) in
-    let slots : AreSlots f.pool false = subst (λ (t : List Constant). AreSlots t false) (sym pool_is) (prefix_slots (f.front ++ f.last ∷ []) n f.whole) in
-    let bytes : flat_map constant_bytes f.pool ≡ flat_map constant_bytes (f.front ++ f.last ∷ []) = ap (flat_map constant_bytes) pool_is ∙ prefix_bytes f.front f.last n (omega (arith, is, f.below)) in
+    let pool_is : f.pool ≡ take n (indexed (f.prefix ++ f.last ∷ [])) = f.pool_is ∙ ap (λ (k : ℕ). take k (indexed (f.prefix ++ f.last ∷ []))) n-is in
+    let len : length f.pool ≡ n = ap length pool_is ∙ length-take n (indexed (f.prefix ++ f.last ∷ [])) ∙ omega (arith, is, f.all) in
+    let slots : AreSlots f.pool false = subst (λ (t : List Constant). AreSlots t false) (sym pool_is) (prefix_slots (f.prefix ++ f.last ∷ []) n f.whole) in
+    let bytes : flat_map constant_bytes f.pool ≡ flat_map constant_bytes (f.prefix ++ f.last ∷ []) = ap (flat_map constant_bytes) pool_is ∙ prefix_bytes f.prefix f.last n (omega (arith, is, f.below)) in
     let next : Cursor = after c (flat_map constant_bytes f.pool) f.rest in
     let s : Spans c (flat_map constant_bytes f.pool) next = after-Spans c (flat_map constant_bytes f.pool) f.rest (f.parts ∙ ap (λ (t : List ℕ). t ++ f.rest) (sym bytes)) in
     let count-is : count ≡ length f.pool + 1 = omega (arith, is, len) in
     let found = first_is d count f.pool f.index f.constant count-is f.at f.wrong f.lowest in
-    bind_again _ ((slots_read d n false 1).again c f.pool next (len, slots) s) (linked_fails (f.pool, next) (first_unlinked f.pool 1 f.pool) f.index e found f.told)
+    bind_again _ ((slots_read d n false 1).again c f.pool next (len, slots) s) (linked_fails (f.pool, next) (first_unlinked f.pool 1 f.pool) f.index e found f.reported)
 
 pub linked_refuses : TestsDecide → (n count : ℕ) → count ≡ n + 1 → Refuses (linked_slots_at n) (ConstantsFault count)
 unfolding linked_slots_at
 linked_refuses d n count is = record {
-  tells = λ c e fits h. bind_err h
-      (λ r. inl (among_tells d n count is c e (slots_stop d n false 1 c e fits r)))
+  says = λ c e fits h. bind_err h
+      (λ r. inl (among_says d n count is c e (slots_stop d n false 1 c e fits r)))
       (λ x r g.
       let t = (slots_read d n false 1).takes c x fits r in
       let l = linked_err x (first_unlinked x.0 1 x.0) e g in
-      inr (unlinked_tells d n count is c x.1 x.0 l.0 t.1 t.0 l.1 e l.2));
+      inr (unlinked_says d n count is c x.1 x.0 l.0 t.1 t.0 l.1 e l.2));
   again = λ c e fault. elim fault as (λ _. linked_slots_at n c ≡ Err e) [
     | inl f ↦ bind_fails _ (among_halts d n count is c e f)
     | inr f ↦ unlinked_halts d n count is c e f
@@ -206,18 +206,18 @@ count_is n some = omega (arith, some)
 err_same : (d e : PoolError) → (let x : Result (List Constant × Cursor) PoolError = Err d in x ≡ Err e) → e ≡ d
 err_same d e h = cc
 
-pool_tells : TestsDecide → (c : Cursor) (e : PoolError) → IsBytes c.rest → pool_at c ≡ Err e → PoolFault c e
+pool_says : TestsDecide → (c : Cursor) (e : PoolError) → IsBytes c.rest → pool_at c ≡ Err e → PoolFault c e
 unfolding pool_at
-pool_tells d c e fits h =
+pool_says d c e fits h =
     bind_err h
-    (λ r. inl (inl ((u2_refuses pool_errors.Cut).tells c e fits r)))
+    (λ r. inl (inl ((u2_refuses pool_errors.Cut).says c e fits r)))
     (λ n r g.
     let t = (u2_reads pool_errors.Cut).takes c n fits r in
     cond_either (eqb n.0 0) _ _ g
-    (λ none k. inl (inr (record { value = n.0; rest = n.1.rest; parts = t.0.parts; item = t.1; wrong = λ some. absurd (omega (arith, some, eqb-true _ _ none)); told = err_same _ _ k })))
+    (λ none k. inl (inr (record { value = n.0; rest = n.1.rest; parts = t.0.parts; item = t.1; wrong = λ some. absurd (omega (arith, some, eqb-true _ _ none)); reported = err_same _ _ k })))
     (λ some k.
     let lt : 0 < n.0 = grind (arith, nat_tests) in
-    let fault = (linked_refuses d (n.0 - 1) n.0 (count_is n.0 lt)).tells n.1 e (IsBytes-Spans t.0 fits) k in
+    let fault = (linked_refuses d (n.0 - 1) n.0 (count_is n.0 lt)).says n.1 e (IsBytes-Spans t.0 fits) k in
     inr (record { value = n.0; rest = n.1.rest; parts = t.0.parts; good = (t.1, lt); fault = subst (λ (m : Cursor). ConstantsFault n.0 m e) (Spans-after t.0) fault })))
 
 pool_halts : TestsDecide → (c : Cursor) (e : PoolError) → PoolFault c e → pool_at c ≡ Err e
@@ -229,7 +229,7 @@ pool_halts d c e fault = elim fault as (λ _. pool_at c ≡ Err e) [
         let next : Cursor = after c (u2 g.value) g.rest in
         let read = (u2_reads pool_errors.Cut).again c g.value next g.item (after-Spans c (u2 g.value) g.rest g.parts) in
         let none : eqb g.value 0 ≡ true = is_none g.value g.wrong in
-        bind_again _ read (cond_true _ none (ap (λ (x : PoolError). Err x) (sym g.told))))
+        bind_again _ read (cond_true _ none (ap (λ (x : PoolError). Err x) (sym g.reported))))
   ]
   | inr f ↦ (
       let next : Cursor = after c (u2 f.value) f.rest in
@@ -239,4 +239,4 @@ pool_halts d c e fault = elim fault as (λ _. pool_at c ≡ Err e) [
 ]
 
 pub pool_refuses : TestsDecide → Refuses pool_at PoolFault
-pool_refuses d = record { tells = pool_tells d; again = pool_halts d }
+pool_refuses d = record { says = pool_says d; again = pool_halts d }

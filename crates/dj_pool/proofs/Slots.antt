@@ -88,13 +88,13 @@ indexed_len k ks =
 
 -- whole constants stand here, which take fewer indexes than this many, and the next is not read
 pub record SlotsStop (n : ℕ) (wide : Bool) (index : ℕ) (c : Cursor) (e : PoolError) : Type 0 where
-  pub front : List Constant
+  pub prefix : List Constant
   pub mid : Cursor
-  pub spans : Spans c (flat_map constant_bytes front) mid
-  pub whole : AllByRecursion IsWhole front
-  pub within : skip wide + length (indexed front) < n
+  pub spans : Spans c (flat_map constant_bytes prefix) mid
+  pub whole : AllByRecursion IsWhole prefix
+  pub within : skip wide + length (indexed prefix) < n
   pub fits : IsBytes mid.rest
-  pub failed : constant_at_cursor (index + (skip wide + length (indexed front))) mid ≡ Err e
+  pub failed : constant_at_cursor (index + (skip wide + length (indexed prefix))) mid ≡ Err e
 
 abbrev FailsAt : Cursor → PoolError → ℕ → Type 0
 FailsAt c e i = constant_at_cursor i c ≡ Err e
@@ -106,24 +106,24 @@ slots_stop d (suc n) true index c e fits h =
     bind_err h
     (λ r.
     let s = slots_stop d n false (index + 1) c e fits r in
-    let at : (index + 1) + (0 + length (indexed s.front)) ≡ index + (1 + length (indexed s.front)) = omega arith in
-    record { front = s.front; mid = s.mid; spans = s.spans; whole = s.whole; within = omega (arith, s.within); fits = s.fits; failed = subst (FailsAt s.mid e) at s.failed })
+    let at : (index + 1) + (0 + length (indexed s.prefix)) ≡ index + (1 + length (indexed s.prefix)) = omega arith in
+    record { prefix = s.prefix; mid = s.mid; spans = s.spans; whole = s.whole; within = omega (arith, s.within); fits = s.fits; failed = subst (FailsAt s.mid e) at s.failed })
     (λ x r g. absurd cc)
 slots_stop d (suc n) false index c e fits h =
     bind_err h
     (λ r.
     let none : length (indexed []) ≡ 0 = ap length indexed_none in
     let at : index ≡ index + (0 + length (indexed [])) = omega (arith, none) in
-    record { front = []; mid = c; spans = Spans-none c; whole = tt; within = omega (arith, none); fits = fits; failed = subst (FailsAt c e) at r })
+    record { prefix = []; mid = c; spans = Spans-none c; whole = tt; within = omega (arith, none); fits = fits; failed = subst (FailsAt c e) at r })
     (λ first r g.
     let t = (constant_reads d index).takes c first fits r in
     bind_err g
     (λ r.
     let s = slots_stop d n (takes_two first.0) (index + 1) first.1 e (IsBytes-Spans t.0 fits) r in
-    let len = indexed_len first.0 s.front in
-    let at : (index + 1) + (skip (takes_two first.0) + length (indexed s.front)) ≡ index + (0 + length (indexed (first.0 ∷ s.front))) = omega (arith, len) in
+    let len = indexed_len first.0 s.prefix in
+    let at : (index + 1) + (skip (takes_two first.0) + length (indexed s.prefix)) ≡ index + (0 + length (indexed (first.0 ∷ s.prefix))) = omega (arith, len) in
     record {
-      front = first.0 ∷ s.front;
+      prefix = first.0 ∷ s.prefix;
       mid = s.mid;
       spans = Spans-then t.0 s.spans;
       whole = (t.1, s.whole);
@@ -133,41 +133,41 @@ slots_stop d (suc n) false index c e fits h =
     })
     (λ others r h. absurd cc))
 
-pub slots_halt : TestsDecide → (n : ℕ) (wide : Bool) (index : ℕ) (c mid : Cursor) (front : List Constant) (e : PoolError) → skip wide + length (indexed front) < n → AllByRecursion IsWhole front → Spans c (flat_map constant_bytes front) mid
-    → constant_at_cursor (index + (skip wide + length (indexed front))) mid ≡ Err e → slots_at n wide index c ≡ Err e
+pub slots_halt : TestsDecide → (n : ℕ) (wide : Bool) (index : ℕ) (c mid : Cursor) (prefix : List Constant) (e : PoolError) → skip wide + length (indexed prefix) < n → AllByRecursion IsWhole prefix → Spans c (flat_map constant_bytes prefix) mid
+    → constant_at_cursor (index + (skip wide + length (indexed prefix))) mid ≡ Err e → slots_at n wide index c ≡ Err e
 unfolding slots_at slot_at
-slots_halt d zero wide index c mid front e lt whole s failed = absurd (omega (arith, lt))
-slots_halt d (suc n) true index c mid front e lt whole s failed =
-    let at : index + (1 + length (indexed front)) ≡ (index + 1) + (0 + length (indexed front)) = omega arith in
-    bind_fails _ (slots_halt d n false (index + 1) c mid front e (omega (arith, lt)) whole s (subst (FailsAt mid e) at failed))
+slots_halt d zero wide index c mid prefix e lt whole s failed = absurd (omega (arith, lt))
+slots_halt d (suc n) true index c mid prefix e lt whole s failed =
+    let at : index + (1 + length (indexed prefix)) ≡ (index + 1) + (0 + length (indexed prefix)) = omega arith in
+    bind_fails _ (slots_halt d n false (index + 1) c mid prefix e (omega (arith, lt)) whole s (subst (FailsAt mid e) at failed))
 slots_halt d (suc n) false index c mid [] e lt whole s failed =
     let none : length (indexed []) ≡ 0 = ap length indexed_none in
     let at : index + (0 + length (indexed [])) ≡ index = omega (arith, none) in
     bind_fails _ (ap (constant_at_cursor index) (Spans-stay s) ∙ subst (FailsAt mid e) at failed)
-slots_halt d (suc n) false index c mid (k ∷ front) e lt whole s failed =
-    let first = step_again (constant_reads d index) c k (flat_map constant_bytes front) mid whole.0 s in
-    let len = indexed_len k front in
-    let at : index + (0 + length (indexed (k ∷ front))) ≡ (index + 1) + (skip (takes_two k) + length (indexed front)) = omega (arith, len) in
-    bind_again _ first.1 (bind_fails _ (slots_halt d n (takes_two k) (index + 1) first.0 mid front e (omega (arith, lt, len)) whole.1 first.2 (subst (FailsAt mid e) at failed)))
+slots_halt d (suc n) false index c mid (k ∷ prefix) e lt whole s failed =
+    let first = step_again (constant_reads d index) c k (flat_map constant_bytes prefix) mid whole.0 s in
+    let len = indexed_len k prefix in
+    let at : index + (0 + length (indexed (k ∷ prefix))) ≡ (index + 1) + (skip (takes_two k) + length (indexed prefix)) = omega (arith, len) in
+    bind_again _ first.1 (bind_fails _ (slots_halt d n (takes_two k) (index + 1) first.0 mid prefix e (omega (arith, lt, len)) whole.1 first.2 (subst (FailsAt mid e) at failed)))
 
 -- ---- which constants they are
 
 -- constants as far as they take this many indexes, the last of which begins within them
 pub record Filled (ks : List Constant) : Type 0 where
-  pub front : List Constant
+  pub prefix : List Constant
   pub last : Constant
-  pub whole : AllByRecursion IsWhole (front ++ last ∷ [])
-  pub below : length (indexed front) < length ks
-  pub all : length ks ≤ length (indexed (front ++ last ∷ []))
-  pub is : ks ≡ take (length ks) (indexed (front ++ last ∷ []))
-  pub bytes : flat_map constant_bytes ks ≡ flat_map constant_bytes (front ++ last ∷ [])
+  pub whole : AllByRecursion IsWhole (prefix ++ last ∷ [])
+  pub below : length (indexed prefix) < length ks
+  pub all : length ks ≤ length (indexed (prefix ++ last ∷ []))
+  pub is : ks ≡ take (length ks) (indexed (prefix ++ last ∷ []))
+  pub bytes : flat_map constant_bytes ks ≡ flat_map constant_bytes (prefix ++ last ∷ [])
 
 filled_next : (k : Constant) (ks : List Constant) → IsWhole k → takes_two k ≡ false → Filled ks → Filled (k ∷ ks)
 filled_next k ks good narrow f =
-    let one = indexed_narrow k f.front narrow in
-    let other = indexed_narrow k (f.front ++ f.last ∷ []) narrow in
+    let one = indexed_narrow k f.prefix narrow in
+    let other = indexed_narrow k (f.prefix ++ f.last ∷ []) narrow in
     record {
-      front = k ∷ f.front;
+      prefix = k ∷ f.prefix;
       last = f.last;
       whole = (good, f.whole);
       below = omega (arith, f.below, ap length one);
@@ -178,10 +178,10 @@ filled_next k ks good narrow f =
 
 filled_wide : (k : Constant) (ks : List Constant) → IsWhole k → takes_two k ≡ true → Filled ks → Filled (k ∷ (Hole ∷ ks))
 filled_wide k ks good wide f =
-    let one = indexed_wide k f.front wide in
-    let other = indexed_wide k (f.front ++ f.last ∷ []) wide in
+    let one = indexed_wide k f.prefix wide in
+    let other = indexed_wide k (f.prefix ++ f.last ∷ []) wide in
     record {
-      front = k ∷ f.front;
+      prefix = k ∷ f.prefix;
       last = f.last;
       whole = (good, f.whole);
       below = omega (arith, f.below, ap length one);
@@ -193,7 +193,7 @@ filled_wide k ks good wide f =
 filled_one : (k : Constant) → IsWhole k → Filled (k ∷ [])
 unfolding indexed
 filled_one k good = record {
-  front = [];
+  prefix = [];
   last = k;
   whole = (good, tt);
   below = omega arith;
@@ -205,7 +205,7 @@ filled_one k good = record {
 filled_two : (k : Constant) → IsWhole k → takes_two k ≡ true → Filled (k ∷ (Hole ∷ []))
 unfolding indexed
 filled_two k good wide = record {
-  front = [];
+  prefix = [];
   last = k;
   whole = (good, tt);
   below = omega arith;
@@ -253,9 +253,9 @@ take_none zero = refl
 take_none (suc n) = refl
 
 -- their bytes, as soon as the last constant begins within them
-pub prefix_bytes : (front : List Constant) (last : Constant) (n : ℕ) → length (indexed front) < n → flat_map constant_bytes (take n (indexed (front ++ last ∷ []))) ≡ flat_map constant_bytes (front ++ last ∷ [])
+pub prefix_bytes : (prefix : List Constant) (last : Constant) (n : ℕ) → length (indexed prefix) < n → flat_map constant_bytes (take n (indexed (prefix ++ last ∷ []))) ≡ flat_map constant_bytes (prefix ++ last ∷ [])
 unfolding indexed
-prefix_bytes front last zero lt = absurd (omega (arith, lt))
+prefix_bytes prefix last zero lt = absurd (omega (arith, lt))
 prefix_bytes [] last (suc zero) lt =
     by_width (takes_two last)
     (λ wide. ap (λ (t : List Constant). flat_map constant_bytes (take 1 t)) (indexed_wide last [] wide))
@@ -264,12 +264,12 @@ prefix_bytes [] last (suc (suc n)) lt =
     by_width (takes_two last)
     (λ wide. ap (λ (t : List Constant). flat_map constant_bytes (take (suc (suc n)) t)) (indexed_wide last [] wide) ∙ ap (λ (t : List Constant). constant_bytes last ++ flat_map constant_bytes t) (take_none n))
     (λ narrow. ap (λ (t : List Constant). flat_map constant_bytes (take (suc (suc n)) t)) (indexed_narrow last [] narrow))
-prefix_bytes (k ∷ front) last (suc zero) lt = absurd (omega (arith, lt, indexed_len k front))
-prefix_bytes (k ∷ front) last (suc (suc n)) lt =
+prefix_bytes (k ∷ prefix) last (suc zero) lt = absurd (omega (arith, lt, indexed_len k prefix))
+prefix_bytes (k ∷ prefix) last (suc (suc n)) lt =
     by_width (takes_two k)
     (λ wide.
-    ap (λ (t : List Constant). flat_map constant_bytes (take (suc (suc n)) t)) (indexed_wide k (front ++ last ∷ []) wide)
-    ∙ ap (λ (t : List ℕ). constant_bytes k ++ t) (prefix_bytes front last n (omega (arith, lt, ap length (indexed_wide k front wide)))))
+    ap (λ (t : List Constant). flat_map constant_bytes (take (suc (suc n)) t)) (indexed_wide k (prefix ++ last ∷ []) wide)
+    ∙ ap (λ (t : List ℕ). constant_bytes k ++ t) (prefix_bytes prefix last n (omega (arith, lt, ap length (indexed_wide k prefix wide)))))
     (λ narrow.
-    ap (λ (t : List Constant). flat_map constant_bytes (take (suc (suc n)) t)) (indexed_narrow k (front ++ last ∷ []) narrow)
-    ∙ ap (λ (t : List ℕ). constant_bytes k ++ t) (prefix_bytes front last (suc n) (omega (arith, lt, ap length (indexed_narrow k front narrow)))))
+    ap (λ (t : List Constant). flat_map constant_bytes (take (suc (suc n)) t)) (indexed_narrow k (prefix ++ last ∷ []) narrow)
+    ∙ ap (λ (t : List ℕ). constant_bytes k ++ t) (prefix_bytes prefix last (suc n) (omega (arith, lt, ap length (indexed_narrow k prefix narrow)))))

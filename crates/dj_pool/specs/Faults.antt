@@ -57,7 +57,7 @@ pub record IsNoText (index : ℕ) (c : Cursor) (e : PoolError) : Type 0 where
   pub parts : c.rest ≡ constant_bytes (Utf8 text) ++ rest
   pub short : length text < 2 ^ 16
   pub wrong : IsModifiedUtf8 text → ⊥
-  pub told : e ≡ pool_errors.Text index
+  pub reported : e ≡ pool_errors.Text index
 
 -- the constant that begins here, and is to have this index, is faulty
 abbrev pub ConstantFault : ℕ → Cursor → PoolError → Type 0
@@ -70,12 +70,12 @@ ConstantFault index c e =
 
 -- constants begin here, and the next, whose index is below the count, is faulty
 pub record IsAmongConstants (count : ℕ) (c : Cursor) (e : PoolError) : Type 0 where
-  pub front : List Constant
+  pub prefix : List Constant
   pub rest : List ℕ
-  pub parts : c.rest ≡ flat_map constant_bytes front ++ rest
-  pub whole : AllByRecursion IsWhole front
-  pub below : length (indexed front) + 1 < count
-  pub fault : ConstantFault (length (indexed front) + 1) (after c (flat_map constant_bytes front) rest) e
+  pub parts : c.rest ≡ flat_map constant_bytes prefix ++ rest
+  pub whole : AllByRecursion IsWhole prefix
+  pub below : length (indexed prefix) + 1 < count
+  pub fault : ConstantFault (length (indexed prefix) + 1) (after c (flat_map constant_bytes prefix) rest) e
 
 -- an index of the constant doesn't name what its place requires, or the constant takes two indexes, and the second is not below the count
 abbrev pub IsMislinked : ℕ → List Constant → ℕ → Constant → Type 0
@@ -83,21 +83,21 @@ IsMislinked count pool index k = (IsLinked pool k → ⊥) ⊎ ((takes_two k ≡
 
 -- all constants are there, and this is the lowest index of a constant that is wrongly linked
 pub record IsUnlinked (count : ℕ) (c : Cursor) (e : PoolError) : Type 0 where
-  pub front : List Constant
+  pub prefix : List Constant
   pub last : Constant
   pub rest : List ℕ
-  pub parts : c.rest ≡ flat_map constant_bytes (front ++ last ∷ []) ++ rest
-  pub whole : AllByRecursion IsWhole (front ++ last ∷ [])
-  pub below : length (indexed front) + 1 < count
-  pub all : count ≤ length (indexed (front ++ last ∷ [])) + 1
+  pub parts : c.rest ≡ flat_map constant_bytes (prefix ++ last ∷ []) ++ rest
+  pub whole : AllByRecursion IsWhole (prefix ++ last ∷ [])
+  pub below : length (indexed prefix) + 1 < count
+  pub all : count ≤ length (indexed (prefix ++ last ∷ [])) + 1
   pub pool : List Constant
-  pub pool_is : pool ≡ take (count - 1) (indexed (front ++ last ∷ []))
+  pub pool_is : pool ≡ take (count - 1) (indexed (prefix ++ last ∷ []))
   pub index : ℕ
   pub constant : Constant
   pub at : constant_at pool index ≡ Some constant
   pub wrong : IsMislinked count pool index constant
   pub lowest : (i : ℕ) (k : Constant) → i < index → constant_at pool i ≡ Some k → IsMislinked count pool i k → ⊥
-  pub told : e ≡ pool_errors.Link index
+  pub reported : e ≡ pool_errors.Link index
 
 -- ---- the pool
 

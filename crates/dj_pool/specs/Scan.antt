@@ -2,7 +2,7 @@
 use Rattle.std.specs.Prelude.{ℕ, Bool, not, ◌||◌, nat_eq, nat_lt, List, bytes_eq, codes}
 use Rattle.std.specs.List.{list_any}
 use Rattle.dj_names.specs.trusted.NameReading.{is_stop}
-use Rattle.dj_pool.specs.declared.scan.Marks.{Marks}
+use Rattle.dj_pool.specs.declared.scan.ByteMarks.{ByteMarks}
 
 -- .  ;  [
 abbrev pub is_stop_byte : ℕ → Bool
@@ -23,7 +23,7 @@ is_special text = bytes_eq text (codes "<init>") || bytes_eq text (codes "<clini
 abbrev pub has_method_angles : List ℕ → Bool
 has_method_angles text = not (list_any is_angle text) || is_special text
 
-abbrev pub marks_of : List ℕ → Marks
+abbrev pub marks_of : List ℕ → ByteMarks
 marks_of text = record {
   stop = list_any is_stop_byte text;
   slash = list_any (λ b. nat_eq b 47) text;

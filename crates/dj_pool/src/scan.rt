@@ -6,7 +6,7 @@ use dj_names::{is_class_name, is_modified_utf8};
 
 /// Which bytes a text has somewhere.
 #[derive(Clone, Copy)]
-pub struct Marks {
+pub struct ByteMarks {
     /// One of `.`, `;` and `[`.
     pub stop: bool,
     pub slash: bool,
@@ -34,7 +34,7 @@ fn is_plain(byte: u8) -> bool
 }
 
 // One pass.
-fn marks_of(text: &[u8]) -> Marks
+fn marks_of(text: &[u8]) -> ByteMarks
     ensures { result ≡ marks_of text.now }
 {
     let mut stop = false;
@@ -47,7 +47,7 @@ fn marks_of(text: &[u8]) -> Marks
             angle = angle | is_angle(*byte);
         }
     }
-    Marks { stop, slash, angle }
+    ByteMarks { stop, slash, angle }
 }
 
 /// Which names a text is.
@@ -65,7 +65,7 @@ fn is_special(text: &[u8]) -> bool
 }
 
 // Whether the text, which has these bytes, is an unqualified name.
-fn is_unqualified(text: &[u8], marks: Marks) -> bool
+fn is_unqualified(text: &[u8], marks: ByteMarks) -> bool
     requires { marks ≡ marks_of text.now }
     ensures { result ≡ unqualified_name_test text.now }
 {
@@ -79,7 +79,7 @@ fn is_unqualified(text: &[u8], marks: Marks) -> bool
 }
 
 // Whether the text, which has these bytes, is a class name: it is looked at once more only where it has slashes.
-fn is_class(text: &[u8], marks: Marks) -> bool
+fn is_class(text: &[u8], marks: ByteMarks) -> bool
     requires { marks ≡ marks_of text.now }
     ensures { result ≡ class_name_test text.now }
 {
@@ -93,7 +93,7 @@ fn is_class(text: &[u8], marks: Marks) -> bool
 }
 
 // Whether an unqualified name, which has these bytes, may be a method's.
-fn has_method_angles(text: &[u8], marks: Marks) -> bool
+fn has_method_angles(text: &[u8], marks: ByteMarks) -> bool
     requires { marks ≡ marks_of text.now }
     ensures { result ≡ has_method_angles text.now }
 {

@@ -112,8 +112,8 @@ bodiless = (inl (refl, refl), inl (refl, refl))
 -- a static method has code, and a native one has none
 bodies_not : (IsBodyIn pool (with_flags 9) Abstract → ⊥) × (IsBodyIn pool (with_flags 257) (Runs code_there) → ⊥)
 bodies_not = (
-  λ is. elim is [ inl (t, e) ↦ absurd cc | inr (f, code, tells, e) ↦ absurd cc ],
-  λ is. elim is [ inl (t, e) ↦ absurd cc | inr (f, code, tells, e) ↦ absurd cc ],
+  λ is. elim is [ inl (t, e) ↦ absurd cc | inr (f, code, says, e) ↦ absurd cc ],
+  λ is. elim is [ inl (t, e) ↦ absurd cc | inr (f, code, says, e) ↦ absurd cc ],
 )
 
 -- without a stack map the frames are an empty list, and they are not none

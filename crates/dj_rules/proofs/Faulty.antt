@@ -47,10 +47,10 @@ only_none (file ∷ other ∷ files) not_one = tt
 
 -- ---- what a test says
 
-pub told_true : (b : Bool) (P Q : Type 0) → b ≡ true → MatchBool b P Q → P
-told_true true P Q e h = h
-told_true false P Q e h = absurd cc
+pub reported_true : (b : Bool) (P Q : Type 0) → b ≡ true → MatchBool b P Q → P
+reported_true true P Q e h = h
+reported_true false P Q e h = absurd cc
 
-pub told_false : (b : Bool) (P Q : Type 0) → b ≡ false → MatchBool b P Q → Q
-told_false true P Q e h = absurd cc
-told_false false P Q e h = h
+pub reported_false : (b : Bool) (P Q : Type 0) → b ≡ false → MatchBool b P Q → Q
+reported_false true P Q e h = absurd cc
+reported_false false P Q e h = h

@@ -9,15 +9,15 @@ use Rattle.std.proofs.lemmas.Slice.Eq.{slice_eq-Decides}
 use Rattle.dj_names.specs.trusted.ModifiedUtf8.{unit_text, units_text, SpellsUnits}
 use Rattle.dj_names.specs.ModifiedUtf8.{BeginsNoUnit, BreaksAt}
 use Rattle.dj_names.specs.trusted.UnitReading.{unit_read}
-use Rattle.dj_names.proofs.UnitLaws.{unit_again, one_front, spelled_once}
+use Rattle.dj_names.proofs.UnitLaws.{unit_again, one_prefix, spelled_once}
 use Rattle.dj_rules.specs.trusted.Violations.{path_units, IsNamedAs}
 
 -- all ends in the suffix, and what stands before is compared
-pub cut_is : (all front units suffix : List ℕ) (r : Bool) → all ≡ front ++ suffix → r ≡ pointwise eqb front units → IsTrue r ↔ (all ≡ units ++ suffix)
-cut_is all front units suffix r parts e =
-    let same = slice_eq-Decides Decides-eqb front units r e in (
+pub cut_is : (all prefix units suffix : List ℕ) (r : Bool) → all ≡ prefix ++ suffix → r ≡ pointwise eqb prefix units → IsTrue r ↔ (all ≡ units ++ suffix)
+cut_is all prefix units suffix r parts e =
+    let same = slice_eq-Decides Decides-eqb prefix units r e in (
       λ t. parts ∙ ap (λ (xs : List ℕ). xs ++ suffix) (same.0 t),
-      λ is. same.1 (append_cancel_right front units suffix (sym parts ∙ is)),
+      λ is. same.1 (append_cancel_right prefix units suffix (sym parts ∙ is)),
     )
 
 no_some : {A : Type 0} (x : A) → None ≡ Some x → ⊥
@@ -31,21 +31,21 @@ abbrev Fit : List ℕ → Type 0
 Fit units = AllByRecursion (λ u. u < 2 ^ 16) units
 
 -- units that are spelled past a prefix end in nothing or begin with a unit
-past_front : (front units rest : List ℕ) → Fit front → Fit units → units_text units ≡ units_text front ++ rest → rest ≢ [] → BeginsNoUnit rest → ⊥
-past_front [] [] rest f g e left broken = left (sym e)
-past_front [] (u ∷ us) rest f g e left broken = broken u (units_text us) g.0 (sym e ∙ flat_map-cons unit_text u us)
-past_front (v ∷ vs) [] rest f g e left broken =
+past_prefix : (prefix units rest : List ℕ) → Fit prefix → Fit units → units_text units ≡ units_text prefix ++ rest → rest ≢ [] → BeginsNoUnit rest → ⊥
+past_prefix [] [] rest f g e left broken = left (sym e)
+past_prefix [] (u ∷ us) rest f g e left broken = broken u (units_text us) g.0 (sym e ∙ flat_map-cons unit_text u us)
+past_prefix (v ∷ vs) [] rest f g e left broken =
     some_text v (units_text vs ++ rest) f.0 (e ∙ ap (λ (xs : List ℕ). xs ++ rest) (flat_map-cons unit_text v vs) ∙ append_assoc (unit_text v) (units_text vs) rest)
-past_front (v ∷ vs) (u ∷ us) rest f g e left broken =
+past_prefix (v ∷ vs) (u ∷ us) rest f g e left broken =
     let heads : unit_text u ++ units_text us ≡ unit_text v ++ (units_text vs ++ rest) =
     sym (flat_map-cons unit_text u us) ∙ e ∙ ap (λ (xs : List ℕ). xs ++ rest) (flat_map-cons unit_text v vs) ∙ append_assoc (unit_text v) (units_text vs) rest in
-    past_front vs us rest f.1 g.1 (one_front u v (units_text us) (units_text vs ++ rest) g.0 f.0 heads).1 left broken
+    past_prefix vs us rest f.1 g.1 (one_prefix u v (units_text us) (units_text vs ++ rest) g.0 f.0 heads).1 left broken
 
 -- a text that breaks spells nothing
 pub broken_spells_none : (text : List ℕ) (place : ℕ) (units : List ℕ) → BreaksAt text place → SpellsUnits text units → ⊥
 broken_spells_none text place units b s =
-    past_front b.units units b.rest b.front_is.units_fit s.units_fit
-    (sym s.text_is ∙ b.parts ∙ ap (λ (xs : List ℕ). xs ++ b.rest) b.front_is.text_is) b.left b.broken
+    past_prefix b.units units b.rest b.prefix_is.units_fit s.units_fit
+    (sym s.text_is ∙ b.parts ∙ ap (λ (xs : List ℕ). xs ++ b.rest) b.prefix_is.text_is) b.left b.broken
 
 -- no path has the name of a text that breaks
 pub broken_names_none : (path name : List ℕ) (place : ℕ) → BreaksAt name place → IsTrue false ↔ IsNamedAs path name

@@ -25,7 +25,7 @@ fn is_class_of(all: &[u16], units: &[u16]) -> bool
     ensures { IsTrue result ↔ (all.now ≡ units.now ++ codes ".class") }
 {
     match all.strip_suffix(&SUFFIX) {
-        Some(front) => front == units,
+        Some(prefix) => prefix == units,
         None => false,
     }
 }

@@ -4,7 +4,7 @@ use dj_names::{Kind, Name, Outcome, Thresholds, Value};
 use dj_report::PathFile;
 use dj_rules::{RulesError, judge_files};
 use dj_straight::{
-    Action, Ending, IntOperation, StraightMethod, StraightSet, read_instrs, run_method,
+    Action, IntOperation, StraightEnding, StraightMethod, StraightSet, read_instrs, run_method,
     shape_fault, straight_set,
 };
 use std::alloc::Global;
@@ -78,7 +78,7 @@ const LESS: [Action; 13] = [
 ];
 
 // Its run on the byte -5, where it has shape.
-fn run_of_less(alloc: Global) -> Result<Option<Ending>, RulesError> {
+fn run_of_less(alloc: Global) -> Result<Option<StraightEnding>, RulesError> {
     let method = StraightMethod {
         flags: 9,
         name: Name::from_slice(alloc, b"verify")?,
@@ -98,7 +98,7 @@ fn run_of_less(alloc: Global) -> Result<Option<Ending>, RulesError> {
     }
 }
 
-fn is_minus_two(ending: &Ending) -> bool {
+fn is_minus_two(ending: &StraightEnding) -> bool {
     match &ending.outcome {
         Outcome::OkBytes(bytes) => {
             bytes.as_slice() == [254].as_slice() && ending.costs.alloc == 24

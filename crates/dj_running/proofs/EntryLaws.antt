@@ -24,7 +24,7 @@ use Rattle.dj_types.proofs.Numbers.{place_within}
 use Rattle.dj_image.specs.Imaged.{Imaged, program_of, typed_of}
 use Rattle.dj_activations.specs.Activations.{declared_or_none, declared_at}
 use Rattle.dj_invoking.specs.Choosing.{IsMethodOrNone}
-use Rattle.dj_invoking.proofs.Found.{resolved_own, told_method}
+use Rattle.dj_invoking.proofs.Found.{resolved_own, reported_method}
 use Rattle.dj_sandbox.specs.trusted.RawRules.{entry_desc, entry_of}
 use Rattle.dj_sandbox.proofs.RawLaws.{entry_desc_is}
 use Rattle.dj_running.specs.Loading.{IsEntryAt}
@@ -129,17 +129,17 @@ module _ (imaged : Imaged) (class : Name) (is : IsEntry (program_of imaged) (ent
   IsEntryOrNone None = ⊥
   IsEntryOrNone (Some id) = IsEntryAt imaged class id.number
 
-  told : (id : Option MethodId) → IsMethodOrNone (program_of imaged) id (Some (record { class = class; method = is.method })) → IsEntryOrNone id
+  reported : (id : Option MethodId) → IsMethodOrNone (program_of imaged) id (Some (record { class = class; method = is.method })) → IsEntryOrNone id
   unfolding declared_at
-  told None method = absurd method
-  told (Some id) method = record {
+  reported None method = absurd method
+  reported (Some id) method = record {
     there = slice_get_within (all_methods (program_of imaged)) id.number (record { class = class; method = is.method }) method;
     named = ap declared_or_none method ∙ declared_is (program_of imaged) imaged.prefix class is.method is.there;
   }
 
   -- and so is the method of its name and its descriptor
-  pub entry_told : (k : ℕ) (id : Option MethodId) → text_number (typed_of imaged) class ≡ Some k
+  pub entry_reported : (k : ℕ) (id : Option MethodId) → text_number (typed_of imaged) class ≡ Some k
       → option_map number_of_method id ≡ found_method_number (program_of imaged) (resolved_method (typed_of imaged) k (codes "verify") (codes "([B)[B")) → IsEntryOrNone id
-  entry_told k id e numbered = told id (told_method (program_of imaged) id (Some (record { class = class; method = is.method }))
+  entry_reported k id e numbered = reported id (reported_method (program_of imaged) id (Some (record { class = class; method = is.method }))
       (λ f same. resolved_own (program_of imaged) imaged.prefix (entry_member (type_at (typed_of imaged) k) (desc_in (codes "([B)[B"))) f (resolves k e ∙ same))
       (numbered ∙ ap (found_method_number (program_of imaged)) (resolves k e)))

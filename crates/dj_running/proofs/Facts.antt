@@ -15,10 +15,10 @@ no_run files class input steps answers silent violated = violated silent
 
 a_run : (files : List File) (class input : List ℕ) (steps : ℕ) (answers : List HostAnswer) (run : Costs × ℕ) → (AreRawViolations files class [] → ⊥)
     → AreRawRuns files class input steps answers (run ∷ []) → ⊥
-a_run files class input steps answers run violated told = violated told.0
+a_run files class input steps answers run violated reported = violated reported.0
 
 two_runs : (files : List File) (class input : List ℕ) (steps : ℕ) (answers : List HostAnswer) (a b : Costs × ℕ) → AreRawRuns files class input steps answers (a ∷ b ∷ []) → ⊥
-two_runs files class input steps answers a b told = told
+two_runs files class input steps answers a b reported = reported
 
 stopped : map is_stopped (outcomes.Stopped charges.Jump ∷ outcomes.OkNull ∷ outcomes.Link ∷ outcomes.TooDeep ∷ outcomes.OutOfSteps 5 ∷ outcomes.HeapFull 16 67108880 ∷ [])
     ≡ true ∷ false ∷ false ∷ false ∷ false ∷ false ∷ []

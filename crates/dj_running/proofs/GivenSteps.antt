@@ -208,12 +208,12 @@ module _ (given : List HostAnswer) (program : Program) (prefix : Prefix) (terms 
 record IsReply (question : Question) : Type 0 where
   reply : HostAnswer
   number : ℤ
-  told : answered question reply ≡ Some number
+  reported : answered question reply ≡ Some number
 
 reply_to : (question : Question) → IsReply question
-reply_to Word = record { reply = host.Word (pos 0); number = pos 0; told = refl }
-reply_to Nanos = record { reply = host.Nanos (pos 0); number = pos 0; told = refl }
-reply_to Millis = record { reply = host.Millis (pos 0); number = pos 0; told = refl }
+reply_to Word = record { reply = host.Word (pos 0); number = pos 0; reported = refl }
+reply_to Nanos = record { reply = host.Nanos (pos 0); number = pos 0; reported = refl }
+reply_to Millis = record { reply = host.Millis (pos 0); number = pos 0; reported = refl }
 
 -- the step is there where this answer is given, and takes it alone
 pub record IsAsking (program : Program) (prefix : Prefix) (terms : Terms) (s : State) : Type 0 where
@@ -228,7 +228,7 @@ module _ (program : Program) (prefix : Prefix) (terms : Terms) (s : State) where
   unfolding native
   replied given p id args question asked reply =
       ap (native_asked program prefix terms (part_given (reply.reply ∷ given) p) id args) asked
-      ∙ ap (with_answer program prefix terms (part_given given p) id args) reply.told
+      ∙ ap (with_answer program prefix terms (part_given given p) id args) reply.reported
       ∙ ap Some (perform_alike given prefix terms p (host_answer id (seen program prefix p.heap) reply.number args))
 
   unanswered_is : (p : Part) (id : NativeId) (args : List Value) (question : Question) (answers : List HostAnswer) → IsUnanswered question answers

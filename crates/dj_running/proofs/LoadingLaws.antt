@@ -213,7 +213,7 @@ pub refused_memory : (rows : List LibClass) (views : List ClassView) (e : LoadEr
     → RefusesLoad (all_classes (library_view rows) (map class_of views)) e → e ≡ errors.Memory
 refused_memory rows views e is loadable refused = by e (subst (λ (l : Library). RefusesLoad (all_classes l (map class_of views)) e) is refused) where
   by : (e : LoadError) → RefusesLoad (all_classes raw_library (map class_of views)) e → e ≡ errors.Memory
-  by (errors.Duplicate name) told = absurd (loadable.differ name told.shared)
-  by (errors.NoSuper name) told = absurd (loadable.whole name told.1.such)
-  by (errors.Cycle name) told = absurd (loadable.acyclic name told.2.such)
-  by errors.Memory told = refl
+  by (errors.Duplicate name) reported = absurd (loadable.differ name reported.shared)
+  by (errors.NoSuper name) reported = absurd (loadable.whole name reported.1.such)
+  by (errors.Cycle name) reported = absurd (loadable.acyclic name reported.2.such)
+  by errors.Memory reported = refl

@@ -34,7 +34,7 @@ use Rattle.dj_sound.proofs.RawAccepted.{are_raw_accepted}
 use Rattle.dj_running.specs.Loading.{IsImageOf}
 use Rattle.dj_running.proofs.Unstopped.{never_stopped}
 use Rattle.dj_running.specs.trusted.Runs.{AreRawRuns}
-use Rattle.dj_running.specs.Runs.{no_limits, run_of, is_stopped, TellsEnding, AddsRawRuns}
+use Rattle.dj_running.specs.Runs.{no_limits, run_of, is_stopped, SaysEnding, AddsRawRuns}
 
 -- ---- the image
 
@@ -70,20 +70,20 @@ module _ (files : List File) (class : Name) (imaged : Imaged) (is : IsImageOf fi
     -- no charge stops it
     pub runs_unstopped : (ending : Ending) → RunsPlainly imaged (entry_of class) input no_limits most_heap_bytes steps gave ending → is_stopped ending.outcome ≡ false
     runs_unstopped ending runs =
-        subst (λ (told : Option model_runs.Report). IfSome told (λ run. is_stopped run.outcome ≡ false)) (plainly ending runs)
+        subst (λ (reported : Option model_runs.Report). IfSome reported (λ run. is_stopped run.outcome ≡ false)) (plainly ending runs)
         (never_stopped (program_of imaged) [] (Some most_heap_bytes) (entry_of class) input gave steps)
 
-    pub runs_raw : (ending : Ending) (report : Report) → RunsPlainly imaged (entry_of class) input no_limits most_heap_bytes steps gave ending → TellsEnding ending report
+    pub runs_raw : (ending : Ending) (report : Report) → RunsPlainly imaged (entry_of class) input no_limits most_heap_bytes steps gave ending → SaysEnding ending report
         → RunsRaw files class input steps gave (Some report)
-    runs_raw ending report runs told = (is.0, program_of imaged, report_for ending (length gave), is.1, is.2, plainly ending runs, refl, told)
+    runs_raw ending report runs reported = (is.0, program_of imaged, report_for ending (length gave), is.1, is.2, plainly ending runs, refl, reported)
 
     raw_run : (ending : Ending) → RunsPlainly imaged (entry_of class) input no_limits most_heap_bytes steps gave ending → AreRawRuns files class input steps gave (run_of ending ∷ [])
     raw_run ending runs = (silent, (is.0, program_of imaged, report_for ending (length gave), is.1, is.2, plainly ending runs, refl, refl))
 
     -- it is recorded after those before
-    pub adds_told : (old new : List (Costs × ℕ)) (ending : Ending) → RunsPlainly imaged (entry_of class) input no_limits most_heap_bytes steps gave ending
+    pub adds_reported : (old new : List (Costs × ℕ)) (ending : Ending) → RunsPlainly imaged (entry_of class) input no_limits most_heap_bytes steps gave ending
         → new ≡ old ++ run_of ending ∷ [] → (added : List (Costs × ℕ)) × AreRawRuns files class input steps gave added × (new ≡ old ++ added)
-    adds_told old new ending runs adds = (run_of ending ∷ [], raw_run ending runs, adds)
+    adds_reported old new ending runs adds = (run_of ending ∷ [], raw_run ending runs, adds)
 
 -- ---- its status
 

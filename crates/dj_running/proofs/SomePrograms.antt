@@ -21,7 +21,7 @@ use Rattle.dj_declared.specs.trusted.Files.{is_bodiless, declared_method, declar
 use Rattle.dj_program.specs.trusted.Codes.{CodeParts, code_in, IsMethodCode}
 use Rattle.dj_program.specs.trusted.Programs.{AreSideBySide, IsBodyIn, IsMethodIn, field_in_file, IsClassIn, IsProgramIn}
 use Rattle.dj_loader.proofs.Lists.{member_first, member_later, member_none}
-use Rattle.dj_loader.proofs.Coded.{bodiless_told}
+use Rattle.dj_loader.proofs.Coded.{bodiless_reported}
 use Rattle.dj_sandbox.specs.trusted.Checked.{AreGoodFiles}
 use Rattle.dj_sandbox.specs.trusted.RawRules.{AreRawViolations}
 use Rattle.dj_sandbox.proofs.Classical.{NotNot, unit, bind, so, decide}
@@ -31,11 +31,11 @@ use Rattle.dj_sandbox.proofs.Classical.{NotNot, unit, bind, so, decide}
 -- the labels of code and the frames of its stack map
 some_parts : (pool : List Constant) (m : MemberInfo) (info : CodeInfo) (body : List ℕ) → Contains (codes_of pool m) body → IsCode body info → (labelled : Labelled)
     → IsLabelled info.code info.table labelled → NotNot ((parts : CodeParts) × IsMethodCode pool m parts)
-some_parts pool m info body own is labelled labels = so (frames (maps_of pool info)) (λ (told, has). (
-  record { max_stack = info.max_stack; max_locals = info.max_locals; labelled = labelled; frames = told },
+some_parts pool m info body own is labelled labels = so (frames (maps_of pool info)) (λ (reported, has). (
+  record { max_stack = info.max_stack; max_locals = info.max_locals; labelled = labelled; frames = reported },
   record { info = info; own = record { body = body; own = own; is = is }; stack = refl; locals = refl; labels = labels; frames = has },
 )) where
-  frames : (bodies : List (List ℕ)) → NotNot ((told : Option (List Frame)) × HasFrames info.code bodies told)
+  frames : (bodies : List (List ℕ)) → NotNot ((reported : Option (List Frame)) × HasFrames info.code bodies reported)
   frames [] = unit (Some [], refl)
   frames (map ∷ maps) = so (decide ((all : List Frame) × IsStackMap map labels.starts all)) (elim [
     | inl (all, stands) ↦ (Some all, record { starts = labels.starts; instrs = _; cut = labels.cut; are = stands })
@@ -60,7 +60,7 @@ some_body : (pool : List Constant) (m : MemberInfo) → (IsFaultyMethod pool m �
 some_body pool m sound = by (is_bodiless m.flags) refl (codes_of pool m) refl where
   by : (b : Bool) → is_bodiless m.flags ≡ b → (bodies : List (List ℕ)) → codes_of pool m ≡ bodies → NotNot ((body : Body) × IsBodyIn pool m body)
   by true bodiless bodies e = unit (Abstract, inl (bodiless, refl))
-  by false has [] e = (let no : is_bodiless m.flags ≡ true = bodiless_told pool m sound e in absurd cc)
+  by false has [] e = (let no : is_bodiless m.flags ≡ true = bodiless_reported pool m sound e in absurd cc)
   by false has (body ∷ bodies) e = so (some_code pool m sound body (subst (λ (xs : List (List ℕ)). Contains xs body) (sym e) (member_first body bodies)))
       (λ (parts, is). (Runs (code_in pool parts), inr (has, parts, is, refl)))
 

@@ -105,7 +105,7 @@ module _ (program : Program) (prefix : Prefix) (is : IsSound program prefix) (te
 
   -- it is reported, and all of the answers are taken
   abbrev Reported : List HostAnswer → ℕ → Ran → Type 0
-  Reported answers most r = (told : Report) × (report_of answers most r ≡ Some told) × (told.taken ≡ length answers)
+  Reported answers most r = (said : Report) × (report_of answers most r ≡ Some said) × (said.taken ≡ length answers)
 
   all_taken : (answers left : List HostAnswer) → left ≡ [] → length answers - length left ≡ length answers
   all_taken answers left none = let e : length left ≡ 0 = ap length none in omega (arith, e)
@@ -121,13 +121,13 @@ module _ (program : Program) (prefix : Prefix) (is : IsSound program prefix) (te
   begun_takes most (Went t) stands = steps_take most t stands
 
   pub run_takes : (entry : Declared) (input : List ℕ) (most : ℕ) → IsEntry program entry
-      → (answers : List HostAnswer) × (told : Report) × (plain_run program prefix terms entry input answers most ≡ Some told) × (told.taken ≡ length answers)
+      → (answers : List HostAnswer) × (said : Report) × (plain_run program prefix terms entry input answers most ≡ Some said) × (said.taken ≡ length answers)
   unfolding plain_run
   run_takes entry input most e =
       let start = begun_takes most (begin program prefix terms entry input []) (begin_stands program prefix is terms entry input [] e) in
-      let told = reported start.0 most (from_start (steps program prefix terms most) (answer_given start.0 (begin program prefix terms entry input []))) start.1 in (
+      let said = reported start.0 most (from_start (steps program prefix terms most) (answer_given start.0 (begin program prefix terms entry input []))) start.1 in (
         start.0,
-        told.0,
-        ap (λ (a : Answer). report_of start.0 most (from_start (steps program prefix terms most) a)) (begin_alike start.0 entry input) ∙ told.1,
-        told.2,
+        said.0,
+        ap (λ (a : Answer). report_of start.0 most (from_start (steps program prefix terms most) a)) (begin_alike start.0 entry input) ∙ said.1,
+        said.2,
       )

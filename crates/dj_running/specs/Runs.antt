@@ -33,5 +33,5 @@ is_stopped (outcomes.Stopped charge) = true
 is_stopped _ = false
 
 -- the report says how the run ended
-abbrev pub TellsEnding : Ending → Report → Type 0
-TellsEnding ending report = report ≡ reports.Raw ending.outcome ending.steps
+abbrev pub SaysEnding : Ending → Report → Type 0
+SaysEnding ending report = report ≡ reports.Raw ending.outcome ending.steps

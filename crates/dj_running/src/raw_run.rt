@@ -11,7 +11,7 @@ ghost use Rattle.dj_sandbox.specs.trusted.Limits.{most_heap_bytes};
 ghost use Rattle.dj_sandbox.specs.trusted.RawRules.{entry_of};
 ghost use Rattle.dj_sandbox.specs.trusted.Statuses.{IsAmong};
 ghost use Rattle.dj_sandbox.specs.Statuses.{raw_statuses};
-ghost use Rattle.dj_running.specs.Runs.{no_limits, is_stopped, TellsEnding};
+ghost use Rattle.dj_running.specs.Runs.{no_limits, is_stopped, SaysEnding};
 
 use crate::entry::entry_in;
 use dj_edge::Host;
@@ -63,7 +63,7 @@ pub fn run_image<H: Host, E: Engine>(
 /// The report on a run that no charge stopped.
 pub fn report_of(ending: Ending) -> Report
     requires { is_stopped ending.outcome ≡ false }
-    ensures told { TellsEnding ending result }
+    ensures reported { SaysEnding ending result }
     ensures status { IsAmong (report_status result) raw_statuses }
 {
     let Ending { outcome, steps, .. } = ending;

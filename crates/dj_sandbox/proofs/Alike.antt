@@ -15,7 +15,7 @@ use Rattle.dj_model.specs.trusted.Libraries.{library_class}
 use Rattle.dj_declared.specs.trusted.Files.{declared_class}
 use Rattle.dj_classes.specs.Tables.{name_of, name_at, IsShared}
 use Rattle.dj_loader.specs.Loads.{StandsUnder, StandsBelow, IsOwnAncestor}
-use Rattle.dj_loader.proofs.Lists.{member_of_either, member_front, member_back, member_mapped, of_map}
+use Rattle.dj_loader.proofs.Lists.{member_of_either, member_prefix, member_back, member_mapped, of_map}
 use Rattle.dj_sandbox.specs.trusted.Checked.{AreGoodFiles, HoldsHierarchy}
 use Rattle.dj_sandbox.specs.Late.{IsJudging}
 use Rattle.dj_sandbox.proofs.NoDoubles.{library_classes, no_name_twice}
@@ -87,7 +87,7 @@ module _ (library : Library) (judging : IsJudging library) where
 
   under_moved : (declared : List Class) (a b : Name) → StandsUnder (declared ++ rows_of library) a b → StandsUnder (declared ++ library_classes) a b
   under_moved declared a b under = elim (member_of_either declared (rows_of library) under.class under.there) [
-    | inl front ↦ record { class = under.class; there = member_front declared library_classes under.class front; named = under.named; listed = under.listed }
+    | inl prefix ↦ record { class = under.class; there = member_prefix declared library_classes under.class prefix; named = under.named; listed = under.listed }
     | inr row ↦
         let (d, m, e) =
         of_map head_in library_classes (head_in under.class)

@@ -29,7 +29,7 @@ use Rattle.dj_classes.specs.Tables.{name_of, name_at}
 use Rattle.dj_classes.proofs.Joins.{declared_program-joined}
 use Rattle.dj_classes.proofs.Numbered.{class_number-rise, class_at-at}
 use Rattle.dj_classes.proofs.Rising.{members_joined}
-use Rattle.dj_loader.proofs.Lists.{member_front, member_of_either, member_mapped, place_of_member, of_map}
+use Rattle.dj_loader.proofs.Lists.{member_prefix, member_of_either, member_mapped, place_of_member, of_map}
 use Rattle.dj_loader.proofs.Moved.{rise_of_table, in_table}
 use Rattle.dj_sandbox.specs.trusted.Checked.{AreGoodFiles, HoldsHierarchy, IsLateLine}
 use Rattle.dj_sandbox.specs.trusted.RawRules.{entry_desc, runs_entry, LacksEntry, IsRawLine, AreRawViolations}
@@ -164,15 +164,15 @@ entry-no_library : (name : Name) → runs_entry (declared_program raw_library []
 entry-no_library name runs = let of = entry-of_file [] name runs in contains_none of.class of.among
 
 -- where the rules 1 to 6 hold, the class file of the name says whether there is an entry: its declared class is the class of the name
-class_told : (files : List File) (classes : List ClassFile) (c : ClassFile) → HoldsHierarchy files → AreGoodFiles files classes → Contains classes c
+class_reported : (files : List File) (classes : List ClassFile) (c : ClassFile) → HoldsHierarchy files → AreGoodFiles files classes → Contains classes c
     → class_at (declared_program raw_library classes) (this_name c) ≡ Some (declared_class c)
-class_told files classes c holds good m =
+class_reported files classes c holds good m =
     let all = map declared_class classes ++ map library_class raw_library in
     let program = declared_program raw_library classes in
     let joins : program ≡ joined all [] = declared_program-joined raw_library classes in
     let rise : RiseStrictly program = rise_of_table all program joins (λ name shared. none_shared raw_library (inr refl) files classes name holds good shared) in
     let own : Contains all (declared_class c) =
-    member_front (map declared_class classes) (map library_class raw_library) (declared_class c) (member_mapped declared_class classes c m) in
+    member_prefix (map declared_class classes) (map library_class raw_library) (declared_class c) (member_mapped declared_class classes c m) in
     let (k, at) = place_of_member program (declared_class c) (in_table all program joins (declared_class c) own) in
     let named : name_at program k ≡ Some (this_name c) = ap (option_map name_of) at ∙ ap Some (declared_name c) in
     class_at-at program (this_name c) k (class_number-rise program rise k (this_name c) named) ∙ at
@@ -180,18 +180,18 @@ class_told files classes c holds good m =
 entry-of_class : (files : List File) (classes : List ClassFile) (c : ClassFile) → HoldsHierarchy files → AreGoodFiles files classes → Contains classes c
     → runs_entry (declared_program raw_library classes) (this_name c) ≡ runs_static (method_in (declared_class c).methods (codes "verify") entry_desc)
 entry-of_class files classes c holds good m =
-    ap (λ (o : Option Class). runs_static (method_of o (codes "verify") entry_desc)) (class_told files classes c holds good m)
+    ap (λ (o : Option Class). runs_static (method_of o (codes "verify") entry_desc)) (class_reported files classes c holds good m)
 
 -- ---- the line
 
 module _ (files : List File) (class : Name) where
   -- where the rules 1 to 6 hold it is there exactly where the entry isn't
-  entry-told : (classes : List ClassFile) → HoldsHierarchy files → AreGoodFiles files classes → IsFalse (runs_entry (declared_program raw_library classes) class)
+  entry-reported : (classes : List ClassFile) → HoldsHierarchy files → AreGoodFiles files classes → IsFalse (runs_entry (declared_program raw_library classes) class)
       → IsRawLine files class (file_line (class ++ codes ".class") 20)
-  entry-told classes holds good lacks = inr (record { hierarchy = holds; classes = classes; good = good; lacks = lacks; line = refl })
+  entry-reported classes holds good lacks = inr (record { hierarchy = holds; classes = classes; good = good; lacks = lacks; line = refl })
 
-  entry-untold : (classes : List ClassFile) (v : Violation) → AreGoodFiles files classes → runs_entry (declared_program raw_library classes) class ≡ true → LacksEntry files class v → ⊥
-  entry-untold classes v good runs lacks =
+  entry-unreported : (classes : List ClassFile) (v : Violation) → AreGoodFiles files classes → runs_entry (declared_program raw_library classes) class ≡ true → LacksEntry files class v → ⊥
+  entry-unreported classes v good runs lacks =
       let other : IsFalse (runs_entry (declared_program raw_library classes) class) =
       subst (λ (cs : List ClassFile). IsFalse (runs_entry (declared_program raw_library cs) class)) (same_good files lacks.classes classes lacks.good good) lacks.lacks in
       absurd cc
@@ -228,7 +228,7 @@ no_files class =
       in_order = (tt, tt);
       all = λ v. (
         λ m. elim (contains_cases line [] v m) [
-          | inl e ↦ subst (IsRawLine [] class) e (entry-told [] class [] holds tt (false_from (runs_entry (declared_program raw_library []) class) (entry-no_library class)))
+          | inl e ↦ subst (IsRawLine [] class) e (entry-reported [] class [] holds tt (false_from (runs_entry (declared_program raw_library []) class) (entry-no_library class)))
           | inr none ↦ absurd (contains_none v none)
         ],
         λ any. elim any [

@@ -70,11 +70,11 @@ link-rule : (program : Program) (files : List File) (v : Violation) → IsLinkLi
 link-rule program files v line =
     let m = line.2.2 in
     let is : v.rule ≡ m.rule = ap (λ (w : Violation). w.rule) m.line in
-    let told : (m.rule ≡ 17) ⊎ (m.rule ≡ 18) = elim m.such.such [
+    let reported : (m.rule ≡ 17) ⊎ (m.rule ≡ 18) = elim m.such.such [
       | inl at ↦ first-rule _ _ m.rule at.such.1
       | inr at ↦ first-rule _ _ m.rule at.such.1
     ] in
-    elim told [ inl one ↦ inl (is ∙ one) | inr two ↦ inr (is ∙ two) ]
+    elim reported [ inl one ↦ inl (is ∙ one) | inr two ↦ inr (is ∙ two) ]
 
 shape-rule : (program : Program) (files : List File) (v : Violation) → IsShapeLine program files v → v.rule ≡ 19
 shape-rule program files v line = (let m = line.2.2 in ap (λ (w : Violation). w.rule) m.line ∙ m.such.rule_is)

@@ -127,16 +127,16 @@ links_files library files declared linked (classes, read, are) links =
     (classes, read, subst (λ (p : Program). linked ≡ record { program = p; prefix = [] }) program links)
 
 -- how those of the files are linked, by how their classes are
-pub are_links : (library : Library) (files : List File) (declared : List Class) (told : Links) → AreDeclared files declared → AreLinksOf library declared told
-    → AreLinks library files told
+pub are_links : (library : Library) (files : List File) (declared : List Class) (reported : Links) → AreDeclared files declared → AreLinksOf library declared reported
+    → AreLinks library files reported
 are_links library files declared (links.Linked linked) are is = links_files library files declared linked are is
 are_links library files declared links.NotClassFile are is = absurd is
 are_links library files declared links.SharedName are is = (declared, are, is)
 are_links library files declared links.Cycle are is = (declared, are, is)
 
 -- by how those of a table are
-pub are_links_of : (library : Library) (declared : List Class) (table : Program) (told : Links) → table ≡ joined (with_library library declared) []
-    → IsLinkOf table told → AreLinksOf library declared told
+pub are_links_of : (library : Library) (declared : List Class) (table : Program) (reported : Links) → table ≡ joined (with_library library declared) []
+    → IsLinkOf table reported → AreLinksOf library declared reported
 are_links_of library declared table (links.Linked linked) is of = subst (λ (p : Program). linked ≡ record { program = p; prefix = [] }) is of
 are_links_of library declared table links.NotClassFile is of = of
 are_links_of library declared table links.SharedName is of = absurd of
@@ -145,8 +145,8 @@ are_links_of library declared table links.Cycle is (name, own) =
     (name, ancestor_moved table all (out_of_table all table is) (in_table all table is) name own)
 
 -- what the search for cycles reports
-pub cycle_told : (table : Program) (e : LoadError) (name : Name) → RefusesCycles table e → e ≡ errors.Cycle name → HasCycle table
-cycle_told table e name told is = (name, (subst (RefusesCycles table) is told).such)
+pub cycle_reported : (table : Program) (e : LoadError) (name : Name) → RefusesCycles table e → e ≡ errors.Cycle name → HasCycle table
+cycle_reported table e name reported is = (name, (subst (RefusesCycles table) is reported).such)
 
 -- ---- when they are judged
 
@@ -228,9 +228,9 @@ late_found : (library : Library) (files : List File) (linked : Linked) (late : L
     → AreLateFound files linked late → (v : Violation) → Contains late v ↔ IsLateLine library files v
 late_found library files linked late (classes, read, is) holds adds v =
     let good = good_files files classes holds read in
-    let told : Adds (IsLinkedLine (declared_program library classes) files) [] late = subst (λ (l : Linked). Adds (IsLinkedLine l.program files) [] late) is adds in (
-      λ m. elim ((told v).0 m) [ inl none ↦ absurd (contains_none v none) | inr line ↦ (late_line library files classes holds good v).0 line ],
-      λ line. (told v).1 (inr ((late_line library files classes holds good v).1 line)),
+    let reported : Adds (IsLinkedLine (declared_program library classes) files) [] late = subst (λ (l : Linked). Adds (IsLinkedLine l.program files) [] late) is adds in (
+      λ m. elim ((reported v).0 m) [ inl none ↦ absurd (contains_none v none) | inr line ↦ (late_line library files classes holds good v).0 line ],
+      λ line. (reported v).1 (inr ((late_line library files classes holds good v).1 line)),
     )
 
 pub early_and_late : (library : Library) (files : List File) (linked : Linked) (early late found : List Violation) → AreFound files early → (HasHierarchyLine early → ⊥)

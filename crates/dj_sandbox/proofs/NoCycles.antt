@@ -115,7 +115,7 @@ superclass_listed (Some name) above m = elim (contains_cases name [] above m) [ 
 above_head : (class : Class) (above : Name) → Contains (above_names class) above → IsAbove (head_in class) above
 above_head class above listed =
     elim (member_of_either (option_list class.superclass) class.interfaces above listed) [
-      | inl front ↦ inl (superclass_listed class.superclass above front)
+      | inl prefix ↦ inl (superclass_listed class.superclass above prefix)
       | inr back ↦ inr back
     ]
 
@@ -126,7 +126,7 @@ module _ (files : List File) (classes : List ClassFile) (holds : HoldsHierarchy 
   either : (class : Class) → Contains all class → IsOfFile files class ⊎ Contains library_classes class
   either class m =
       elim (member_of_either (map declared_class classes) library_classes class m) [
-        | inl front ↦ inl (of_file files classes class good front)
+        | inl prefix ↦ inl (of_file files classes class good prefix)
         | inr back ↦ inr back
       ]
 

@@ -144,14 +144,14 @@ pub no_name_twice : (files : List File) (classes : List ClassFile) (name : Name)
     → IsShared (map declared_class classes ++ map library_class deterministic_library) name → ⊥
 no_name_twice files classes name holds good shared =
     let own = map declared_class classes in
-    let told = λ (place : ℕ) (at : name_at own place ≡ Some name). named_at files classes place name good at in
+    let reported = λ (place : ℕ) (at : name_at own place ≡ Some name). named_at files classes place name good at in
     elim (at_either own library_classes shared.first name shared.one) [
       | inl one ↦ elim (at_either own library_classes shared.other name shared.two) [
-        | inl two ↦ named_twice files shared.first shared.other name holds shared.apart (told shared.first one) (told shared.other two)
-        | inr (k, is, two) ↦ named_reserved files shared.first k name holds (told shared.first one) two
+        | inl two ↦ named_twice files shared.first shared.other name holds shared.apart (reported shared.first one) (reported shared.other two)
+        | inr (k, is, two) ↦ named_reserved files shared.first k name holds (reported shared.first one) two
       ]
       | inr (i, first, one) ↦ elim (at_either own library_classes shared.other name shared.two) [
-        | inl two ↦ named_reserved files shared.other i name holds (told shared.other two) one
+        | inl two ↦ named_reserved files shared.other i name holds (reported shared.other two) one
         | inr (k, other, two) ↦ differ_twice library_classes i k name library_differs (let lt = shared.apart in omega (arith, lt, first, other)) one two
       ]
     ]

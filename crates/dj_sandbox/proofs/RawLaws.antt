@@ -61,17 +61,17 @@ no_code_of Abstract id e = absurd cc
 no_code_of (Native other) id e = refl
 no_code_of (Runs code) id e = absurd cc
 
-pub native_told : (o : Option Method) (native : Option NativeId) (id : NativeId) → Some native ≡ option_map method_native o → native ≡ Some id
+pub native_reported : (o : Option Method) (native : Option NativeId) (id : NativeId) → Some native ≡ option_map method_native o → native ≡ Some id
     → Some false ≡ option_map method_has_code o
-native_told None native id e is = absurd cc
-native_told (Some m) native id e is =
+native_reported None native id e is = absurd cc
+native_reported (Some m) native id e is =
     let own : native ≡ native_in m.body = cc in
     ap Some (sym (no_code_of m.body id (sym own ∙ is)))
 
-pub own_told : (o : Option Method) (native : Option NativeId) (has : Bool) → Some native ≡ option_map method_native o → native ≡ None
+pub own_reported : (o : Option Method) (native : Option NativeId) (has : Bool) → Some native ≡ option_map method_native o → native ≡ None
     → Some has ≡ option_map method_has_body o → Some has ≡ option_map method_has_code o
-own_told None native has e is f = absurd cc
-own_told (Some m) native has e is f =
+own_reported None native has e is f = absurd cc
+own_reported (Some m) native has e is f =
     let own : native ≡ native_in m.body = cc in
     f ∙ ap Some (code_of_body m.body (sym own ∙ is))
 

@@ -19,7 +19,7 @@ use Rattle.dj_straight.specs.trusted.Methods.{straight_signature}
 use Rattle.dj_straight.specs.Methods.{code_view, method_view, program_view}
 use Rattle.dj_straight.specs.Running.{IsRunnable}
 use Rattle.dj_straight.proofs.Straights.{are_runnable}
-use Rattle.dj_sandbox.specs.Shaped.{shape_line, AreTold, AreShaped, AreShort, IsShaped}
+use Rattle.dj_sandbox.specs.Shaped.{shape_line, AreReported, AreShaped, AreShort, IsShaped}
 use Rattle.dj_straight.specs.trusted.Straight.{IsStraightSet}
 use Rattle.dj_rules.specs.Views.{path_file_view}
 use Rattle.dj_report.specs.trusted.Lines.{file_line}
@@ -154,7 +154,7 @@ straight_is_as_many (file ∷ other ∷ files) program straight = absurd straigh
 -- ---- all lines
 
 -- where no rule is violated each method has shape
-pub all_shaped : (files : List File) (class : Option StraightClass) (entry : List ℕ) (violations : List Violation) → length files ≡ length (program_view class) → AreRunViolations files (program_view class) entry violations → AreTold class → violations ≡ [] → AreShaped class
+pub all_shaped : (files : List File) (class : Option StraightClass) (entry : List ℕ) (violations : List Violation) → length files ≡ length (program_view class) → AreRunViolations files (program_view class) entry violations → AreReported class → violations ≡ [] → AreShaped class
 all_shaped files None entry violations as_many run judged none = tt
 all_shaped [] (Some c) entry violations as_many run judged none = absurd (omega arith)
 all_shaped (file ∷ files) (Some c) entry violations as_many run judged none = λ k d lt.

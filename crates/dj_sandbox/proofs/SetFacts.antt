@@ -23,8 +23,8 @@ two_rise a b less =
 order-stop : TextsRise (codes "A.class" ∷ codes "A/B.class" ∷ [])
 order-stop = two_rise (codes "A.class") (codes "A/B.class") refl
 
-order-front : TextsRise (codes "A/B.class" ∷ codes "AB.class" ∷ [])
-order-front = two_rise (codes "A/B.class") (codes "AB.class") refl
+order-prefix : TextsRise (codes "A/B.class" ∷ codes "AB.class" ∷ [])
+order-prefix = two_rise (codes "A/B.class") (codes "AB.class") refl
 
 order-capital : TextsRise (codes "B.class" ∷ codes "a.class" ∷ [])
 order-capital = two_rise (codes "B.class") (codes "a.class") refl

@@ -21,7 +21,7 @@ use Rattle.dj_check.specs.trusted.Rules.{line_at, IsMemberLine, IsEarlyLine}
 use Rattle.dj_classes.specs.trusted.Tables.{declared_program}
 use Rattle.dj_link.specs.trusted.Foreign.{IsForeign, IsForeignConstant}
 use Rattle.dj_link.specs.trusted.Unlinked.{IsUnlinked, IsUnlinkedCatch}
-use Rattle.dj_link.specs.trusted.Lines.{IsFirstOf, IsUntold, LinkViolates, LinkViolatesAt, CatchViolates, HandlerLinkViolates, CodeLinkViolates, MethodLinkViolates, IsFileLinkLine, IsLinkLine}
+use Rattle.dj_link.specs.trusted.Lines.{IsFirstOf, IsUnreported, LinkViolates, LinkViolatesAt, CatchViolates, HandlerLinkViolates, CodeLinkViolates, MethodLinkViolates, IsFileLinkLine, IsLinkLine}
 use Rattle.dj_model.specs.trusted.Kinds.{Signature}
 use Rattle.dj_model.specs.trusted.Shape.{IsShapeFault}
 use Rattle.dj_model.proofs.Shapes.{one_shape_fault}
@@ -57,7 +57,7 @@ first_lines line_of F U =
 
 instr_lines : (line_of : ℕ → Violation) (program : Program) (own : Name) (pool : List Constant) (instr : Instr) → IsFinite (RuleLine line_of (LinkViolates program own pool instr))
 instr_lines line_of program own pool instr =
-    rule_given line_of (IsUntold pool instr) (IsFirstOf (IsForeign program pool instr) (IsUnlinked program own pool instr))
+    rule_given line_of (IsUnreported pool instr) (IsFirstOf (IsForeign program pool instr) (IsUnlinked program own pool instr))
     (first_lines line_of (IsForeign program pool instr) (IsUnlinked program own pool instr))
 
 catch_lines : (line_of : ℕ → Violation) (program : Program) (pool : List Constant) (index : ℕ) → IsFinite (RuleLine line_of (CatchViolates program pool index))
@@ -147,7 +147,7 @@ shape_lines_of program path c m number such only =
     let line : Violation = line_at path (member_text c.pool m) number 19 in
     finite_same (λ v. v ≡ line) (OwnMemberLine (MethodShapeViolates program c) path c m)
     (λ v is. (number, 19, such, is))
-    (λ v (other, rule, is, told). told
+    (λ v (other, rule, is, reported). reported
     ∙ ap (λ (n : Option ℕ). line_at path (member_text c.pool m) n rule) (only other rule is)
     ∙ ap (line_at path (member_text c.pool m) number) is.rule_is)
     (finite_one line)
@@ -156,7 +156,7 @@ shape_method_lines : (program : Program) (path : List ℕ) (c : ClassFile) (m : 
 shape_method_lines program path c m sound = bind (decide ((number : Option ℕ) × MethodShapeViolates program c m number 19)) (elim [
   | inl (number, such) ↦ shape_lines_of program path c m number such (λ other rule is. one_shape_line c.pool m other number sound is.lacks such.lacks)
   | inr not ↦ finite_none (OwnMemberLine (MethodShapeViolates program c) path c m)
-      (λ v (other, rule, is, told). not (other, record { untold = is.untold; lacks = is.lacks; rule_is = refl }))
+      (λ v (other, rule, is, reported). not (other, record { unreported = is.unreported; lacks = is.lacks; rule_is = refl }))
 ])
 
 -- of a class file without faulty parts

@@ -136,7 +136,7 @@ record IsEntryCode (files : List File) (program : Program) (class : List ℕ) : 
   some : 0 < length code.instructions
   no_handlers : code.ranges ≡ []
   no_frames : code.frames ≡ Some []
-  told : (n : Option ℕ) → IsShapeFault straight_signature code n → (v : Violation) × IsShapeLineOf files program v
+  reported : (n : Option ℕ) → IsShapeFault straight_signature code n → (v : Violation) × IsShapeLineOf files program v
 
 no_entry : (class : List ℕ) → has_entry [] class ≡ true → ⊥
 no_entry class e = absurd cc
@@ -162,7 +162,7 @@ entry_in file c class all e = by (same_name c.name class) refl where
         some = r.some;
         no_handlers = r.no_handlers;
         no_frames = r.no_frames;
-        told = λ n fault. (
+        reported = λ n fault. (
           shape_line file.0 f.method n,
           inl (record { method = f.method; own = f.own; code = r.code; runs = r.runs; number = n; fault = fault; line = refl }),
         );
@@ -209,5 +209,5 @@ some_end files program class input most straight none =
     let entry : IsEntryCode files program class = entry_code files program class straight (entry_is_there files program class none) in
     so (shape_or_fault straight_signature entry.code) (elim [
       | inl shape ↦ ends_with_shape files program class input most straight entry shape
-      | inr (n, fault) ↦ let line = entry.told n fault in absurd (contains_none line.0 ((none.all line.0).1 (inl line.1)))
+      | inr (n, fault) ↦ let line = entry.reported n fault in absurd (contains_none line.0 ((none.all line.0).1 (inl line.1)))
     ])

@@ -28,12 +28,12 @@ AreShaped None = ⊤
 AreShaped (Some c) = All IsShaped c.methods.items
 
 -- the method has shape, or the number of its first fault, if it has one, is known
-abbrev pub IsTold : StraightMethod → Type 0
-IsTold m = IsShaped m ⊎ ((number : Option ℕ) × IsShapeFault straight_signature (code_view m) number)
+abbrev pub IsReported : StraightMethod → Type 0
+IsReported m = IsShaped m ⊎ ((number : Option ℕ) × IsShapeFault straight_signature (code_view m) number)
 
-abbrev pub AreTold : Option StraightClass → Type 0
-AreTold None = ⊤
-AreTold (Some c) = All IsTold c.methods.items
+abbrev pub AreReported : Option StraightClass → Type 0
+AreReported None = ⊤
+AreReported (Some c) = All IsReported c.methods.items
 
 -- the line for a method that has no shape
 abbrev pub shape_line : List ℕ → Method → Option ℕ → Violation

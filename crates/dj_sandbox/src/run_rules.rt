@@ -4,7 +4,7 @@ ghost use Rattle.dj_sandbox.specs.trusted.Entry.{entry_method, has_entry, AreRun
 ghost use Rattle.dj_report.specs.Lines.{Adds};
 ghost use Rattle.dj_straight.specs.trusted.Methods.{straight_descriptor};
 ghost use Rattle.dj_straight.specs.Methods.{code_view, method_view, program_view};
-ghost use Rattle.dj_sandbox.specs.Shaped.{shape_line, AreTold, AreShaped, AreShort, IsTold, IsMethodOf};
+ghost use Rattle.dj_sandbox.specs.Shaped.{shape_line, AreReported, AreShaped, AreShort, IsReported, IsMethodOf};
 ghost use Rattle.dj_rules.specs.Views.{path_file_view};
 
 use dj_class::AccessFlags;
@@ -108,7 +108,7 @@ fn add_shape_line(
 ) -> Result<(), RulesError>
     requires { length method.now.actions.items < 2 ^ 32 }
     ensures lines { OnOk result (Adds (IsShapeLine path.now (method_view method.now ∷ [])) found.old.items found.new.items) }
-    ensures judged { OnOk result (IsTold method.now) }
+    ensures judged { OnOk result (IsReported method.now) }
 {
     match shape_fault(alloc, method)? {
         Some(number) => add_shape_fault(alloc, found, path, method, number),
@@ -125,7 +125,7 @@ fn add_shape_lines(
 ) -> Result<(), RulesError>
     requires { All (λ m. length m.actions.items < 2 ^ 32) methods.now }
     ensures lines { OnOk result (Adds (IsShapeLine path.now (map method_view methods.now)) found.old.items found.new.items) }
-    ensures judged { OnOk result (All IsTold methods.now) }
+    ensures judged { OnOk result (All IsReported methods.now) }
 {
     for method in methods {
         add_shape_line(alloc, found, path, method)?;
@@ -144,7 +144,7 @@ fn add_class_lines(
     requires short { AreShort class.now }
     ensures lines { OnOk result (Adds (IsShapeLineOf (map path_file_view files.now) (program_view class.now))
         found.old.items found.new.items) }
-    ensures judged { OnOk result (AreTold class.now) }
+    ensures judged { OnOk result (AreReported class.now) }
 {
     match (files.first(), class) {
         (Some(file), Some(class)) => {

@@ -24,7 +24,7 @@ use crate::run_rules::{entry_of, run_violations};
 use dj_names::{Name, Thresholds};
 use dj_report::{PathFile, Report};
 use dj_rules::{RulesError, judge_files};
-use dj_straight::{Ending, StraightSet, run_method, straight_set};
+use dj_straight::{StraightEnding, StraightSet, run_method, straight_set};
 use std::alloc::Global;
 
 // The report LATER: the set whose first file has this path is not supported yet.
@@ -52,7 +52,7 @@ fn run_entry(
     class: &[u8],
     input: &[u8],
     thresholds: Thresholds,
-) -> Result<Ending, RulesError>
+) -> Result<StraightEnding, RulesError>
     requires entry { has_entry (program_view set.now.class) class.now ≡ true }
     requires shaped { AreShaped set.now.class }
     requires runnable { AreRunnable set.now.class }

@@ -12,11 +12,11 @@ use Rattle.dj_names.specs.trusted.Descriptors.{type_text}
 use Rattle.dj_model.specs.trusted.Program.{Program, Class}
 use Rattle.dj_model.specs.trusted.Linking.{member_class}
 use Rattle.dj_calls.specs.Known.{IsClassType}
-use Rattle.dj_natives.specs.Numbered.{TellsStop, is_number}
+use Rattle.dj_natives.specs.Numbered.{SaysStop, is_number}
 use Rattle.dj_classes.specs.Tables.{name_of, name_at}
 use Rattle.dj_types.specs.Typed.{Typed, AreArrays, is_array_of, texts_of, types_of, type_at}
 use Rattle.dj_types.proofs.Starts.{some_there}
-use Rattle.dj_types.proofs.Told.{IsArray, array_there, type_there, type_of_class, known_at}
+use Rattle.dj_types.proofs.Reported.{IsArray, array_there, type_there, type_of_class, known_at}
 use Rattle.dj_image.specs.Imaged.{Imaged, program_of, typed_of}
 use Rattle.dj_image.specs.Numbering.{AreSettled}
 use Rattle.dj_unwinding.specs.Unwinding.{IsClassNumber, class_name_at}
@@ -29,8 +29,8 @@ text_of_class [] texts class text lt e = absurd (omega (arith, lt))
 text_of_class (c ∷ program) texts zero text lt e = cc
 text_of_class (c ∷ program) texts (suc class) text lt e = text_of_class program texts class text (omega (arith, lt)) e
 
-pub name_told : (imaged : Imaged) (class : ℕ) (text : Name) → class < length (program_of imaged) → slice_get (texts_of (typed_of imaged)) class ≡ Some text → text ≡ class_name_at (program_of imaged) class
-name_told imaged class text lt e = text_of_class (program_of imaged) (map type_text imaged.arrays) class text lt e
+pub name_reported : (imaged : Imaged) (class : ℕ) (text : Name) → class < length (program_of imaged) → slice_get (texts_of (typed_of imaged)) class ≡ Some text → text ≡ class_name_at (program_of imaged) class
+name_reported imaged class text lt e = text_of_class (program_of imaged) (map type_text imaged.arrays) class text lt e
 
 -- the classes are among those that have numbers
 types_longer : (typed : Typed) → length typed.program ≤ length (types_of typed)
@@ -78,22 +78,22 @@ class_typed imaged class settled is =
 -- ---- the object that stops a run
 
 module _ (imaged : Imaged) (exceeded : Option Charge) (class : ℕ) (stop : Option ℕ) (lt : class < length (program_of imaged))
-    (tells : TellsStop (types_of (typed_of imaged)) imaged.prefix stop) where
-  told : stopping imaged exceeded class ≡ (if is_number stop class then exceeded else None)
-  told = ap (λ (b : Bool). if b then exceeded else None) (tells class (type_within imaged class lt))
+    (says : SaysStop (types_of (typed_of imaged)) imaged.prefix stop) where
+  reported : stopping imaged exceeded class ≡ (if is_number stop class then exceeded else None)
+  reported = ap (λ (b : Bool). if b then exceeded else None) (says class (type_within imaged class lt))
 
-pub is_stopping : (imaged : Imaged) (exceeded : Option Charge) (class stop : ℕ) → class < length (program_of imaged) → TellsStop (types_of (typed_of imaged)) imaged.prefix (Some stop)
+pub is_stopping : (imaged : Imaged) (exceeded : Option Charge) (class stop : ℕ) → class < length (program_of imaged) → SaysStop (types_of (typed_of imaged)) imaged.prefix (Some stop)
     → stop ≡ class → exceeded ≡ stopping imaged exceeded class
-is_stopping imaged exceeded class stop lt tells same =
+is_stopping imaged exceeded class stop lt says same =
     let test : nat_eq stop class ≡ true = eq-eqb stop class same in
-    sym (told imaged exceeded class (Some stop) lt tells ∙ ap (λ (b : Bool). if b then exceeded else None) test)
+    sym (reported imaged exceeded class (Some stop) lt says ∙ ap (λ (b : Bool). if b then exceeded else None) test)
 
-pub not_stopping : (imaged : Imaged) (exceeded : Option Charge) (class stop : ℕ) → class < length (program_of imaged) → TellsStop (types_of (typed_of imaged)) imaged.prefix (Some stop)
+pub not_stopping : (imaged : Imaged) (exceeded : Option Charge) (class stop : ℕ) → class < length (program_of imaged) → SaysStop (types_of (typed_of imaged)) imaged.prefix (Some stop)
     → (stop ≡ class → ⊥) → None ≡ stopping imaged exceeded class
-not_stopping imaged exceeded class stop lt tells other =
+not_stopping imaged exceeded class stop lt says other =
     let test : nat_eq stop class ≡ false = ne_eqb stop class other in
-    sym (told imaged exceeded class (Some stop) lt tells ∙ ap (λ (b : Bool). if b then exceeded else None) test)
+    sym (reported imaged exceeded class (Some stop) lt says ∙ ap (λ (b : Bool). if b then exceeded else None) test)
 
-pub never_stopping : (imaged : Imaged) (exceeded : Option Charge) (class : ℕ) → class < length (program_of imaged) → TellsStop (types_of (typed_of imaged)) imaged.prefix None
+pub never_stopping : (imaged : Imaged) (exceeded : Option Charge) (class : ℕ) → class < length (program_of imaged) → SaysStop (types_of (typed_of imaged)) imaged.prefix None
     → None ≡ stopping imaged exceeded class
-never_stopping imaged exceeded class lt tells = sym (told imaged exceeded class None lt tells)
+never_stopping imaged exceeded class lt says = sym (reported imaged exceeded class None lt says)

@@ -15,7 +15,7 @@ use Rattle.dj_types.specs.Typed.{types_of, type_at}
 use Rattle.dj_image.specs.Imaged.{Imaged, program_of, typed_of}
 use Rattle.dj_unwinding.specs.Returns.{IsReturned}
 use Rattle.dj_unwinding.specs.Short.{HasNumberBelow}
-use Rattle.dj_unwinding.specs.Unwinding.{IsUnwound, frames_unwound, unwound_told}
+use Rattle.dj_unwinding.specs.Unwinding.{IsUnwound, frames_unwound, unwound_reported}
 use Rattle.dj_unwinding.specs.declared.returning.Returned.TheVariants as returns
 use Rattle.dj_unwinding.specs.declared.unwinding.Unwound.{Unwound}
 use Rattle.dj_unwinding.specs.declared.unwinding.Unwound.TheVariants as unwinds
@@ -35,16 +35,16 @@ some_state = record { heap = empty_heap; statics = []; initialised = []; literal
 
 -- where there is a caller the return isn't the last one
 pub never_last : (program : Program) (old new : List StackFrame) (value : Option Value) → IsFrugalReturn old → IsReturned program old new value returns.Last → ⊥
-never_last program [] new value frugal told = frugal
-never_last program (f ∷ []) new value frugal told = frugal
-never_last program (f ∷ (caller ∷ below)) new value frugal told = absurd (let e = told some_state in cc)
+never_last program [] new value frugal reported = frugal
+never_last program (f ∷ []) new value frugal reported = frugal
+never_last program (f ∷ (caller ∷ below)) new value frugal reported = absurd (let e = reported some_state in cc)
 
 -- ---- throws
 
 module _ (imaged : Imaged) (h : LimitedHeap) (class exception : ℕ) (old new : List StackFrame) (is : option_map class_of (object_in h exception) ≡ Some class)
     (frugal : IsFrugalThrow imaged h old exception) where
   so : (how : Unwound) → IsUnwound imaged (type_at (typed_of imaged) class) exception old new how
-      → unwound_told imaged (seen_in imaged h old frugal.state) (type_at (typed_of imaged) class) exception new how ≡ Went frugal.next
+      → unwound_reported imaged (seen_in imaged h old frugal.state) (type_at (typed_of imaged) class) exception new how ≡ Went frugal.next
   so how gone =
       sym (ap (λ (ty : Ty). frames_unwound imaged (seen_in imaged h old frugal.state) ty exception old) (class_there (types_of (typed_of imaged)) h exception class is)
       ∙ gone (seen_in imaged h old frugal.state))

@@ -16,12 +16,12 @@ use Rattle.dj_names.specs.declared.run.Value.{Value}
 use Rattle.dj_names.specs.declared.run.Charge.{Charge}
 use Rattle.dj_names.specs.declared.native.NativeId.{NativeId}
 use Rattle.dj_names.specs.declared.native.NativeId.TheVariants as natives
-use Rattle.dj_names.specs.declared.lists.NoMemory.{NoMemory}
+use Rattle.dj_bytes.specs.declared.memory.NoMemory.{NoMemory}
 use Rattle.dj_model.specs.trusted.State.{Flow, Catch, Stop}
 use Rattle.dj_model.specs.trusted.Natives.{reference}
 use Rattle.dj_heap.specs.Heaps.{LimitedHeap, object_in}
 use Rattle.dj_stack.specs.Frames.{StackFrame}
-use Rattle.dj_calls.specs.Calls.{stop_told, typed_heap}
+use Rattle.dj_calls.specs.Calls.{stop_reported, typed_heap}
 use Rattle.dj_calls.specs.Known.{AreKnown}
 use Rattle.dj_calls.proofs.Performed.{known_at}
 use Rattle.dj_calls.proofs.SeenFacts.{object_alike}
@@ -95,7 +95,7 @@ rewritten imaged h args natives.RecordAllocation other by = by
 rewritten imaged h args natives.RecordArray other by = by
 rewritten imaged h args natives.CheckCatch other by = absurd (other refl)
 
-stop_flow : (args : List Value) (id : NativeId) → (id ≡ natives.CheckCatch → ⊥) → stop_told id args ≡ Stop
+stop_flow : (args : List Value) (id : NativeId) → (id ≡ natives.CheckCatch → ⊥) → stop_reported id args ≡ Stop
 stop_flow args natives.ObjectNew other = refl
 stop_flow args natives.ObjectEquals other = refl
 stop_flow args natives.ObjectHashCode other = refl
@@ -162,26 +162,26 @@ module _ (imaged : Imaged) (exceeded : Option Charge) (before after : LimitedHea
 
   pub by_charge : (id : NativeId) (args : List Value) (result : Result Settled NoMemory) → 0 < length old → (id ≡ natives.CheckCatch → ⊥)
       → IfOk result (λ settled. Settles imaged exceeded (throwing_stop imaged) before after old new settled)
-      → IfOk result (λ settled. Settles imaged exceeded (top_settled (program_of imaged) imaged.prefix (stop_told id args)) before after old new settled)
-  by_charge id args result some other settles = by_flow Stop (stop_told id args) result (sym (stop_flow args id other)) (as_stopped imaged exceeded before after old new result some settles)
+      → IfOk result (λ settled. Settles imaged exceeded (top_settled (program_of imaged) imaged.prefix (stop_reported id args)) before after old new settled)
+  by_charge id args result some other settles = by_flow Stop (stop_reported id args) result (sym (stop_flow args id other)) (as_stopped imaged exceeded before after old new result some settles)
 
 pub by_object : (imaged : Imaged) (exceeded : Option Charge) (h : LimitedHeap) (old new : List StackFrame) (id : NativeId) (args : List Value) (exception : ℕ) (result : Result Settled NoMemory)
     → 0 < length old → id ≡ natives.CheckCatch → exception ≡ reference 0 args
     → IfOk result (λ settled. Settles imaged exceeded (throwing imaged exception) h h old new settled)
-    → IfOk result (λ settled. Settles imaged exceeded (top_settled (program_of imaged) imaged.prefix (stop_told id args)) h h old new settled)
+    → IfOk result (λ settled. Settles imaged exceeded (top_settled (program_of imaged) imaged.prefix (stop_reported id args)) h h old new settled)
 by_object imaged exceeded h old new id args exception result some is e settles =
-    by_flow imaged exceeded h h old new (Catch exception) (stop_told id args) result (ap Catch e ∙ sym (ap (λ (i : NativeId). stop_told i args) is))
+    by_flow imaged exceeded h h old new (Catch exception) (stop_reported id args) result (ap Catch e ∙ sym (ap (λ (i : NativeId). stop_reported i args) is))
     (as_caught imaged exceeded exception h old new result some settles)
 
 -- ---- whether its number is known
 
-pub told_before : (imaged : Imaged) (h : LimitedHeap) (stop : ℕ) (result : Result Settled NoMemory) → IfOk result (λ settled. KeepsStop imaged h stop stop)
-told_before imaged h stop (Err e) = tt
-told_before imaged h stop (Ok settled) = inl refl
+pub reported_before : (imaged : Imaged) (h : LimitedHeap) (stop : ℕ) (result : Result Settled NoMemory) → IfOk result (λ settled. KeepsStop imaged h stop stop)
+reported_before imaged h stop (Err e) = tt
+reported_before imaged h stop (Ok settled) = inl refl
 
-pub told_now : (imaged : Imaged) (h : LimitedHeap) (old stop : ℕ) (result : Result Settled NoMemory) → IfOk result (λ settled. IsStop imaged h stop) → IfOk result (λ settled. KeepsStop imaged h old stop)
-told_now imaged h old stop (Err e) is = tt
-told_now imaged h old stop (Ok settled) is = inr is
+pub reported_now : (imaged : Imaged) (h : LimitedHeap) (old stop : ℕ) (result : Result Settled NoMemory) → IfOk result (λ settled. IsStop imaged h stop) → IfOk result (λ settled. KeepsStop imaged h old stop)
+reported_now imaged h old stop (Err e) is = tt
+reported_now imaged h old stop (Ok settled) is = inr is
 
 -- ---- what checkCatch throws again is an object of a class
 

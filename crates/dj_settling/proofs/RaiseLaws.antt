@@ -23,9 +23,9 @@ use Rattle.dj_declared.specs.Files.{bare_class}
 use Rattle.dj_linking.specs.Linked.{Linked, prefix_of}
 use Rattle.dj_linking.specs.declared.linker.BaseNames.{BaseNames}
 use Rattle.dj_types.specs.Typed.{place_of_text, text_number}
-use Rattle.dj_types.proofs.Told.{type_of_class}
+use Rattle.dj_types.proofs.Reported.{type_of_class}
 use Rattle.dj_image.specs.Imaged.{Imaged, program_of, typed_of}
-use Rattle.dj_names.specs.declared.lists.NoMemory.{NoMemory}
+use Rattle.dj_bytes.specs.declared.memory.NoMemory.{NoMemory}
 use Rattle.dj_settling.specs.declared.settled.Settled.{Settled}
 use Rattle.dj_settling.specs.Settling.{HasClass, HasOwn, IsClassOf, Settles, throwing_new, raising}
 use Rattle.dj_settling.proofs.EndLaws.{plain_type}
@@ -49,8 +49,8 @@ class_of_number imaged name k e =
       is = type_of_class (program_of imaged) imaged.arrays k lt ∙ ap (λ (o : Option Name). class_type (unwrap_or o [])) (name_at-number (program_of imaged) name k e);
     }
 
-number_told : (imaged : Imaged) (name : Name) → HasClass (program_of imaged) name → (k : ℕ) × (class_number (program_of imaged) name ≡ Some k)
-number_told imaged name has = by (class_number (program_of imaged) name) refl has where
+number_reported : (imaged : Imaged) (name : Name) → HasClass (program_of imaged) name → (k : ℕ) × (class_number (program_of imaged) name ≡ Some k)
+number_reported imaged name has = by (class_number (program_of imaged) name) refl has where
   by : (o : Option ℕ) → class_number (program_of imaged) name ≡ o → IsTrue (is_some o) → (k : ℕ) × (class_number (program_of imaged) name ≡ Some k)
   by None e some = absurd (false≢true some)
   by (Some k) e some = (k, e)
@@ -59,10 +59,10 @@ pub raised_named : (imaged : Imaged) (linked : Linked) (base : BaseNames) (raise
     → prefix_of base ≡ linked.prefix → name ≡ prefix_of base ++ raised_class raised → name ≡ imaged.prefix ++ raised_class raised
 raised_named imaged linked base raised name is own e = e ∙ ap (λ (prefix : Prefix). prefix ++ raised_class raised) (own ∙ ap (λ (l : Linked). l.prefix) is)
 
-pub class_told : (imaged : Imaged) (raised : Raised) (name : Name) (class : ℕ) → HasOwn imaged → name ≡ imaged.prefix ++ raised_class raised → Some class ≡ text_number (typed_of imaged) name
+pub class_reported : (imaged : Imaged) (raised : Raised) (name : Name) (class : ℕ) → HasOwn imaged → name ≡ imaged.prefix ++ raised_class raised → Some class ≡ text_number (typed_of imaged) name
     → IsClassOf imaged (raised_type imaged.prefix raised) class
-class_told imaged raised name class own is e =
-    let found = number_told imaged (imaged.prefix ++ raised_class raised) (own.raised raised) in
+class_reported imaged raised name class own is e =
+    let found = number_reported imaged (imaged.prefix ++ raised_class raised) (own.raised raised) in
     let place = place_of_class (program_of imaged) (map type_text imaged.arrays) (imaged.prefix ++ raised_class raised) found.0 found.1 in
     let same : Some class ≡ Some found.0 = e ∙ (ap (text_number (typed_of imaged)) is ∙ place) in
     let number : found.0 ≡ class = cc in
@@ -70,7 +70,7 @@ class_told imaged raised name class own is e =
 
 pub class_lacks : (imaged : Imaged) (raised : Raised) (name : Name) → HasOwn imaged → name ≡ imaged.prefix ++ raised_class raised → None ≡ text_number (typed_of imaged) name → ⊥
 class_lacks imaged raised name own is e =
-    let found = number_told imaged (imaged.prefix ++ raised_class raised) (own.raised raised) in
+    let found = number_reported imaged (imaged.prefix ++ raised_class raised) (own.raised raised) in
     let place = place_of_class (program_of imaged) (map type_text imaged.arrays) (imaged.prefix ++ raised_class raised) found.0 found.1 in
     none-some found.0 (e ∙ (ap (text_number (typed_of imaged)) is ∙ place))
 

@@ -9,7 +9,7 @@ use Rattle.dj_model.specs.trusted.Step.{Went, Ended, IllFormed}
 use Rattle.dj_model.specs.trusted.Runs.{empty_heap}
 use Rattle.dj_heap.specs.Heaps.{LimitedHeap}
 use Rattle.dj_image.specs.Imaged.{Imaged}
-use Rattle.dj_settling.specs.Told.{On, Over, Nowhere, told_of}
+use Rattle.dj_settling.specs.Reported.{On, Over, Nowhere, reported_of}
 use Rattle.dj_settling.specs.Settling.{IsStop, left_outcome, message_at, stop_number_from}
 
 abbrev image : Imaged
@@ -20,8 +20,8 @@ state = record { heap = empty_heap; statics = []; initialised = []; literals = [
 
 -- ---- what is reported
 
-tells : (told_of (Went state) ≡ On state) × (told_of (Ended outcomes.OkNull state) ≡ Over outcomes.OkNull new_account []) × (told_of IllFormed ≡ Nowhere)
-tells = (refl, refl, refl)
+says : (reported_of (Went state) ≡ On state) × (reported_of (Ended outcomes.OkNull state) ≡ Over outcomes.OkNull new_account []) × (reported_of IllFormed ≡ Nowhere)
+says = (refl, refl, refl)
 
 -- ---- a heap of a text, and exceptions of class 5 with it as message, with it as cause, and without both
 
@@ -41,5 +41,5 @@ first_of_class : (stop_number_from 5 1 heap.heap.objects ≡ Some 2) × (stop_nu
 first_of_class = (refl, refl, refl)
 
 -- of 0 nothing is required
-untold : IsStop image heap 0
-untold some = absurd (some refl)
+unreported : IsStop image heap 0
+unreported some = absurd (some refl)

@@ -17,7 +17,7 @@ use Rattle.dj_model.specs.trusted.Types.{Prefix, is_stop}
 use Rattle.dj_model.specs.trusted.Step.{stop_from, throw_new, throw_stop_or}
 use Rattle.dj_model.proofs.MappedHeaps.{class_of_mapped}
 use Rattle.dj_natives.specs.Numbered as numbered
-use Rattle.dj_natives.specs.Numbered.{TellsStop}
+use Rattle.dj_natives.specs.Numbered.{SaysStop}
 use Rattle.dj_heap.specs.Heaps.{LimitedHeap, object_in}
 use Rattle.dj_stack.specs.Frames.{StackFrame}
 use Rattle.dj_calls.specs.Known.{AreKnown, IsKnown}
@@ -26,9 +26,9 @@ use Rattle.dj_image.specs.Imaged.{Imaged, program_of, typed_of}
 use Rattle.dj_image.specs.Numbering.{AreSettled}
 use Rattle.dj_image.proofs.Numbering.{stop_alone}
 use Rattle.dj_unwinding.specs.Unwinding.{IsClassNumber}
-use Rattle.dj_names.specs.declared.lists.NoMemory.{NoMemory}
+use Rattle.dj_bytes.specs.declared.memory.NoMemory.{NoMemory}
 use Rattle.dj_settling.specs.declared.settled.Settled.{Settled}
-use Rattle.dj_settling.specs.Told.{told_of}
+use Rattle.dj_settling.specs.Reported.{reported_of}
 use Rattle.dj_settling.specs.Settling.{HasOwn, HasStop, IsClassOf, IsMade, IsRewritten, IsStop, IsThrown, Settles, seen_in, stop_found, stop_number_from, throwing, throwing_new, throwing_stop}
 use Rattle.dj_settling.proofs.RaiseLaws.{class_of_number}
 
@@ -40,33 +40,33 @@ class_lacks imaged own rewritten e = by imaged.prefix own.stop rewritten e where
   by [] has rewritten e = absurd rewritten
   by (byte ∷ prefix) has rewritten e = false≢true (ap is_some e ∙ has)
 
-class_told : (imaged : Imaged) (class : ℕ) → Some class ≡ stop_at (typed_of imaged) → IsClassOf imaged (class_type stop_class) class
-class_told imaged class e = by imaged.prefix e where
+class_reported : (imaged : Imaged) (class : ℕ) → Some class ≡ stop_at (typed_of imaged) → IsClassOf imaged (class_type stop_class) class
+class_reported imaged class e = by imaged.prefix e where
   by : (prefix : Prefix) → Some class ≡ stop_under prefix (program_of imaged) → IsClassOf imaged (class_type stop_class) class
   by [] e = absurd cc
   by (byte ∷ prefix) e = class_of_number imaged stop_class class (sym e)
 
 pub class_is : (imaged : Imaged) (class : ℕ) → Some class ≡ stop_at (typed_of imaged) → IsClassNumber (typed_of imaged) class
-class_is imaged class e = (class_told imaged class e).number
+class_is imaged class e = (class_reported imaged class e).number
 
 -- ---- the first one
 
-found_by : (types : List Ty) (prefix : Prefix) (class : ℕ) → TellsStop types prefix (Some class) → (objects : List (Object ℕ)) (r : ℕ) → All (IsKnown types) objects
+found_by : (types : List Ty) (prefix : Prefix) (class : ℕ) → SaysStop types prefix (Some class) → (objects : List (Object ℕ)) (r : ℕ) → All (IsKnown types) objects
     → stop_from prefix r (map (object_map (numbered.type_at types)) objects) ≡ stop_number_from class r objects
-found_by types prefix class tells [] r known = refl
-found_by types prefix class tells (object ∷ objects) r known =
+found_by types prefix class says [] r known = refl
+found_by types prefix class says (object ∷ objects) r known =
     let test : is_stop prefix (class_of (object_map (numbered.type_at types) object)) ≡ nat_eq class (class_of object) =
-    ap (is_stop prefix) (class_of_mapped (numbered.type_at types) object) ∙ tells (class_of object) (All-head (IsKnown types) object objects known).class in
+    ap (is_stop prefix) (class_of_mapped (numbered.type_at types) object) ∙ says (class_of object) (All-head (IsKnown types) object objects known).class in
     ap (λ (b : Bool). if b then Some r else stop_from prefix (r + 1) (map (object_map (numbered.type_at types)) objects)) test
-    ∙ ap (λ (o : Option ℕ). if nat_eq class (class_of object) then Some r else o) (found_by types prefix class tells objects (r + 1) (All-tail (IsKnown types) object objects known))
+    ∙ ap (λ (o : Option ℕ). if nat_eq class (class_of object) then Some r else o) (found_by types prefix class says objects (r + 1) (All-tail (IsKnown types) object objects known))
 
 pub by_number : (imaged : Imaged) (h : LimitedHeap) (class : ℕ) → AreSettled (typed_of imaged) → Some class ≡ stop_at (typed_of imaged) → AreKnown (types_of (typed_of imaged)) h
     → stop_number_from class 1 h.heap.objects ≡ stop_found imaged h
 by_number imaged h class settled e known =
     sym (found_by (types_of (typed_of imaged)) imaged.prefix class (stop_alone (typed_of imaged) settled (Some class) e) h.heap.objects 1 known)
 
-pub told_is : (imaged : Imaged) (h : LimitedHeap) (stop : ℕ) → (stop ≡ 0 → ⊥) → IsStop imaged h stop → Some stop ≡ stop_found imaged h
-told_is imaged h stop some is = sym (is some)
+pub reported_is : (imaged : Imaged) (h : LimitedHeap) (stop : ℕ) → (stop ≡ 0 → ⊥) → IsStop imaged h stop → Some stop ≡ stop_found imaged h
+reported_is imaged h stop some is = sym (is some)
 
 pub found_is : (imaged : Imaged) (h : LimitedHeap) (stop : ℕ) → Some stop ≡ stop_found imaged h → IsStop imaged h stop
 found_is imaged h stop e some = sym e
@@ -153,7 +153,7 @@ pub found_threw : (imaged : Imaged) (exceeded : Option Charge) (h : LimitedHeap)
 found_threw imaged exceeded h stop old new (Err error) e settles = tt
 found_threw imaged exceeded h stop old new (Ok result) e settles = record {
   answers = λ terms s limit charge.
-      ap (λ (o : Option ℕ). told_of (throw_stop_or (program_of imaged) imaged.prefix terms (seen_in imaged h old s) o)) (sym e) ∙ settles.answers terms s limit charge;
+      ap (λ (o : Option ℕ). reported_of (throw_stop_or (program_of imaged) imaged.prefix terms (seen_in imaged h old s) o)) (sym e) ∙ settles.answers terms s limit charge;
   limit = settles.limit;
   known = settles.known;
   stand = settles.stand;
@@ -165,8 +165,8 @@ pub made_threw : (imaged : Imaged) (exceeded : Option Charge) (before after : Li
 made_threw imaged exceeded before after class old new (Err error) is e settles = tt
 made_threw imaged exceeded before after class old new (Ok result) is e settles = record {
   answers = λ terms s limit charge.
-      ap (λ (o : Option ℕ). told_of (throw_stop_or (program_of imaged) imaged.prefix terms (seen_in imaged before old s) o)) (sym e)
-      ∙ (ap (λ (ty : Ty). told_of (throw_new (program_of imaged) imaged.prefix terms (seen_in imaged before old s) (Instance ty []))) (sym (class_told imaged class is).is)
+      ap (λ (o : Option ℕ). reported_of (throw_stop_or (program_of imaged) imaged.prefix terms (seen_in imaged before old s) o)) (sym e)
+      ∙ (ap (λ (ty : Ty). reported_of (throw_new (program_of imaged) imaged.prefix terms (seen_in imaged before old s) (Instance ty []))) (sym (class_reported imaged class is).is)
       ∙ settles.answers terms s limit charge);
   limit = settles.limit;
   known = settles.known;

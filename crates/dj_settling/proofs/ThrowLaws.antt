@@ -32,14 +32,14 @@ use Rattle.dj_types.specs.Typed.{types_of, type_at}
 use Rattle.dj_image.specs.Imaged.{Imaged, program_of, typed_of}
 use Rattle.dj_image.specs.Numbering.{AreSettled}
 use Rattle.dj_activations.specs.Activations.{AreActivations}
-use Rattle.dj_unwinding.specs.Unwinding.{IsClassNumber, IsUnwound, unwound_told, frames_unwound, class_name_at}
+use Rattle.dj_unwinding.specs.Unwinding.{IsClassNumber, IsUnwound, unwound_reported, frames_unwound, class_name_at}
 use Rattle.dj_unwinding.specs.declared.unwinding.Unwound.{Unwound}
 use Rattle.dj_unwinding.specs.declared.unwinding.Unwound.TheVariants as unwinds
-use Rattle.dj_names.specs.declared.lists.NoMemory.{NoMemory}
+use Rattle.dj_bytes.specs.declared.memory.NoMemory.{NoMemory}
 use Rattle.dj_settling.specs.declared.settled.Settled.{Settled}
 use Rattle.dj_settling.specs.declared.settled.Settled.TheVariants as settles
-use Rattle.dj_settling.specs.Told.{Over, told_of}
-use Rattle.dj_settling.specs.Settling.{seen_in, settled_told, Settles, IsThrown, IsMade, stopping, uncaught_outcome, settled_by, throwing, throwing_new}
+use Rattle.dj_settling.specs.Reported.{Over, reported_of}
+use Rattle.dj_settling.specs.Settling.{seen_in, settled_reported, Settles, IsThrown, IsMade, stopping, uncaught_outcome, settled_by, throwing, throwing_new}
 use Rattle.dj_settling.proofs.MessageLaws.{message_alike}
 use Rattle.dj_settling.proofs.EndLaws.{class_typed, class_within, named_by_type}
 
@@ -71,18 +71,18 @@ module _ (imaged : Imaged) (h : LimitedHeap) (exceeded : Option Charge) (class e
   seen frames = seen_in imaged h frames s
 
   ends : (test : Bool) (outcome : Outcome)
-      → told_of (Ended (if test then stopped_by s.account.exceeded outcome else outcome) (seen new)) ≡ Over (stopped_by (if test then exceeded else None) outcome) s.account s.answers
+      → reported_of (Ended (if test then stopped_by s.account.exceeded outcome else outcome) (seen new)) ≡ Over (stopped_by (if test then exceeded else None) outcome) s.account s.answers
   ends true outcome = ap (λ (c : Option Charge). Over (stopped_by c outcome) s.account s.answers) charge
   ends false outcome = refl
 
-  told_end : (old : List StackFrame) (how : Unwound) → told_of (unwound_told imaged (seen old) (type_at (typed_of imaged) class) exception new how)
-      ≡ settled_told (settled_by imaged h exceeded class exception how) (seen new)
-  told_end old unwinds.Caught = refl
-  told_end old (unwinds.Init left) =
+  reported_end : (old : List StackFrame) (how : Unwound) → reported_of (unwound_reported imaged (seen old) (type_at (typed_of imaged) class) exception new how)
+      ≡ settled_reported (settled_by imaged h exceeded class exception how) (seen new)
+  reported_end old unwinds.Caught = refl
+  reported_end old (unwinds.Init left) =
       ends (is_stop imaged.prefix (type_at (typed_of imaged) class)) (outcomes.Init (class_name_at (program_of imaged) left) (member_class imaged.prefix (type_at (typed_of imaged) class)) (message_of (typed_heap (types_of (typed_of imaged)) h) exception))
       ∙ (ap (λ (n : Name). Over (stopped_by (stopping imaged exceeded class) (outcomes.Init (class_name_at (program_of imaged) left) n (message_of (typed_heap (types_of (typed_of imaged)) h) exception))) s.account s.answers) (sym (named_by_type imaged class lt))
       ∙ ap (λ (m : Message). Over (stopped_by (stopping imaged exceeded class) (outcomes.Init (class_name_at (program_of imaged) left) (class_name_at (program_of imaged) class) m)) s.account s.answers) (message_alike (types_of (typed_of imaged)) h exception))
-  told_end old unwinds.Threw =
+  reported_end old unwinds.Threw =
       ends (is_stop imaged.prefix (type_at (typed_of imaged) class)) (outcomes.Threw (member_class imaged.prefix (type_at (typed_of imaged) class)) (message_of (typed_heap (types_of (typed_of imaged)) h) exception))
       ∙ (ap (λ (n : Name). Over (stopped_by (stopping imaged exceeded class) (outcomes.Threw n (message_of (typed_heap (types_of (typed_of imaged)) h) exception))) s.account s.answers) (sym (named_by_type imaged class lt))
       ∙ ap (λ (m : Message). Over (stopped_by (stopping imaged exceeded class) (outcomes.Threw (class_name_at (program_of imaged) class) m)) s.account s.answers) (message_alike (types_of (typed_of imaged)) h exception))
@@ -93,8 +93,8 @@ pub threw : (imaged : Imaged) (h : LimitedHeap) (exceeded : Option Charge) (clas
     → AreActivations imaged new → Settles imaged exceeded (throwing imaged exception) h h old new (settled_by imaged h exceeded class exception how)
 threw imaged h exceeded class exception old new how lt known is gone stand = record {
   answers = λ terms s limit charge.
-      ap (λ (ty : Ty). told_of (frames_unwound imaged (seen_in imaged h old s) ty exception old)) (class_there (types_of (typed_of imaged)) h exception class is)
-      ∙ (ap told_of (gone (seen_in imaged h old s)) ∙ told_end imaged h exceeded class exception lt new s charge old how);
+      ap (λ (ty : Ty). reported_of (frames_unwound imaged (seen_in imaged h old s) ty exception old)) (class_there (types_of (typed_of imaged)) h exception class is)
+      ∙ (ap reported_of (gone (seen_in imaged h old s)) ∙ reported_end imaged h exceeded class exception lt new s charge old how);
   limit = refl;
   known = known;
   stand = stand;
@@ -161,9 +161,9 @@ module _ (imaged : Imaged) (exceeded : Option Charge) (class fields : ℕ) (befo
       let number : next_number (heap_map type_of before.heap) ≡ r = number_alike type_of before.heap ∙ sym makes.number in
       record {
         answers = λ terms s limit charge.
-            ap told_of (answer_is terms s old false limit fits)
-            ∙ (ap (λ (h : Heap Ty). told_of (throw (program_of imaged) imaged.prefix (record (seen_in imaged before old s) { heap = h }) (next_number (heap_map type_of before.heap)))) heap
-            ∙ (ap (λ (n : ℕ). told_of (throw (program_of imaged) imaged.prefix (seen_in imaged after old s) n)) number
+            ap reported_of (answer_is terms s old false limit fits)
+            ∙ (ap (λ (h : Heap Ty). reported_of (throw (program_of imaged) imaged.prefix (record (seen_in imaged before old s) { heap = h }) (next_number (heap_map type_of before.heap)))) heap
+            ∙ (ap (λ (n : ℕ). reported_of (throw (program_of imaged) imaged.prefix (seen_in imaged after old s) n)) number
             ∙ settles.answers terms s (limit ∙ ap Some (sym limits)) charge));
         limit = limits;
         known = settles.known;
@@ -184,7 +184,7 @@ module _ (imaged : Imaged) (exceeded : Option Charge) (class fields : ℕ) (befo
       let past : nat_lt before.limit (before.heap.used + size) ≡ true = lt-ltb before.limit (before.heap.used + size) (omega (arith, refuses.2, sizes)) in
       subst (λ (h : LimitedHeap). Settles imaged exceeded (throwing_new imaged class fields) before h frames frames (settles.Ended (outcomes.HeapFull used bytes))) (sym same) (record {
         answers = λ terms s limit charge.
-            ap told_of (answer_is terms s frames true limit past)
+            ap reported_of (answer_is terms s frames true limit past)
             ∙ (ap (λ (n : ℕ). Over (outcomes.HeapFull n size) s.account s.answers) (sym refuses.0)
             ∙ ap (λ (n : ℕ). Over (outcomes.HeapFull used n) s.account s.answers) (sizes ∙ sym refuses.1));
         limit = refl;

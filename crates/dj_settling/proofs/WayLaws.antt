@@ -22,10 +22,10 @@ use Rattle.dj_activations.proofs.Standing.{same_stand}
 use Rattle.dj_unwinding.specs.Returns.{IsReturned}
 use Rattle.dj_unwinding.specs.declared.returning.Returned.TheVariants as returns
 use Rattle.std.specs.Prelude.{Result, Ok, Err, IfOk}
-use Rattle.dj_names.specs.declared.lists.NoMemory.{NoMemory}
+use Rattle.dj_bytes.specs.declared.memory.NoMemory.{NoMemory}
 use Rattle.dj_settling.specs.declared.settled.Settled.{Settled}
 use Rattle.dj_settling.specs.declared.settled.Settled.TheVariants as settles
-use Rattle.dj_settling.specs.Told.{On, Over, told_of}
+use Rattle.dj_settling.specs.Reported.{On, Over, reported_of}
 use Rattle.dj_settling.specs.Settling.{Settles, native_settled, raising, seen_in, throwing, throwing_stop, top_settled}
 
 module _ (imaged : Imaged) (exceeded : Option Charge) where
@@ -38,18 +38,18 @@ module _ (imaged : Imaged) (exceeded : Option Charge) where
       → AreKnown (types_of (typed_of imaged)) h → AreActivations imaged new
       → Settles imaged exceeded (top_settled (program_of imaged) imaged.prefix (Goes (Back value))) h h old new settles.Went
   unfolding settle
-  went_back h [] new value some told known stand = absurd (omega (arith, some))
-  went_back h (f ∷ below) new value some told known stand =
-      record { answers = λ terms s limit charge. ap told_of (told (seen_in imaged h (f ∷ below) s)); limit = refl; known = known; stand = stand }
+  went_back h [] new value some reported known stand = absurd (omega (arith, some))
+  went_back h (f ∷ below) new value some reported known stand =
+      record { answers = λ terms s limit charge. ap reported_of (reported (seen_in imaged h (f ∷ below) s)); limit = refl; known = known; stand = stand }
 
   pub last_ended : (h : LimitedHeap) (old new : List StackFrame) (value : Option Value) (outcome : Outcome) → 0 < length old → IsReturned (program_of imaged) old new value returns.Last
       → ((type_of : ℕ → Ty) → outcome ≡ result_outcome (heap_map type_of h.heap) value) → AreKnown (types_of (typed_of imaged)) h → AreActivations imaged new
       → Settles imaged exceeded (top_settled (program_of imaged) imaged.prefix (Goes (Back value))) h h old new (settles.Ended outcome)
   unfolding settle
-  last_ended h [] new value outcome some told is known stand = absurd (omega (arith, some))
-  last_ended h (f ∷ below) new value outcome some told is known stand = record {
+  last_ended h [] new value outcome some reported is known stand = absurd (omega (arith, some))
+  last_ended h (f ∷ below) new value outcome some reported is known stand = record {
     answers = λ terms s limit charge.
-        ap told_of (told (seen_in imaged h (f ∷ below) s))
+        ap reported_of (reported (seen_in imaged h (f ∷ below) s))
         ∙ ap (λ (o : Outcome). Over o s.account s.answers) (sym (is (numbered.type_at (types_of (typed_of imaged)))));
     limit = refl;
     known = known;
@@ -143,7 +143,7 @@ module _ (imaged : Imaged) (exceeded : Option Charge) where
       let moved : Settles imaged exceeded (top_settled (program_of imaged) imaged.prefix flow) before after old new result =
       subst (λ (f : Flow). Settles imaged exceeded (top_settled (program_of imaged) imaged.prefix f) before after old new result) is settles in
       record {
-        answers = λ terms s limit charge. ap told_of (native_is flow terms (seen_in imaged before old s)) ∙ moved.answers terms s limit charge;
+        answers = λ terms s limit charge. ap reported_of (native_is flow terms (seen_in imaged before old s)) ∙ moved.answers terms s limit charge;
         limit = moved.limit;
         known = moved.known;
         stand = moved.stand;
@@ -195,7 +195,7 @@ module _ (imaged : Imaged) (exceeded : Option Charge) where
 -- ---- what stands in the state in place of the frames doesn't matter
 
 way_alike : (program : Program) (prefix : Prefix) (terms : Terms) (s : State) (f : Frame Declared) (below : List (Frame Declared)) (way : Way)
-    → told_of (settle program prefix terms s f below (Goes way)) ≡ told_of (top_settled program prefix (Goes way) terms (record s { frames = f ∷ below }))
+    → reported_of (settle program prefix terms s f below (Goes way)) ≡ reported_of (top_settled program prefix (Goes way) terms (record s { frames = f ∷ below }))
 unfolding settle
 way_alike program prefix terms s f below Next = refl
 way_alike program prefix terms s f below (To number) = refl
@@ -204,7 +204,7 @@ way_alike program prefix terms s f [] (Back value) = refl
 way_alike program prefix terms s f (caller ∷ below) (Back value) = refl
 
 pub settled_alike : (program : Program) (prefix : Prefix) (terms : Terms) (s : State) (f : Frame Declared) (below : List (Frame Declared)) (flow : Flow)
-    → told_of (settle program prefix terms s f below flow) ≡ told_of (top_settled program prefix flow terms (record s { frames = f ∷ below }))
+    → reported_of (settle program prefix terms s f below flow) ≡ reported_of (top_settled program prefix flow terms (record s { frames = f ∷ below }))
 unfolding settle
 settled_alike program prefix terms s f below (Goes way) = way_alike program prefix terms s f below way
 settled_alike program prefix terms s f below (Catch exception) = refl

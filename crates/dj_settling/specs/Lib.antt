@@ -1,3 +1,3 @@
-pub mod Told
+pub mod Reported
 pub mod Settling
 pub mod Frugal

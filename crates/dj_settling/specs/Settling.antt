@@ -38,7 +38,7 @@ use Rattle.dj_unwinding.specs.declared.unwinding.Unwound.{Unwound}
 use Rattle.dj_unwinding.specs.declared.unwinding.Unwound.TheVariants as unwinds
 use Rattle.dj_settling.specs.declared.settled.Settled.{Settled}
 use Rattle.dj_settling.specs.declared.settled.Settled.TheVariants as settles
-use Rattle.dj_settling.specs.Told.{Told, On, Over, told_of}
+use Rattle.dj_settling.specs.Reported.{Reported, On, Over, reported_of}
 
 -- ---- what is answered
 
@@ -47,14 +47,14 @@ abbrev pub seen_in : Imaged → LimitedHeap → List StackFrame → State → St
 seen_in imaged heap frames s = record s { heap = typed_heap (types_of (typed_of imaged)) heap; frames = frames_seen (program_of imaged) frames }
 
 -- the run goes on in this state, or it has ended with this outcome
-abbrev pub settled_told : Settled → State → Told
-settled_told settles.Went s = On s
-settled_told (settles.Ended outcome) s = Over outcome s.account s.answers
+abbrev pub settled_reported : Settled → State → Reported
+settled_reported settles.Went s = On s
+settled_reported (settles.Ended outcome) s = Over outcome s.account s.answers
 
 -- what the model answers in each state with this heap and these frames, whose account has this charge as exceeded, and on terms of the heap's limit
 abbrev pub Answers : Imaged → Option Charge → (Terms → State → Answer) → LimitedHeap → LimitedHeap → List StackFrame → List StackFrame → Settled → Type 0
 Answers imaged exceeded answer before after old new result = (terms : Terms) (s : State) → terms.limit ≡ Some before.limit → s.account.exceeded ≡ exceeded
-    → told_of (answer terms (seen_in imaged before old s)) ≡ settled_told result (seen_in imaged after new s)
+    → reported_of (answer terms (seen_in imaged before old s)) ≡ settled_reported result (seen_in imaged after new s)
 
 -- the same, and what a machine has to know of the heap and the frames
 pub record Settles (imaged : Imaged) (exceeded : Option Charge) (answer : Terms → State → Answer) (before after : LimitedHeap) (old new : List StackFrame)

@@ -68,7 +68,7 @@ fn left_outcome(
 }
 
 // The name of a class.
-#[tactic(auto, using(crate::proofs::EndLaws::name_told, crate::proofs::EndLaws::type_within))]
+#[tactic(auto, using(crate::proofs::EndLaws::name_reported, crate::proofs::EndLaws::type_within))]
 fn class_name(alloc: Global, image: &Image, class: u32) -> Result<Name, NoMemory>
     requires { class < length (program_of image.now) }
     ensures { IfOk result (λ name. name ≡ class_name_at (program_of image.now) class) }

@@ -3,7 +3,7 @@ ghost use Rattle.dj_names.specs.declared.run.Charge as charges;
 ghost use Rattle.dj_model.specs.trusted.State.{Flow, Goes, Next};
 ghost use Rattle.dj_model.specs.Sound.{IsSound};
 ghost use Rattle.dj_stack.specs.Frames.{top_operands, top_room};
-ghost use Rattle.dj_calls.specs.Calls.{flow_told, given, stop_told};
+ghost use Rattle.dj_calls.specs.Calls.{flow_reported, given, stop_reported};
 ghost use Rattle.dj_calls.specs.Known.{AreKnown};
 ghost use Rattle.dj_types.specs.Typed.{types_of};
 ghost use Rattle.dj_image.specs.Imaged.{program_of, typed_of};
@@ -23,7 +23,7 @@ use dj_stack::Frames;
 use std::alloc::Global;
 
 /// What follows the answer of a native method, whose arguments were taken from the top frame.
-#[tactic(auto, using(crate::proofs::WayLaws::as_native, crate::proofs::WayLaws::as_given, crate::proofs::WayLaws::as_raised, crate::proofs::WayLaws::as_ended, crate::proofs::NativeLaws::told_before))]
+#[tactic(auto, using(crate::proofs::WayLaws::as_native, crate::proofs::WayLaws::as_given, crate::proofs::WayLaws::as_raised, crate::proofs::WayLaws::as_ended, crate::proofs::NativeLaws::reported_before))]
 pub fn settle_native(
     alloc: Global,
     image: &Image,
@@ -42,7 +42,7 @@ pub fn settle_native(
     requires known { AreKnown (types_of (typed_of image.now)) heap.old }
     requires is { IsStop image.now heap.old stop.old }
     requires expected { IsExpected image.now heap.old frames.old id args.now answer }
-    ensures settles { (flow : Flow) → flow_told id args.now answer ≡ Some flow
+    ensures settles { (flow : Flow) → flow_reported id args.now answer ≡ Some flow
         → IfOk result (λ settled. Settles image.now exceeded (native_settled (program_of image.now) image.now.prefix (given answer) flow) heap.old heap.new frames.old frames.new settled) }
     ensures is { IfOk result (λ _. KeepsStop image.now heap.new stop.old stop.new) }
 {
@@ -73,7 +73,7 @@ fn give(image: &Image, frames: &mut Frames, heap: &Heap, value: Value) -> Result
 }
 
 // The object that stops a run is thrown, which checkCatch was given.
-#[tactic(auto, using(crate::proofs::NativeLaws::again, crate::proofs::NativeLaws::rewritten, crate::proofs::NativeLaws::by_object, crate::proofs::NativeLaws::by_charge, crate::proofs::NativeLaws::told_now, crate::proofs::NativeLaws::told_before))]
+#[tactic(auto, using(crate::proofs::NativeLaws::again, crate::proofs::NativeLaws::rewritten, crate::proofs::NativeLaws::by_object, crate::proofs::NativeLaws::by_charge, crate::proofs::NativeLaws::reported_now, crate::proofs::NativeLaws::reported_before))]
 fn stop_by(
     alloc: Global,
     image: &Image,
@@ -91,7 +91,7 @@ fn stop_by(
     requires known { AreKnown (types_of (typed_of image.now)) heap.old }
     requires is { IsStop image.now heap.old stop.old }
     requires by { StopsBy image.now heap.old id args.now }
-    ensures settles { IfOk result (λ settled. Settles image.now exceeded (top_settled (program_of image.now) image.now.prefix (stop_told id args.now)) heap.old heap.new frames.old frames.new settled) }
+    ensures settles { IfOk result (λ settled. Settles image.now exceeded (top_settled (program_of image.now) image.now.prefix (stop_reported id args.now)) heap.old heap.new frames.old frames.new settled) }
     ensures is { IfOk result (λ _. KeepsStop image.now heap.new stop.old stop.new) }
 {
     match id {

@@ -104,7 +104,7 @@ fn stop_class(image: &Image) -> u32
 }
 
 // The object of this number, where it is kept, and else the first one of the class.
-#[tactic(auto, using(crate::proofs::StopLaws::told_is, crate::proofs::StopLaws::by_number))]
+#[tactic(auto, using(crate::proofs::StopLaws::reported_is, crate::proofs::StopLaws::by_number))]
 fn find(image: &Image, heap: &Heap, class: u32, stop: u32) -> Option<u32>
     requires known { AreKnown (types_of (typed_of image.now)) heap.now }
     requires class { Some class ≡ stop_at (typed_of image.now) }

@@ -91,46 +91,46 @@ module _ (code : Code) where
 
 -- ---- operands of types
 
-pub no_operands : (told : Option (List (Option Kind))) → told ≡ None → None ≡ option_and_then stack_of told
+pub no_operands : (reported : Option (List (Option Kind))) → reported ≡ None → None ≡ option_and_then stack_of reported
 no_operands None e = refl
 no_operands (Some more) e = absurd cc
 
-pub some_operands : (told : Option (List (Option Kind))) (more entries : List (Option Kind)) (stack : Option (List Kind)) → told ≡ Some more → entries ≡ [] ++ more → stack ≡ stack_of entries
-    → stack ≡ option_and_then stack_of told
+pub some_operands : (reported : Option (List (Option Kind))) (more entries : List (Option Kind)) (stack : Option (List Kind)) → reported ≡ Some more → entries ≡ [] ++ more → stack ≡ stack_of entries
+    → stack ≡ option_and_then stack_of reported
 some_operands None more entries stack e f g = absurd cc
 some_operands (Some own) more entries stack e f g = let same : own ≡ more = cc in g ∙ ap stack_of (f ∙ sym same)
 
 -- ---- forms
 
 -- of a form that keeps the local variables
-pub kept_change : (told : Option (List (Option Kind))) (stack : Option (List Kind)) (before : List (Option Kind)) → stack ≡ option_and_then stack_of told
-    → ChangesTo stack (with_stack before told) before
+pub kept_change : (reported : Option (List (Option Kind))) (stack : Option (List Kind)) (before : List (Option Kind)) → stack ≡ option_and_then stack_of reported
+    → ChangesTo stack (with_stack before reported) before
 kept_change None None before e = refl
 kept_change None (Some s) before e = absurd cc
 kept_change (Some own) None before e = sym e
 kept_change (Some own) (Some s) before e = (record { locals = before; stack = own }, refl, refl, sym e)
 
-pub appended : (told : Option (List (Option Kind))) (more before new : List (Option Kind)) → told ≡ Some more → new ≡ before ++ more → ChangesTo (Some []) (with_locals before told) new
+pub appended : (reported : Option (List (Option Kind))) (more before new : List (Option Kind)) → reported ≡ Some more → new ≡ before ++ more → ChangesTo (Some []) (with_locals before reported) new
 appended None more before new e f = absurd cc
 appended (Some own) more before new e f =
     let same : own ≡ more = cc in
     (record { locals = before ++ own; stack = [] }, refl, ap (λ (l : List (Option Kind)). before ++ l) same ∙ sym f, refl)
 
-pub not_appended : (told : Option (List (Option Kind))) (before new : List (Option Kind)) → told ≡ None → ChangesTo None (with_locals before told) new
+pub not_appended : (reported : Option (List (Option Kind))) (before new : List (Option Kind)) → reported ≡ None → ChangesTo None (with_locals before reported) new
 not_appended None before new e = refl
 not_appended (Some own) before new e = absurd cc
 
-pub full : (locals told : Option (List (Option Kind))) (more new : List (Option Kind)) (stack : Option (List Kind)) → locals ≡ Some more → new ≡ [] ++ more → stack ≡ option_and_then stack_of told
-    → ChangesTo stack (full_entries locals told) new
-full None told more new stack e f g = absurd cc
+pub full : (locals reported : Option (List (Option Kind))) (more new : List (Option Kind)) (stack : Option (List Kind)) → locals ≡ Some more → new ≡ [] ++ more → stack ≡ option_and_then stack_of reported
+    → ChangesTo stack (full_entries locals reported) new
+full None reported more new stack e f g = absurd cc
 full (Some own) None more new None e f g = refl
 full (Some own) None more new (Some s) e f g = absurd cc
 full (Some own) (Some t) more new None e f g = sym g
 full (Some own) (Some t) more new (Some s) e f g = let same : own ≡ more = cc in (record { locals = own; stack = t }, refl, same ∙ sym f, sym g)
 
-pub not_full : (locals told : Option (List (Option Kind))) (new : List (Option Kind)) → locals ≡ None → ChangesTo None (full_entries locals told) new
-not_full None told new e = refl
-not_full (Some own) told new e = absurd cc
+pub not_full : (locals reported : Option (List (Option Kind))) (new : List (Option Kind)) → locals ≡ None → ChangesTo None (full_entries locals reported) new
+not_full None reported new e = refl
+not_full (Some own) reported new e = absurd cc
 
 pub chopped : (n : ℕ) (before new : List (Option Kind)) (stack : List Kind) → n ≤ length before → new ≡ take (length before - n) before → stack ≡ []
     → ChangesTo (Some stack) (if nat_le n (length before) then Some (record { locals = take (length before - n) before; stack = [] }) else None) new

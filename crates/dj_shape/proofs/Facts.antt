@@ -94,12 +94,12 @@ constants_and_members = refl
 abbrev ref_and_long : List (Option Kind)
 ref_and_long = Some Ref ∷ Some Long ∷ []
 
-abbrev locals_told : Entries → List (Option Kind)
-locals_told e = e.locals
+abbrev locals_reported : Entries → List (Option Kind)
+locals_reported e = e.locals
 
 -- the local variables that a frame declares which cuts this many of them
 abbrev chopped : List (Option Kind) → ℕ → Option (List (Option Kind))
-chopped before n = option_map locals_told (form_entries (room_for 4) before (forms.Chop n))
+chopped before n = option_map locals_reported (form_entries (room_for 4) before (forms.Chop n))
 
 -- a long is cut as one, though it takes two slots; and no more are cut than there are
 chop : map (chopped ref_and_long) (1 ∷ 2 ∷ 3 ∷ []) ++ map (chopped (Some Long ∷ Some Int ∷ Some Long ∷ [])) (1 ∷ 2 ∷ 3 ∷ [])

@@ -19,7 +19,7 @@ use Rattle.dj_model.specs.trusted.Kinds.{Kinds}
 use Rattle.dj_model.proofs.MappedNames.{either}
 use Rattle.dj_model.proofs.Flows.{either_way}
 use Rattle.dj_program.specs.trusted.Naming.{instruction_in, named_at}
-use Rattle.dj_shape.specs.Told.{ToldFrames, told_at}
+use Rattle.dj_shape.specs.Reported.{ReportedFrames, reported_at}
 use Rattle.dj_shape.specs.Flows.{FlowsToFrame}
 use Rattle.dj_shape.specs.Forms.{StoresAt, form_ends, FormFlows}
 use Rattle.dj_shape.specs.Passing.{IsRun, JumpsFlow}
@@ -199,19 +199,19 @@ ends_so pool (instrs.Multi index dims) = refl
 
 -- ---- jumps
 
-one_target : (left : Kinds) (frames : ToldFrames) (targets : List ℕ) (target : ℕ) → targets ≡ target ∷ [] → FlowsToFrame left (told_at frames target) → JumpsFlow left frames targets
+one_target : (left : Kinds) (frames : ReportedFrames) (targets : List ℕ) (target : ℕ) → targets ≡ target ∷ [] → FlowsToFrame left (reported_at frames target) → JumpsFlow left frames targets
 one_target left frames targets target e flow n there =
     let same : Contains (target ∷ []) n = subst (λ (l : List ℕ). Contains l n) e there in
     let at = at_contains (target ∷ []) n same in
     first at.0 at.1 where
-      first : (k : ℕ) → slice_get (target ∷ []) k ≡ Some n → FlowsToFrame left (told_at frames n)
-      first zero at = let s : target ≡ n = cc in subst (λ (x : ℕ). FlowsToFrame left (told_at frames x)) s flow
+      first : (k : ℕ) → slice_get (target ∷ []) k ≡ Some n → FlowsToFrame left (reported_at frames n)
+      first zero at = let s : target ≡ n = cc in subst (λ (x : ℕ). FlowsToFrame left (reported_at frames x)) s flow
       first (suc k) at = absurd cc
 
-from_one : (left : Kinds) (frames : ToldFrames) (targets : List ℕ) (target : ℕ) → targets ≡ target ∷ [] → JumpsFlow left frames targets → FlowsToFrame left (told_at frames target)
+from_one : (left : Kinds) (frames : ReportedFrames) (targets : List ℕ) (target : ℕ) → targets ≡ target ∷ [] → JumpsFlow left frames targets → FlowsToFrame left (reported_at frames target)
 from_one left frames targets target e flow = flow target (subst (λ (l : List ℕ). Contains l target) (sym e) (contains_at (target ∷ []) 0 target refl))
 
-none_flow : (left : Kinds) (frames : ToldFrames) (targets : List ℕ) → targets ≡ [] → JumpsFlow left frames targets
+none_flow : (left : Kinds) (frames : ReportedFrames) (targets : List ℕ) → targets ≡ [] → JumpsFlow left frames targets
 none_flow left frames targets e n there =
     let at = at_contains [] n (subst (λ (l : List ℕ). Contains l n) e there) in
     absurd (nothing at.0 at.1) where
@@ -241,27 +241,27 @@ all_at : {A : Type 0} (P : A → Type 0) (xs : List A) (k : ℕ) (x : A) → All
 all_at P xs k x all at = subst P (get_or_from_slice_get xs k x x at) (all k x (slice_get_within xs k x at))
 
 -- the default, and then the targets of all that are listed
-to_switch : {A : Type 0} (left : Kinds) (frames : ToldFrames) (f : A → ℕ) (xs : List A) (default : ℕ) (rest : List ℕ) → rest ≡ map f xs → FlowsToFrame left (told_at frames default)
-    → All (λ x. FlowsToFrame left (told_at frames (f x))) xs → JumpsFlow left frames (default ∷ rest)
+to_switch : {A : Type 0} (left : Kinds) (frames : ReportedFrames) (f : A → ℕ) (xs : List A) (default : ℕ) (rest : List ℕ) → rest ≡ map f xs → FlowsToFrame left (reported_at frames default)
+    → All (λ x. FlowsToFrame left (reported_at frames (f x))) xs → JumpsFlow left frames (default ∷ rest)
 to_switch {A} left frames f xs default rest e first all n there = let at = at_contains (default ∷ rest) n there in by at.0 at.1 where
-  by : (k : ℕ) → slice_get (default ∷ rest) k ≡ Some n → FlowsToFrame left (told_at frames n)
-  by zero at = let s : default ≡ n = cc in subst (λ (x : ℕ). FlowsToFrame left (told_at frames x)) s first
+  by : (k : ℕ) → slice_get (default ∷ rest) k ≡ Some n → FlowsToFrame left (reported_at frames n)
+  by zero at = let s : default ≡ n = cc in subst (λ (x : ℕ). FlowsToFrame left (reported_at frames x)) s first
   by (suc k) at =
       let each = each_of_map f xs n k (sym (ap (λ (l : List ℕ). slice_get l k) e) ∙ at) in
-      subst (λ (x : ℕ). FlowsToFrame left (told_at frames x)) each.2 (all_at (λ x. FlowsToFrame left (told_at frames (f x))) xs k each.0 all each.1)
+      subst (λ (x : ℕ). FlowsToFrame left (reported_at frames x)) each.2 (all_at (λ x. FlowsToFrame left (reported_at frames (f x))) xs k each.0 all each.1)
 
-from_switch : {A : Type 0} (left : Kinds) (frames : ToldFrames) (f : A → ℕ) (xs : List A) (default : ℕ) (rest : List ℕ) → rest ≡ map f xs → JumpsFlow left frames (default ∷ rest)
-    → FlowsToFrame left (told_at frames default) × All (λ x. FlowsToFrame left (told_at frames (f x))) xs
+from_switch : {A : Type 0} (left : Kinds) (frames : ReportedFrames) (f : A → ℕ) (xs : List A) (default : ℕ) (rest : List ℕ) → rest ≡ map f xs → JumpsFlow left frames (default ∷ rest)
+    → FlowsToFrame left (reported_at frames default) × All (λ x. FlowsToFrame left (reported_at frames (f x))) xs
 from_switch left frames f xs default rest e flow = (
   flow default (contains_at (default ∷ rest) 0 default refl),
   λ k d within. flow (f (get_or xs k d))
       (contains_at (default ∷ rest) (suc k) (f (get_or xs k d)) (ap (λ (l : List ℕ). slice_get l k) e ∙ at_map f xs k (get_or xs k d) (slice_get-get_or xs k d within))),
 )
 
-quiet_flow : (left : Kinds) (frames : ToldFrames) (targets : List ℕ) → targets ≡ [] → (⊤ → JumpsFlow left frames targets) × (JumpsFlow left frames targets → ⊤)
+quiet_flow : (left : Kinds) (frames : ReportedFrames) (targets : List ℕ) → targets ≡ [] → (⊤ → JumpsFlow left frames targets) × (JumpsFlow left frames targets → ⊤)
 quiet_flow left frames targets e = (λ t. none_flow left frames targets e, λ j. tt)
 
-same_flow : (left : Kinds) (frames : ToldFrames) (pool : List Constant) (instr : Instr) → IsRun (instruction_in pool instr)
+same_flow : (left : Kinds) (frames : ReportedFrames) (pool : List Constant) (instr : Instr) → IsRun (instruction_in pool instr)
     → (FormFlows left frames instr → JumpsFlow left frames (targets (instruction_in pool instr))) × (JumpsFlow left frames (targets (instruction_in pool instr)) → FormFlows left frames instr)
 unfolding instruction_of
 same_flow left frames pool (instrs.Simple op) run = quiet_flow left frames _ (simple_targets Nothing op)
@@ -290,6 +290,6 @@ same_flow left frames pool (instrs.Array base) run = quiet_flow left frames _ (a
 same_flow left frames pool (instrs.Multi index dims) run = quiet_flow left frames _ refl
 
 -- what is decided of the form is decided of the instruction
-pub jumps_so : (left : Kinds) (frames : ToldFrames) (pool : List Constant) (instr : Instr) (flows : Bool) → IsRun (instruction_in pool instr) → Decides flows (FormFlows left frames instr)
+pub jumps_so : (left : Kinds) (frames : ReportedFrames) (pool : List Constant) (instr : Instr) (flows : Bool) → IsRun (instruction_in pool instr) → Decides flows (FormFlows left frames instr)
     → Decides flows (JumpsFlow left frames (targets (instruction_in pool instr)))
 jumps_so left frames pool instr flows run d = let w = same_flow left frames pool instr run in (λ t. w.0 (d.0 t), λ j. d.1 (w.1 j))

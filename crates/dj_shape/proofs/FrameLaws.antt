@@ -9,8 +9,8 @@ use Rattle.dj_model.specs.trusted.Linking.{or_else}
 use Rattle.dj_model.specs.trusted.Program.{Code}
 use Rattle.dj_model.specs.trusted.Initialisation.{padded}
 use Rattle.dj_model.specs.trusted.Kinds.{Kinds, Entries, depth, entry_slots, stack_of, form_entries, fitting, with_fitting, with_frame, frames_after, Placed, Map, Read, Faulty, and_then, placed_at}
-use Rattle.dj_shape.specs.Told.{Told, ToldFrames, told_at, told_kinds, IsToldAs, AreTold, IsKept}
-use Rattle.dj_shape.specs.Reading.{ChangesTo, fits_of, TellsSome, with_all}
+use Rattle.dj_shape.specs.Reported.{Reported, ReportedFrames, reported_at, reported_kinds, IsReportedAs, AreReported, IsKept}
+use Rattle.dj_shape.specs.Reading.{ChangesTo, fits_of, SaysSome, with_all}
 
 -- ---- one frame
 
@@ -52,25 +52,25 @@ drop_at xs i x within at =
     drop-cons xs i x within ∙ ap (λ y. y ∷ drop (suc i) xs) (sym at) ∙ ap (λ (n : ℕ). x ∷ drop n xs) next
 
 module _ (code : Code) (old : List (Option Kind)) (form : Form) (stack : List Kind) (new : List (Option Kind)) (changes : ChangesTo (Some stack) (form_entries code old form) new) where
-  told_fit : fits_of code (form_entries code old form) ≡ fitting code new (Some stack)
-  told_fit =
+  reported_fit : fits_of code (form_entries code old form) ≡ fitting code new (Some stack)
+  reported_fit =
       ap (fits_of code) changes.1 ∙ ap (λ (s : Option (List Kind)). fitting code changes.0.locals s) changes.3 ∙ ap (λ (l : List (Option Kind)). fitting code l (Some stack)) changes.2
 
   pub many_read : code.max_locals < length (entry_slots new) → fits_of code (form_entries code old form) ≡ None
-  many_read many = told_fit ∙ many_locals code new stack many
+  many_read many = reported_fit ∙ many_locals code new stack many
 
   pub deep_read : code.max_stack < depth stack → fits_of code (form_entries code old form) ≡ None
-  deep_read deep = told_fit ∙ deep_stack code new stack deep
+  deep_read deep = reported_fit ∙ deep_stack code new stack deep
 
-  pub some_read : (told : Told) → told.locals ≡ entry_slots new → told.stack ≡ stack → length (entry_slots new) ≤ code.max_locals → depth stack ≤ code.max_stack
-      → TellsSome code (form_entries code old form) told new
-  some_read told l s few low = record {
+  pub some_read : (reported : Reported) → reported.locals ≡ entry_slots new → reported.stack ≡ stack → length (entry_slots new) ≤ code.max_locals → depth stack ≤ code.max_stack
+      → SaysSome code (form_entries code old form) reported new
+  some_read reported l s few low = record {
     entries = changes.0;
     are = changes.1;
     locals = changes.2;
     fit = ap (λ (x : Option (List Kind)). fitting code changes.0.locals x) changes.3 ∙ ap (λ (x : List (Option Kind)). fitting code x (Some stack)) changes.2 ∙ fit_by code new stack few low
         ∙ ap (λ (x : List (Option Kind)). Some (record { locals = padded code.max_locals x; stack = reverse stack })) (sym l)
-        ∙ ap (λ (x : List Kind). Some (record { locals = padded code.max_locals told.locals; stack = reverse x })) (sym s);
+        ∙ ap (λ (x : List Kind). Some (record { locals = padded code.max_locals reported.locals; stack = reverse x })) (sym s);
     slots = l;
     few = subst (λ (x : List (Option Kind)). length x ≤ code.max_locals) (sym l) few;
     low = subst (λ (x : List Kind). depth x ≤ code.max_stack) (sym s) low;
@@ -98,24 +98,24 @@ placed_more (q ∷ placed) p n = by (nat_eq q.at n) (placed_more placed p n) whe
   by true e = refl
   by false e = e
 
-told_more : (ms ml : ℕ) (a b : Option Told) (c : Option Kinds) (test : Bool) (t : Told) → IsToldAs ms ml a c → length t.locals ≤ ml → depth t.stack ≤ ms
-    → b ≡ or_else a (if test then Some t else None) → IsToldAs ms ml b (or_else c (if test then Some (told_kinds ml t) else None))
-told_more ms ml (Some own) b c test t is few low e =
-    subst (λ (x : Option Told). IsToldAs ms ml x (or_else c (if test then Some (told_kinds ml t) else None))) (sym e)
-    (ap (λ (x : Option Kinds). or_else x (if test then Some (told_kinds ml t) else None)) is.0, is.1, is.2)
-told_more ms ml None b c true t is few low e =
-    subst (λ (x : Option Told). IsToldAs ms ml x (or_else c (Some (told_kinds ml t)))) (sym e) (ap (λ (x : Option Kinds). or_else x (Some (told_kinds ml t))) is, few, low)
-told_more ms ml None b c false t is few low e =
-    subst (λ (x : Option Told). IsToldAs ms ml x (or_else c None)) (sym e) (ap (λ (x : Option Kinds). or_else x None) is)
+reported_more : (ms ml : ℕ) (a b : Option Reported) (c : Option Kinds) (test : Bool) (t : Reported) → IsReportedAs ms ml a c → length t.locals ≤ ml → depth t.stack ≤ ms
+    → b ≡ or_else a (if test then Some t else None) → IsReportedAs ms ml b (or_else c (if test then Some (reported_kinds ml t) else None))
+reported_more ms ml (Some own) b c test t is few low e =
+    subst (λ (x : Option Reported). IsReportedAs ms ml x (or_else c (if test then Some (reported_kinds ml t) else None))) (sym e)
+    (ap (λ (x : Option Kinds). or_else x (if test then Some (reported_kinds ml t) else None)) is.0, is.1, is.2)
+reported_more ms ml None b c true t is few low e =
+    subst (λ (x : Option Reported). IsReportedAs ms ml x (or_else c (Some (reported_kinds ml t)))) (sym e) (ap (λ (x : Option Kinds). or_else x (Some (reported_kinds ml t))) is, few, low)
+reported_more ms ml None b c false t is few low e =
+    subst (λ (x : Option Reported). IsReportedAs ms ml x (or_else c None)) (sym e) (ap (λ (x : Option Kinds). or_else x None) is)
 
 -- the frames after one that was read
-after_one : (code : Code) (cur : List (Option Kind)) (f : Frame) (rest : List Frame) (told : Told) (new : List (Option Kind)) → TellsSome code (form_entries code cur f.form) told new
-    → frames_after code cur (f ∷ rest) ≡ and_then (record { at = f.at; kinds = told_kinds code.max_locals told }) (frames_after code new rest)
+after_one : (code : Code) (cur : List (Option Kind)) (f : Frame) (rest : List Frame) (reported : Reported) (new : List (Option Kind)) → SaysSome code (form_entries code cur f.form) reported new
+    → frames_after code cur (f ∷ rest) ≡ and_then (record { at = f.at; kinds = reported_kinds code.max_locals reported }) (frames_after code new rest)
 unfolding frames_after
-after_one code cur f rest told new t =
+after_one code cur f rest reported new t =
     ap (λ (e : Option Entries). with_frame code f.at e (λ locals. frames_after code locals rest)) t.are
     ∙ ap (λ (k : Option Kinds). with_fitting f.at k (frames_after code t.entries.locals rest)) t.fit
-    ∙ ap (λ (l : List (Option Kind)). and_then (record { at = f.at; kinds = told_kinds code.max_locals told }) (frames_after code l rest)) t.locals
+    ∙ ap (λ (l : List (Option Kind)). and_then (record { at = f.at; kinds = reported_kinds code.max_locals reported }) (frames_after code l rest)) t.locals
 
 pub after_none : (code : Code) (cur : List (Option Kind)) (f : Frame) (rest : List Frame) → fits_of code (form_entries code cur f.form) ≡ None → frames_after code cur (f ∷ rest) ≡ Faulty f.at
 unfolding frames_after
@@ -128,14 +128,14 @@ pub after_end : (code : Code) (cur : List (Option Kind)) → frames_after code c
 unfolding frames_after
 after_end code cur = refl
 
-pub read_more : (code : Code) (whole : Map) (cur new : List (Option Kind)) (f : Frame) (all rest : List Frame) (told : Told) (old more : ToldFrames) → all ≡ f ∷ rest
-    → (placed : List Placed) × (whole ≡ with_all placed (frames_after code cur all)) × AreTold code.max_stack code.max_locals placed old
-    → TellsSome code (form_entries code cur f.form) told new → IsKept old more f.at told
-    → (placed : List Placed) × (whole ≡ with_all placed (frames_after code new rest)) × AreTold code.max_stack code.max_locals placed more
-read_more code whole cur new f all rest told old more e read t kept =
-    let p : Placed = record { at = f.at; kinds = told_kinds code.max_locals told } in (
+pub read_more : (code : Code) (whole : Map) (cur new : List (Option Kind)) (f : Frame) (all rest : List Frame) (reported : Reported) (old more : ReportedFrames) → all ≡ f ∷ rest
+    → (placed : List Placed) × (whole ≡ with_all placed (frames_after code cur all)) × AreReported code.max_stack code.max_locals placed old
+    → SaysSome code (form_entries code cur f.form) reported new → IsKept old more f.at reported
+    → (placed : List Placed) × (whole ≡ with_all placed (frames_after code new rest)) × AreReported code.max_stack code.max_locals placed more
+read_more code whole cur new f all rest reported old more e read t kept =
+    let p : Placed = record { at = f.at; kinds = reported_kinds code.max_locals reported } in (
       read.0 ++ p ∷ [],
-      read.1 ∙ ap (λ (l : List Frame). with_all read.0 (frames_after code cur l)) e ∙ ap (with_all read.0) (after_one code cur f rest told new t) ∙ all_more read.0 p (frames_after code new rest),
-      λ n. subst (IsToldAs code.max_stack code.max_locals (told_at more n)) (sym (placed_more read.0 p n))
-          (told_more code.max_stack code.max_locals (told_at old n) (told_at more n) (placed_at read.0 n) (nat_eq f.at n) told (read.2 n) t.few t.low (kept n)),
+      read.1 ∙ ap (λ (l : List Frame). with_all read.0 (frames_after code cur l)) e ∙ ap (with_all read.0) (after_one code cur f rest reported new t) ∙ all_more read.0 p (frames_after code new rest),
+      λ n. subst (IsReportedAs code.max_stack code.max_locals (reported_at more n)) (sym (placed_more read.0 p n))
+          (reported_more code.max_stack code.max_locals (reported_at old n) (reported_at more n) (placed_at read.0 n) (nat_eq f.at n) reported (read.2 n) t.few t.low (kept n)),
     )

@@ -11,8 +11,8 @@ use Rattle.dj_shape.specs.declared.needs.Need.{Need}
 use Rattle.dj_shape.specs.declared.needs.Changed.{Changed}
 use Rattle.dj_shape.specs.declared.handlers.Handlers.{Handlers}
 use Rattle.dj_shape.specs.Needs.{need_at, raised, MissesOne, AreSame}
-use Rattle.dj_shape.specs.Told.{Told, ToldFrames, told_at}
-use Rattle.dj_shape.specs.Handlers.{Tells, Handled, AreRising, Begun, MeetAll, AsksNothing, Asks, Lacks, Begins, IsKnownBut, Enters}
+use Rattle.dj_shape.specs.Reported.{Reported, ReportedFrames, reported_at}
+use Rattle.dj_shape.specs.Handlers.{Says, Handled, AreRising, Begun, MeetAll, AsksNothing, Asks, Lacks, Begins, IsKnownBut, Enters}
 use Rattle.dj_shape.proofs.Slots.{at_padded}
 
 pub rising_from : (rows : List Protected) → IsNonDecreasingBy (λ (row : Protected). row.start) rows → AreRising rows
@@ -45,13 +45,13 @@ none_later rows number next all k r most at_k = let within : k < length rows = s
 
 -- ---- before an instruction
 
-module _ (frames : ToldFrames) (rows : List Protected) (number : ℕ) (locals : List (Option Kind)) where
-  told_kind : (row : Protected) (told : Told) (slot : ℕ) (kind : Kind) → told_at frames row.handler ≡ Some told → Tells frames row slot kind
-      → local_at told.locals slot ≡ Some kind
-  told_kind row told slot kind at t =
-      let s : Some t.told ≡ Some told = sym t.at ∙ at in
-      let same : t.told ≡ told = cc in
-      subst (λ (x : Told). local_at x.locals slot ≡ Some kind) same t.tells
+module _ (frames : ReportedFrames) (rows : List Protected) (number : ℕ) (locals : List (Option Kind)) where
+  reported_kind : (row : Protected) (reported : Reported) (slot : ℕ) (kind : Kind) → reported_at frames row.handler ≡ Some reported → Says frames row slot kind
+      → local_at reported.locals slot ≡ Some kind
+  reported_kind row reported slot kind at t =
+      let s : Some t.reported ≡ Some reported = sym t.at ∙ at in
+      let same : t.reported ≡ reported = cc in
+      subst (λ (x : Reported). local_at x.locals slot ≡ Some kind) same t.says
 
   -- a local variable lacks what is needed of it: so it lacks what a handler asks
   pub missed : (next : ℕ) (needs : List Need) → Begun frames rows number next needs → MissesOne needs number locals → Handled rows frames number locals → ⊥
@@ -64,7 +64,7 @@ module _ (frames : ToldFrames) (rows : List Protected) (number : ℕ) (locals : 
   pub lacked : (k : ℕ) (row : Protected) → slice_get rows k ≡ Some row → row.start ≤ number → number ≤ row.start → Lacks frames row locals
       → Handled rows frames number locals → ⊥
   lacked k row at from to lacks handled =
-      lacks.none (λ slot kind t. handled k row slot kind at from (let some = lacks.some in omega arith) (record { told = lacks.told; at = lacks.at; tells = t }))
+      lacks.none (λ slot kind t. handled k row slot kind at from (let some = lacks.some in omega arith) (record { reported = lacks.reported; at = lacks.at; says = t }))
 
   -- ranges that begin later are none of those that the instruction is in
   pub all_handled : (next : ℕ) (needs : List Need) → Begun frames rows number next needs → MeetAll needs number locals
@@ -110,24 +110,24 @@ module _ (frames : ToldFrames) (rows : List Protected) (number : ℕ) (locals : 
         real = λ slot short.
             let before : number < (need_at old slot).until = subst (λ (n : Need). number < n.until) (same slot) short in
             let real = begun.real slot before in
-            (real.0, real.1, (let less = real.2 in omega arith), real.3, real.4 ∙ ap (λ (n : Need). n.until) (sym (same slot)), subst (λ (n : Need). Tells frames real.1 slot n.kind) (sym (same slot)) real.5);
+            (real.0, real.1, (let less = real.2 in omega arith), real.3, real.4 ∙ ap (λ (n : Need). n.until) (sym (same slot)), subst (λ (n : Need). Says frames real.1 slot n.kind) (sym (same slot)) real.5);
       },
       λ slot. subst (λ (n : Need). number < n.until → local_at locals slot ≡ Some n.kind) (sym (same slot)) (meet slot),
     ) where
-      none : (r : Protected) (kind : Kind) (slot : ℕ) → r ≡ row → number < r.end → Tells frames r slot kind → AsksNothing frames row → ⊥
+      none : (r : Protected) (kind : Kind) (slot : ℕ) → r ≡ row → number < r.end → Says frames r slot kind → AsksNothing frames row → ⊥
       none r kind slot e within t (inl short) = let w : number < row.end = subst (λ (x : Protected). number < x.end) e within in omega arith
       none r kind slot e within t (inr missing) =
-          let s : Some t.told ≡ None = sym t.at ∙ ap (λ (x : Protected). told_at frames x.handler) e ∙ missing in
+          let s : Some t.reported ≡ None = sym t.at ∙ ap (λ (x : Protected). reported_at frames x.handler) e ∙ missing in
           absurd cc
 
     -- it asks what the local variables have
     module _ (begun : Begun frames rows number next old) (meet : MeetAll old number locals) (at : slice_get rows next ≡ Some row) (from : row.start ≤ number) (asks : Asks frames row locals old new) where
-      abbrev told_in : ℕ → Option Kind
-      told_in slot = local_at asks.told.locals slot
+      abbrev reported_in : ℕ → Option Kind
+      reported_in slot = local_at asks.reported.locals slot
 
-      asked_at : (told : Option Kind) (slot : ℕ) (kind : Kind) (end : ℕ) → told_in slot ≡ told → number < end
+      asked_at : (reported : Option Kind) (slot : ℕ) (kind : Kind) (end : ℕ) → reported_in slot ≡ reported → number < end
           → (end ≤ (need_at old slot).until) × ((need_at old slot).kind ≡ kind)
-          → (end ≤ (raised told row.end (need_at old slot)).until) × ((raised told row.end (need_at old slot)).kind ≡ kind)
+          → (end ≤ (raised reported row.end (need_at old slot)).until) × ((raised reported row.end (need_at old slot)).kind ≡ kind)
       asked_at None slot kind end e within before = before
       asked_at (Some k) slot kind end e within before =
           let here : local_at locals slot ≡ Some k = asks.flow slot k e in
@@ -137,21 +137,21 @@ module _ (frames : ToldFrames) (rows : List Protected) (number : ℕ) (locals : 
           let same : k ≡ (need_at old slot).kind = cc in
           (let b = before.0 in omega arith, same ∙ before.1)
 
-      own_at : (told : Option Kind) (slot : ℕ) (kind : Kind) → told_in slot ≡ told → told ≡ Some kind
-          → (row.end ≤ (raised told row.end (need_at old slot)).until) × ((raised told row.end (need_at old slot)).kind ≡ kind)
+      own_at : (reported : Option Kind) (slot : ℕ) (kind : Kind) → reported_in slot ≡ reported → reported ≡ Some kind
+          → (row.end ≤ (raised reported row.end (need_at old slot)).until) × ((raised reported row.end (need_at old slot)).kind ≡ kind)
       own_at None slot kind e t = absurd cc
       own_at (Some k) slot kind e t = let same : k ≡ kind = cc in (omega arith, same)
 
       abbrev RealAt : ℕ → Need → Type 0
-      RealAt slot need = (k : ℕ) × (r : Protected) × (k < next + 1) × (slice_get rows k ≡ Some r) × (r.end ≡ need.until) × Tells frames r slot need.kind
+      RealAt slot need = (k : ℕ) × (r : Protected) × (k < next + 1) × (slice_get rows k ≡ Some r) × (r.end ≡ need.until) × Says frames r slot need.kind
 
       old_real : (slot : ℕ) → number < (need_at old slot).until → RealAt slot (need_at old slot)
       old_real slot short =
           let real = begun.real slot short in
           (real.0, real.1, (let less = real.2 in omega arith), real.3, real.4, real.5)
 
-      real_at : (told : Option Kind) (slot : ℕ) → told_in slot ≡ told → number < (raised told row.end (need_at old slot)).until
-          → RealAt slot (raised told row.end (need_at old slot))
+      real_at : (reported : Option Kind) (slot : ℕ) → reported_in slot ≡ reported → number < (raised reported row.end (need_at old slot)).until
+          → RealAt slot (raised reported row.end (need_at old slot))
       real_at None slot e short = old_real slot short
       real_at (Some k) slot e short = elim (cases_lt row.end (need_at old slot).until) [
         | inl less ↦
@@ -161,12 +161,12 @@ module _ (frames : ToldFrames) (rows : List Protected) (number : ℕ) (locals : 
             let s : Some (need_at old slot).kind ≡ Some k = sym there ∙ here in
             let same : (need_at old slot).kind ≡ k = cc in
             let real = old_real slot before in
-            (real.0, real.1, real.2, real.3, (let u = real.4 in omega arith), subst (λ (x : Kind). Tells frames real.1 slot x) same real.5)
-        | inr most ↦ (next, row, omega arith, at, omega arith, record { told = asks.told; at = asks.at; tells = e })
+            (real.0, real.1, real.2, real.3, (let u = real.4 in omega arith), subst (λ (x : Kind). Says frames real.1 slot x) same real.5)
+        | inr most ↦ (next, row, omega arith, at, omega arith, record { reported = asks.reported; at = asks.at; says = e })
       ]
 
-      meets_at : (told : Option Kind) (slot : ℕ) → told_in slot ≡ told → number < (raised told row.end (need_at old slot)).until
-          → local_at locals slot ≡ Some (raised told row.end (need_at old slot)).kind
+      meets_at : (reported : Option Kind) (slot : ℕ) → reported_in slot ≡ reported → number < (raised reported row.end (need_at old slot)).until
+          → local_at locals slot ≡ Some (raised reported row.end (need_at old slot)).kind
       meets_at None slot e short = meet slot short
       meets_at (Some k) slot e short = asks.flow slot k e
 
@@ -176,16 +176,16 @@ module _ (frames : ToldFrames) (rows : List Protected) (number : ℕ) (locals : 
           behind = behind_more begun at from;
           ahead = λ k r most at_k. begun.ahead k r (omega arith) at_k;
           asked = λ k r slot kind less at_k within t. subst (λ (n : Need). (r.end ≤ n.until) × (n.kind ≡ kind)) (sym (asks.raised slot)) (elim (cases_lt k next) [
-            | inl below ↦ asked_at (told_in slot) slot kind r.end refl within (begun.asked k r slot kind below at_k within t)
+            | inl below ↦ asked_at (reported_in slot) slot kind r.end refl within (begun.asked k r slot kind below at_k within t)
             | inr above ↦
                 let same : r ≡ row = same_row rows next k row r at at_k (omega arith) in
-                let tells : Tells frames row slot kind = subst (λ (x : Protected). Tells frames x slot kind) same t in
-                let own = own_at (told_in slot) slot kind refl (told_kind row asks.told slot kind asks.at tells) in
+                let says : Says frames row slot kind = subst (λ (x : Protected). Says frames x slot kind) same t in
+                let own = own_at (reported_in slot) slot kind refl (reported_kind row asks.reported slot kind asks.at says) in
                 (let end : r.end ≡ row.end = ap (λ (x : Protected). x.end) same in let o = own.0 in omega arith, own.1)
           ]);
-          real = λ slot short. subst (RealAt slot) (sym (asks.raised slot)) (real_at (told_in slot) slot refl (subst (λ (n : Need). number < n.until) (asks.raised slot) short));
+          real = λ slot short. subst (RealAt slot) (sym (asks.raised slot)) (real_at (reported_in slot) slot refl (subst (λ (n : Need). number < n.until) (asks.raised slot) short));
         },
-        λ slot. subst (λ (n : Need). number < n.until → local_at locals slot ≡ Some n.kind) (sym (asks.raised slot)) (meets_at (told_in slot) slot refl),
+        λ slot. subst (λ (n : Need). number < n.until → local_at locals slot ≡ Some n.kind) (sym (asks.raised slot)) (meets_at (reported_in slot) slot refl),
       )
 
     pub begun_more : Begun frames rows number next old → MeetAll old number locals → slice_get rows next ≡ Some row → row.start ≤ number
@@ -195,10 +195,10 @@ module _ (frames : ToldFrames) (rows : List Protected) (number : ℕ) (locals : 
 
 -- ---- there are no ranges
 
-pub none_enter : (changed : Changed) (frames : ToldFrames) (number : ℕ) (locals : List (Option Kind)) (h : Handlers) → length h.rows.items ≡ 0
+pub none_enter : (changed : Changed) (frames : ReportedFrames) (number : ℕ) (locals : List (Option Kind)) (h : Handlers) → length h.rows.items ≡ 0
     → IsKnownBut changed frames number locals h → Enters true frames number locals h
 none_enter changed frames number locals h none known = (
-  λ k row slot kind at from to tells. absurd (nothing k row at),
+  λ k row slot kind at from to says. absurd (nothing k row at),
   record {
     rising = known.0.rising;
     begun = record {
@@ -215,7 +215,7 @@ none_enter changed frames number locals h none known = (
 
 -- ---- local variables of which those after the last aren't kept
 
-module _ (n : ℕ) (frames : ToldFrames) (number : ℕ) (few all : List (Option Kind)) (h : Handlers) (same : padded n few ≡ all) where
+module _ (n : ℕ) (frames : ReportedFrames) (number : ℕ) (few all : List (Option Kind)) (h : Handlers) (same : padded n few ≡ all) where
   at_same : (slot : ℕ) → local_at few slot ≡ local_at all slot
   at_same slot = sym (at_padded n few slot) ∙ ap (λ (l : List (Option Kind)). local_at l slot) same
 
@@ -224,5 +224,5 @@ module _ (n : ℕ) (frames : ToldFrames) (number : ℕ) (few all : List (Option 
 
   pub enters_with_all : (b : Bool) → Enters b frames number few h → Enters b frames number all h
   enters_with_all true enters =
-      (λ k row slot kind at from to tells. sym (at_same slot) ∙ enters.0 k row slot kind at from to tells, enters.1, λ slot short. sym (at_same slot) ∙ enters.2 slot short)
-  enters_with_all false fails = λ handled. fails (λ k row slot kind at from to tells. at_same slot ∙ handled k row slot kind at from to tells)
+      (λ k row slot kind at from to says. sym (at_same slot) ∙ enters.0 k row slot kind at from to says, enters.1, λ slot short. sym (at_same slot) ∙ enters.2 slot short)
+  enters_with_all false fails = λ handled. fails (λ k row slot kind at from to says. at_same slot ∙ handled k row slot kind at from to says)

@@ -27,10 +27,10 @@ use Rattle.dj_program.specs.trusted.Codes.{code_in, range_in}
 use Rattle.dj_program.specs.Views.{parts_of}
 use Rattle.dj_shape.specs.Kept.{KeptKinds}
 use Rattle.dj_shape.specs.Pools.{ArePoolKinds}
-use Rattle.dj_shape.specs.Told.{ToldFrames, AreTold}
+use Rattle.dj_shape.specs.Reported.{ReportedFrames, AreReported}
 use Rattle.dj_shape.specs.Reading.{made_as, frame_code, signature_with}
 use Rattle.dj_shape.specs.Passing.{Case, IsFirst}
-use Rattle.dj_shape.specs.Judging.{IsFaultOf, IsJudged, fault_told}
+use Rattle.dj_shape.specs.Judging.{IsFaultOf, IsJudged, fault_reported}
 use Rattle.dj_shape.specs.Rule.{IsShapeAnswer}
 
 -- ---- what frames depend on in the code: whether its instructions make objects, and its room
@@ -206,28 +206,28 @@ module _ (pool : List Constant) (m : MethodCode) (signature : Signature) (made :
   pub err_fault : (at : ℕ) → frames_after frame_own before list ≡ Faulty at → IsFaultOf signature code (Some at)
   err_fault at e = faulty_fault signature code list has_frames at fit (whole ∙ e)
 
-  pub ok_fault : (kinds : KeptKinds) (returned : Option Kind) (told : ToldFrames) (state : Standing) (fault : Option ℕ) → ArePoolKinds pool kinds → returned ≡ signature.result
+  pub ok_fault : (kinds : KeptKinds) (returned : Option Kind) (reported : ReportedFrames) (state : Standing) (fault : Option ℕ) → ArePoolKinds pool kinds → returned ≡ signature.result
       → HasRoomOf state code → state.kinds ≡ first_kinds signature code
-      → (placed : List Placed) × (frames_after frame_own before list ≡ Read placed) × AreTold m.max_stack m.max_locals placed told
-      → ((c : Case) → IsJudged kinds returned m told state c → IsFirst c fault) → IsFaultOf signature code fault
-  ok_fault kinds returned told state fault kept gives room first read judged =
+      → (placed : List Placed) × (frames_after frame_own before list ≡ Read placed) × AreReported m.max_stack m.max_locals placed reported
+      → ((c : Case) → IsJudged kinds returned m reported state c → IsFirst c fault) → IsFaultOf signature code fault
+  ok_fault kinds returned reported state fault kept gives room first read judged =
       let c : Case = record { pool = pool; signature = signature; code = code; placed = read.0 } in
       let parts = in_code pool m in
-      let told_so : AreTold code.max_stack code.max_locals read.0 told =
-      subst (λ (n : ℕ). AreTold n code.max_locals read.0 told) (sym parts.0) (subst (λ (n : ℕ). AreTold m.max_stack n read.0 told) (sym parts.1) read.2) in
+      let reported_so : AreReported code.max_stack code.max_locals read.0 reported =
+      subst (λ (n : ℕ). AreReported n code.max_locals read.0 reported) (sym parts.0) (subst (λ (n : ℕ). AreReported m.max_stack n read.0 reported) (sym parts.1) read.2) in
       read_fault signature code list has_frames c fault refl refl fit (whole ∙ read.1)
-      (judged c (record { kept = kept; gives = gives; instructions = parts.2; ranges = parts.3; told = told_so; room = room; first = first }))
+      (judged c (record { kept = kept; gives = gives; instructions = parts.2; ranges = parts.3; reported = reported_so; room = room; first = first }))
 
 pub none_so : {A : Type 0} (x : Option A) → x ≡ None → IsNone x
 none_so None e = refl
 none_so (Some x) e = absurd cc
 
 -- what is reported of code with a stack map
-pub answer_of : (signature : Signature) (code : Code) (fault : Option ℕ) → IsFaultOf signature code fault → IsShapeAnswer signature code (fault_told fault)
+pub answer_of : (signature : Signature) (code : Code) (fault : Option ℕ) → IsFaultOf signature code fault → IsShapeAnswer signature code (fault_reported fault)
 answer_of signature code None has = has
 answer_of signature code (Some number) fault = fault
 
 -- where the descriptor's kinds are kept, the signature is this
 pub answer_for : (static : Bool) (o : Option Signature) (call signature : Signature) (code : Code) (fault : Option ℕ) → o ≡ Some call → with_receiver static o ≡ Some signature
-    → IsFaultOf (signature_with static call) code fault → IsShapeAnswer signature code (fault_told fault)
+    → IsFaultOf (signature_with static call) code fault → IsShapeAnswer signature code (fault_reported fault)
 answer_for static o call signature code fault e f is = answer_of signature code fault (subst (λ (s : Signature). IsFaultOf s code fault) (one_call static o call signature e f) is)

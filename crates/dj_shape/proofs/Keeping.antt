@@ -60,8 +60,8 @@ kind_at zero (ofs.Class name) = refl
 kind_at (suc dims) (ofs.Base base) = refl
 kind_at (suc dims) (ofs.Class name) = refl
 
-pub field_told : (text : List ℕ) → IsFieldDescriptor text → field_kind (desc_in text) ≡ text_kind text
-field_told text is =
+pub field_reported : (text : List ℕ) → IsFieldDescriptor text → field_kind (desc_in text) ≡ text_kind text
+field_reported text is =
     ap field_kind (desc_in_is text (descs.Field is.0) is.1)
     ∙ sym (kind_at is.0.dims is.0.of)
     ∙ ap text_kind (sym is.1.text_is)

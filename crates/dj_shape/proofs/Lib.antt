@@ -4,7 +4,7 @@ pub mod Needing
 pub mod Handling
 pub mod States
 pub mod Works
-pub mod Told
+pub mod Reported
 pub mod Parts
 pub mod Steps
 pub mod Stepping

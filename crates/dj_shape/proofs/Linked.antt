@@ -20,10 +20,10 @@ use Rattle.dj_declared.specs.Members.{IsDescriptor}
 use Rattle.dj_program.specs.trusted.Naming.{member_from, member_in, named_or_another, named_by, named_at}
 use Rattle.dj_shape.specs.Kept.{KeptKinds}
 use Rattle.dj_shape.specs.Keeping.{text_kind, field_kept, method_kept, interface_method_kept, desc_index_at, kind_by, call_by, all_kinds, all_calls}
-use Rattle.dj_shape.specs.Pools.{call_at, TellsKind, ArePoolKinds}
+use Rattle.dj_shape.specs.Pools.{call_at, SaysKind, ArePoolKinds}
 use Rattle.dj_shape.specs.declared.pool.ConstantKind.{ConstantKind}
 use Rattle.dj_shape.specs.declared.pool.ConstantKind.TheVariants as constants
-use Rattle.dj_shape.proofs.Keeping.{desc_in_is, field_told}
+use Rattle.dj_shape.proofs.Keeping.{desc_in_is, field_reported}
 
 -- ---- each constant
 
@@ -149,71 +149,71 @@ none_empty : (desc : Desc) → Describes [] desc → ⊥
 none_empty (descs.Field ty) d = no_field ty.dims ty.of d.text_is
 none_empty (descs.Method params ret) d = let e : [] ≡ desc_text (descs.Method params ret) = d.text_is in absurd cc
 
-text_told : (text : List ℕ) → IsDescriptor text → call_signature (desc_in text) ≡ call_by (Utf8 text)
-text_told text is = ap (option_and_then call_signature) (sym (desc_again text (desc_in text) is))
+text_reported : (text : List ℕ) → IsDescriptor text → call_signature (desc_in text) ≡ call_by (Utf8 text)
+text_reported text is = ap (option_and_then call_signature) (sym (desc_again text (desc_in text) is))
 
-call_told : (k : Constant) → IsDescriptor (unwrap_or (text_of k) []) → call_signature (desc_in (unwrap_or (text_of k) [])) ≡ call_by k
-call_told (Utf8 text) is = text_told text is
-call_told k is = absurd (none_empty _ is)
+call_reported : (k : Constant) → IsDescriptor (unwrap_or (text_of k) []) → call_signature (desc_in (unwrap_or (text_of k) [])) ≡ call_by k
+call_reported (Utf8 text) is = text_reported text is
+call_reported k is = absurd (none_empty _ is)
 
 call_in : (ks : List Constant) (i : ℕ) → IsDescriptor (unwrap_or (option_and_then text_of (slice_get ks i)) [])
     → call_signature (desc_in (unwrap_or (option_and_then text_of (slice_get ks i)) [])) ≡ get_or (map call_by ks) i None
 call_in [] i is = absurd (none_empty _ is)
-call_in (k ∷ ks) zero is = call_told k is
+call_in (k ∷ ks) zero is = call_reported k is
 call_in (k ∷ ks) (suc i) is = call_in ks i is
 
-calls_told : (pool : List Constant) (index : ℕ) → IsDescriptor (name_in pool index) → call_signature (desc_in (name_in pool index)) ≡ call_at (all_calls pool) index
-calls_told pool zero is = absurd (none_empty _ is)
-calls_told pool (suc i) is = call_in pool i is
+calls_reported : (pool : List Constant) (index : ℕ) → IsDescriptor (name_in pool index) → call_signature (desc_in (name_in pool index)) ≡ call_at (all_calls pool) index
+calls_reported pool zero is = absurd (none_empty _ is)
+calls_reported pool (suc i) is = call_in pool i is
 
-method_told : (pool : List Constant) (index : ℕ) (text : List ℕ) → text_at pool index ≡ Some text → IsMethodDescriptor text → call_signature (desc_in text) ≡ call_at (all_calls pool) index
-method_told pool index text at is =
+method_reported : (pool : List Constant) (index : ℕ) (text : List ℕ) → text_at pool index ≡ Some text → IsMethodDescriptor text → call_signature (desc_in text) ≡ call_at (all_calls pool) index
+method_reported pool index text at is =
     let same : name_in pool index ≡ text = ap (λ (o : Option (List ℕ)). unwrap_or o []) at in
     let described : IsDescriptor text = subst (Describes text) (sym (desc_in_is text (descs.Method is.0 is.1) is.2)) is.2 in
-    ap (λ (t : List ℕ). call_signature (desc_in t)) (sym same) ∙ calls_told pool index (subst IsDescriptor (sym same) described)
+    ap (λ (t : List ℕ). call_signature (desc_in t)) (sym same) ∙ calls_reported pool index (subst IsDescriptor (sym same) described)
 
 -- ---- constants
 
-both_told : (calls : List (Option Signature)) (named named' : Named) (kind kind' : ConstantKind) → named ≡ named' → kind ≡ kind' → TellsKind calls named' kind' → TellsKind calls named kind
-both_told calls named named' kind kind' e f t =
-    subst (λ (k : ConstantKind). TellsKind calls named k) (sym f) (subst (λ (n : Named). TellsKind calls n kind') (sym e) t)
+both_reported : (calls : List (Option Signature)) (named named' : Named) (kind kind' : ConstantKind) → named ≡ named' → kind ≡ kind' → SaysKind calls named' kind' → SaysKind calls named kind
+both_reported calls named named' kind kind' e f t =
+    subst (λ (k : ConstantKind). SaysKind calls named k) (sym f) (subst (λ (n : Named). SaysKind calls n kind') (sym e) t)
 
-told : (pool : List Constant) (k : Constant) → IsPool pool → IsLinked pool k → TellsKind (all_calls pool) (named_by pool k) (kind_by pool k)
+reported : (pool : List Constant) (k : Constant) → IsPool pool → IsLinked pool k → SaysKind (all_calls pool) (named_by pool k) (kind_by pool k)
 unfolding named_by
-told pool (Integer n) valid is = tt
-told pool (Long n) valid is = tt
-told pool (Text index) valid is = tt
-told pool (Class index) valid is = tt
-told pool (Field class names) valid is =
+reported pool (Integer n) valid is = tt
+reported pool (Long n) valid is = tt
+reported pool (Text index) valid is = tt
+reported pool (Class index) valid is = tt
+reported pool (Field class names) valid is =
     let f = found pool class names IsFieldDescriptor valid is.0 is.1 in
-    both_told (all_calls pool) _ (AField f.place) _ (constants.Field (text_kind f.text))
+    both_reported (all_calls pool) _ (AField f.place) _ (constants.Field (text_kind f.text))
     (ap (λ (o : Option Member). named_or_another (option_map AField o)) f.member) (ap field_kept f.desc)
-    (ap field_kind f.described ∙ field_told f.text f.such)
-told pool (Method class names) valid is =
+    (ap field_kind f.described ∙ field_reported f.text f.such)
+reported pool (Method class names) valid is =
     let f = found pool class names IsMethodDescriptor valid is.0 is.1 in
-    both_told (all_calls pool) _ (AMethod f.place) _ (constants.Method f.index)
+    both_reported (all_calls pool) _ (AMethod f.place) _ (constants.Method f.index)
     (ap (λ (o : Option Member). named_or_another (option_map AMethod o)) f.member) (ap method_kept f.indexes)
-    (ap call_signature f.described ∙ method_told pool f.index f.text f.at f.such)
-told pool (InterfaceMethod class names) valid is =
+    (ap call_signature f.described ∙ method_reported pool f.index f.text f.at f.such)
+reported pool (InterfaceMethod class names) valid is =
     let f = found pool class names IsMethodDescriptor valid is.0 is.1 in
-    both_told (all_calls pool) _ (AnInterfaceMethod f.place) _ (constants.InterfaceMethod f.index)
+    both_reported (all_calls pool) _ (AnInterfaceMethod f.place) _ (constants.InterfaceMethod f.index)
     (ap (λ (o : Option Member). named_or_another (option_map AnInterfaceMethod o)) f.member) (ap interface_method_kept f.indexes)
-    (ap call_signature f.described ∙ method_told pool f.index f.text f.at f.such)
-told pool k valid is = tt
+    (ap call_signature f.described ∙ method_reported pool f.index f.text f.at f.such)
+reported pool k valid is = tt
 
-told_in : (pool ks : List Constant) (i : ℕ) → ((k : Constant) → slice_get ks i ≡ Some k → TellsKind (all_calls pool) (named_by pool k) (kind_by pool k))
-    → TellsKind (all_calls pool) (named_or_another (option_map (named_by pool) (slice_get ks i))) (get_or (map (kind_by pool) ks) i constants.Other)
-told_in pool [] i each = tt
-told_in pool (k ∷ ks) zero each = each k refl
-told_in pool (k ∷ ks) (suc i) each = told_in pool ks i each
+reported_in : (pool ks : List Constant) (i : ℕ) → ((k : Constant) → slice_get ks i ≡ Some k → SaysKind (all_calls pool) (named_by pool k) (kind_by pool k))
+    → SaysKind (all_calls pool) (named_or_another (option_map (named_by pool) (slice_get ks i))) (get_or (map (kind_by pool) ks) i constants.Other)
+reported_in pool [] i each = tt
+reported_in pool (k ∷ ks) zero each = each k refl
+reported_in pool (k ∷ ks) (suc i) each = reported_in pool ks i each
 
-each_told : (pool : List Constant) → IsPool pool → (index : ℕ) → TellsKind (all_calls pool) (named_at pool index) (get_or (all_kinds pool pool) index constants.Other)
-each_told pool valid zero = tt
-each_told pool valid (suc i) = told_in pool pool i (λ k at. told pool k valid (linked pool i k valid at))
+each_reported : (pool : List Constant) → IsPool pool → (index : ℕ) → SaysKind (all_calls pool) (named_at pool index) (get_or (all_kinds pool pool) index constants.Other)
+each_reported pool valid zero = tt
+each_reported pool valid (suc i) = reported_in pool pool i (λ k at. reported pool k valid (linked pool i k valid at))
 
-pub kept_told : (pool : List Constant) (kinds : KeptKinds) → IsPool pool → kinds.constants ≡ all_kinds pool pool → kinds.calls ≡ all_calls pool → ArePoolKinds pool kinds
-kept_told pool kinds valid constants_are calls_are = record {
-  each = λ index. subst (λ (ks : List ConstantKind). TellsKind kinds.calls (named_at pool index) (get_or ks index constants.Other)) (sym constants_are)
-      (subst (λ (calls : List (Option Signature)). TellsKind calls (named_at pool index) (get_or (all_kinds pool pool) index constants.Other)) (sym calls_are) (each_told pool valid index));
-  calls = λ index is. calls_told pool index is ∙ ap (λ (calls : List (Option Signature)). call_at calls index) (sym calls_are);
+pub kept_reported : (pool : List Constant) (kinds : KeptKinds) → IsPool pool → kinds.constants ≡ all_kinds pool pool → kinds.calls ≡ all_calls pool → ArePoolKinds pool kinds
+kept_reported pool kinds valid constants_are calls_are = record {
+  each = λ index. subst (λ (ks : List ConstantKind). SaysKind kinds.calls (named_at pool index) (get_or ks index constants.Other)) (sym constants_are)
+      (subst (λ (calls : List (Option Signature)). SaysKind calls (named_at pool index) (get_or (all_kinds pool pool) index constants.Other)) (sym calls_are) (each_reported pool valid index));
+  calls = λ index is. calls_reported pool index is ∙ ap (λ (calls : List (Option Signature)). call_at calls index) (sym calls_are);
 }

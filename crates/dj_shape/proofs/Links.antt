@@ -2,7 +2,7 @@
 use Rattle.std.proofs.Common.{◌≡◌, ℕ, zero, suc, ◌+◌, ◌-◌, ◌<◌, ◌≤◌, ◌⊎◌, List, [], ◌∷◌, ◌++◌, length, length-append, append_assoc, Option, Some, None, slice_get, refl, sym, ap, subst, ◌∙◌, inl, inr, arith}
 use Rattle.dj_names.specs.declared.descriptor.Kind.{Kind}
 use Rattle.dj_shape.specs.declared.arena.Slot.{Slot}
-use Rattle.dj_shape.specs.declared.arena.Place.{Place}
+use Rattle.dj_shape.specs.declared.arena.LocalsPlace.{LocalsPlace}
 use Rattle.dj_shape.specs.Arena.{slot_at, with_slot, slots_within, slots_at, AreLinked, IsIn, IsAt, Extends}
 
 -- ---- lists with one more, or more
@@ -109,23 +109,23 @@ extends_more a b c (x, e) (y, f) = (x ++ y, f ∙ ap (λ (l : List Slot). l ++ y
 
 -- ---- places
 
-pub at_in : (slots : List Slot) (place : Place) (locals : List (Option Kind)) → IsAt slots place locals → IsIn slots place
+pub at_in : (slots : List Slot) (place : LocalsPlace) (locals : List (Option Kind)) → IsAt slots place locals → IsIn slots place
 at_in slots place locals at = (at.within, at.count ∙ sym (ap length at.are))
 
-pub in_grown : (old new : List Slot) → AreLinked old → Extends old new → (place : Place) → IsIn old place → IsIn new place
+pub in_grown : (old new : List Slot) → AreLinked old → Extends old new → (place : LocalsPlace) → IsIn old place → IsIn new place
 in_grown old new linked grows place is =
     let more = grown_length old new grows in
     let within = is.0 in
     (omega arith, is.1 ∙ sym (ap length (grown_slots old new linked grows place.end is.0)))
 
-pub at_grown : (old new : List Slot) → AreLinked old → Extends old new → (place : Place) (locals : List (Option Kind)) → IsAt old place locals → IsAt new place locals
+pub at_grown : (old new : List Slot) → AreLinked old → Extends old new → (place : LocalsPlace) (locals : List (Option Kind)) → IsAt old place locals → IsAt new place locals
 at_grown old new linked grows place locals at =
     let more = grown_length old new grows in
     let within = at.within in
     record { within = omega arith; are = grown_slots old new linked grows place.end at.within ∙ at.are; count = at.count }
 
 -- a local variable more, above those of a place
-pub one_more : (slots new : List Slot) (place : Place) (kind : Option Kind) (end : ℕ) → AreLinked slots → IsIn slots place → new ≡ slots ++ record { kind = kind; before = place.end } ∷ []
+pub one_more : (slots new : List Slot) (place : LocalsPlace) (kind : Option Kind) (end : ℕ) → AreLinked slots → IsIn slots place → new ≡ slots ++ record { kind = kind; before = place.end } ∷ []
     → end ≡ length slots + 1 → IsAt new (record { end = end; count = place.count + 1 }) (slots_at slots place.end ++ kind ∷ [])
 one_more slots new place kind end linked is e f =
     let slot : Slot = record { kind = kind; before = place.end } in
@@ -143,14 +143,14 @@ one_more slots new place kind end linked is e f =
     }
 
 -- one less
-pub one_less : (slots : List Slot) → AreLinked slots → (place : Place) (slot : Slot) → IsIn slots place → slot_at slots place.end ≡ Some slot
+pub one_less : (slots : List Slot) → AreLinked slots → (place : LocalsPlace) (slot : Slot) → IsIn slots place → slot_at slots place.end ≡ Some slot
     → place.count ≡ length (slots_at slots slot.before) + 1
 one_less slots linked place slot is at =
     let count = is.1 in
     let e = ap length (slots_above slots linked place.end slot at) in
     omega (arith, length-append (slots_at slots slot.before) (slot.kind ∷ []))
 
-pub before_within : (slots : List Slot) → AreLinked slots → (place : Place) (slot : Slot) → IsIn slots place → slot_at slots place.end ≡ Some slot → slot.before ≤ length slots
+pub before_within : (slots : List Slot) → AreLinked slots → (place : LocalsPlace) (slot : Slot) → IsIn slots place → slot_at slots place.end ≡ Some slot → slot.before ≤ length slots
 before_within slots linked place slot is at =
     let less : slot.before < place.end = linked place.end slot at in
     let within = is.0 in

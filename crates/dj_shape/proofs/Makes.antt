@@ -16,7 +16,7 @@ use Rattle.dj_model.proofs.MappedNames.{either}
 use Rattle.dj_model.proofs.Flows.{either_way}
 use Rattle.dj_program.specs.trusted.Naming.{instruction_in, named_at}
 use Rattle.dj_shape.specs.Kept.{KeptKinds}
-use Rattle.dj_shape.specs.Pools.{ArePoolKinds, TellsKind}
+use Rattle.dj_shape.specs.Pools.{ArePoolKinds, SaysKind}
 use Rattle.dj_shape.specs.Makes.{is_class, form_makes}
 use Rattle.dj_shape.specs.declared.pool.ConstantKind.{ConstantKind}
 use Rattle.dj_shape.specs.declared.pool.ConstantKind.TheVariants as constants
@@ -80,7 +80,7 @@ and_false : (b : Bool) → (b && false) ≡ false
 and_false true = refl
 and_false false = refl
 
-class_makes : (calls : List (Option Signature)) (op : ℕ) (named : Named) (kind : ConstantKind) → TellsKind calls named kind
+class_makes : (calls : List (Option Signature)) (op : ℕ) (named : Named) (kind : ConstantKind) → SaysKind calls named kind
     → (nat_eq op 187 && is_class kind) ≡ makes_uninitialised (class_use op named)
 class_makes calls op (AClass class) constants.Class t = elim (either (nat_eq op 187)) [
   | inl a ↦ rw a refl

@@ -27,30 +27,30 @@ length_more (y ∷ needs) x = let e = length_more needs x in omega arith
 -- ---- the local variables of a frame, from the last on
 
 -- with one local variable more, whose kind is known or isn't
-module _ (told rest new done : List (Option Kind)) (x : Option Kind) (end : ℕ) (old needs more : List Need) (split : told ≡ rest ++ done) (last : rest ≡ new ++ x ∷ []) (here : need_at more (length new) ≡ raised x end (need_at needs (length new))) (others : (slot : ℕ) → (slot ≡ length new → ⊥) → need_at more slot ≡ need_at needs slot) where
-  pub raised_above : ((slot : ℕ) → length rest ≤ slot → need_at needs slot ≡ raised (local_at told slot) end (need_at old slot))
+module _ (reported rest new done : List (Option Kind)) (x : Option Kind) (end : ℕ) (old needs more : List Need) (split : reported ≡ rest ++ done) (last : rest ≡ new ++ x ∷ []) (here : need_at more (length new) ≡ raised x end (need_at needs (length new))) (others : (slot : ℕ) → (slot ≡ length new → ⊥) → need_at more slot ≡ need_at needs slot) where
+  pub raised_above : ((slot : ℕ) → length rest ≤ slot → need_at needs slot ≡ raised (local_at reported slot) end (need_at old slot))
       → ((slot : ℕ) → slot < length rest → need_at needs slot ≡ need_at old slot)
-      → (slot : ℕ) → length new ≤ slot → need_at more slot ≡ raised (local_at told slot) end (need_at old slot)
+      → (slot : ℕ) → length new ≤ slot → need_at more slot ≡ raised (local_at reported slot) end (need_at old slot)
   raised_above above below slot most = elim (cases_lt (length new) slot) [
     | inl less ↦ let count = one_shorter rest new x last in others slot (omega arith) ∙ above slot (omega arith)
     | inr least ↦
         let same : length new ≡ slot = omega arith in
         let count = one_shorter rest new x last in
-        let own : need_at more (length new) ≡ raised (local_at told (length new)) end (need_at old (length new)) =
+        let own : need_at more (length new) ≡ raised (local_at reported (length new)) end (need_at old (length new)) =
         here ∙ ap (λ (n : Need). raised x end n) (below (length new) (omega arith))
-        ∙ ap (λ (k : Option Kind). raised k end (need_at old (length new))) (sym (at_last told rest new done x split last)) in
-        subst (λ (n : ℕ). need_at more n ≡ raised (local_at told n) end (need_at old n)) same own
+        ∙ ap (λ (k : Option Kind). raised k end (need_at old (length new))) (sym (at_last reported rest new done x split last)) in
+        subst (λ (n : ℕ). need_at more n ≡ raised (local_at reported n) end (need_at old n)) same own
   ]
 
   pub same_below : ((slot : ℕ) → slot < length rest → need_at needs slot ≡ need_at old slot) → (slot : ℕ) → slot < length new → need_at more slot ≡ need_at old slot
   same_below below slot less = let count = one_shorter rest new x last in others slot (omega arith) ∙ below slot (omega arith)
 
-pub none_above : (told : List (Option Kind)) (end : ℕ) (needs : List Need) (slot : ℕ) → length told ≤ slot → need_at needs slot ≡ raised (local_at told slot) end (need_at needs slot)
-none_above told end needs slot past = ap (λ (k : Option Kind). raised k end (need_at needs slot)) (sym (at_past told slot past))
+pub none_above : (reported : List (Option Kind)) (end : ℕ) (needs : List Need) (slot : ℕ) → length reported ≤ slot → need_at needs slot ≡ raised (local_at reported slot) end (need_at needs slot)
+none_above reported end needs slot past = ap (λ (k : Option Kind). raised k end (need_at needs slot)) (sym (at_past reported slot past))
 
-pub raised_all : (told rest : List (Option Kind)) (end : ℕ) (old needs : List Need) → rest ≡ []
-    → ((slot : ℕ) → length rest ≤ slot → need_at needs slot ≡ raised (local_at told slot) end (need_at old slot)) → AreRaised told end old needs
-raised_all told rest end old needs e above slot = let count = ap length e in above slot (omega arith)
+pub raised_all : (reported rest : List (Option Kind)) (end : ℕ) (old needs : List Need) → rest ≡ []
+    → ((slot : ℕ) → length rest ≤ slot → need_at needs slot ≡ raised (local_at reported slot) end (need_at old slot)) → AreRaised reported end old needs
+raised_all reported rest end old needs e above slot = let count = ap length e in above slot (omega arith)
 
 -- ---- what was kept and what changed
 

@@ -15,11 +15,11 @@ use Rattle.dj_model.specs.trusted.Values.{local_at}
 use Rattle.dj_model.specs.trusted.Initialisation.{padded}
 use Rattle.dj_model.specs.trusted.Kinds.{Kinds, Placed, placed_at}
 use Rattle.dj_model.specs.trusted.Shape.{flows_to, flows_to_frame, locals_flow_to, is_handler_frame, covers}
-use Rattle.dj_shape.specs.Told.{Told, ToldFrames, told_at, told_kinds, IsToldAs, AreTold}
+use Rattle.dj_shape.specs.Reported.{Reported, ReportedFrames, reported_at, reported_kinds, IsReportedAs, AreReported}
 use Rattle.dj_shape.specs.Flows.{FlowsTo, FlowsToFrame}
-use Rattle.dj_shape.specs.Handlers.{Tells, Handled}
+use Rattle.dj_shape.specs.Handlers.{Says, Handled}
 use Rattle.dj_shape.specs.Passing.{HasHandlerFrame, JumpsFlow}
-use Rattle.dj_shape.proofs.Slots.{from_flows, to_flows, from_flow, to_flow, told_padded, unpadded_flow, same_stacks, stack_itself, reverse_injects}
+use Rattle.dj_shape.proofs.Slots.{from_flows, to_flows, from_flow, to_flow, reported_padded, unpadded_flow, same_stacks, stack_itself, reverse_injects}
 
 -- ---- each of a list
 
@@ -85,65 +85,65 @@ from_or false b t f = t
 -- ---- a frame
 
 module _ (max_stack max_locals : ℕ) where
-  to_flows_to : (left : Kinds) (told : Option Told) (placed : Option Kinds) → IsToldAs max_stack max_locals told placed → FlowsTo left told → IsTrue (flows_to left placed)
+  to_flows_to : (left : Kinds) (reported : Option Reported) (placed : Option Kinds) → IsReportedAs max_stack max_locals reported placed → FlowsTo left reported → IsTrue (flows_to left placed)
   to_flows_to left None placed is f = subst (λ (p : Option Kinds). IsTrue (flows_to left p)) (sym is) refl
-  to_flows_to left (Some told) placed is f =
+  to_flows_to left (Some reported) placed is f =
       subst (λ (p : Option Kinds). IsTrue (flows_to left p)) (sym is.0)
-      (to_flows left (told_kinds max_locals told) (told_padded max_locals left.locals told.locals f.0) f.1)
+      (to_flows left (reported_kinds max_locals reported) (reported_padded max_locals left.locals reported.locals f.0) f.1)
 
-  from_flows_to : (left : Kinds) (told : Option Told) (placed : Option Kinds) → IsToldAs max_stack max_locals told placed → IsTrue (flows_to left placed) → FlowsTo left told
+  from_flows_to : (left : Kinds) (reported : Option Reported) (placed : Option Kinds) → IsReportedAs max_stack max_locals reported placed → IsTrue (flows_to left placed) → FlowsTo left reported
   from_flows_to left None placed is t = tt
-  from_flows_to left (Some told) placed is t =
-      let f = from_flows left (told_kinds max_locals told) (subst (λ (p : Option Kinds). IsTrue (flows_to left p)) is.0 t) in
-      (unpadded_flow max_locals left.locals told.locals f.0, f.1)
+  from_flows_to left (Some reported) placed is t =
+      let f = from_flows left (reported_kinds max_locals reported) (subst (λ (p : Option Kinds). IsTrue (flows_to left p)) is.0 t) in
+      (unpadded_flow max_locals left.locals reported.locals f.0, f.1)
 
-  to_flows_to_frame : (left : Kinds) (told : Option Told) (placed : Option Kinds) → IsToldAs max_stack max_locals told placed → FlowsToFrame left told → IsTrue (flows_to_frame left placed)
+  to_flows_to_frame : (left : Kinds) (reported : Option Reported) (placed : Option Kinds) → IsReportedAs max_stack max_locals reported placed → FlowsToFrame left reported → IsTrue (flows_to_frame left placed)
   to_flows_to_frame left None placed is f = absurd f
-  to_flows_to_frame left (Some told) placed is f =
+  to_flows_to_frame left (Some reported) placed is f =
       subst (λ (p : Option Kinds). IsTrue (flows_to_frame left p)) (sym is.0)
-      (to_flows left (told_kinds max_locals told) (told_padded max_locals left.locals told.locals f.0) f.1)
+      (to_flows left (reported_kinds max_locals reported) (reported_padded max_locals left.locals reported.locals f.0) f.1)
 
-  from_flows_to_frame : (left : Kinds) (told : Option Told) (placed : Option Kinds) → IsToldAs max_stack max_locals told placed → IsTrue (flows_to_frame left placed) → FlowsToFrame left told
+  from_flows_to_frame : (left : Kinds) (reported : Option Reported) (placed : Option Kinds) → IsReportedAs max_stack max_locals reported placed → IsTrue (flows_to_frame left placed) → FlowsToFrame left reported
   from_flows_to_frame left None placed is t = absurd (let no_frame : IsTrue false = subst (λ (p : Option Kinds). IsTrue (flows_to_frame left p)) is t in cc)
-  from_flows_to_frame left (Some told) placed is t =
-      let f = from_flows left (told_kinds max_locals told) (subst (λ (p : Option Kinds). IsTrue (flows_to_frame left p)) is.0 t) in
-      (unpadded_flow max_locals left.locals told.locals f.0, f.1)
+  from_flows_to_frame left (Some reported) placed is t =
+      let f = from_flows left (reported_kinds max_locals reported) (subst (λ (p : Option Kinds). IsTrue (flows_to_frame left p)) is.0 t) in
+      (unpadded_flow max_locals left.locals reported.locals f.0, f.1)
 
   -- ---- of all frames
 
-  module _ (placed : List Placed) (frames : ToldFrames) (are : AreTold max_stack max_locals placed frames) where
-    pub to_goes : (left : Kinds) (number : ℕ) → FlowsTo left (told_at frames number) → IsTrue (flows_to left (placed_at placed number))
-    to_goes left number = to_flows_to left (told_at frames number) (placed_at placed number) (are number)
+  module _ (placed : List Placed) (frames : ReportedFrames) (are : AreReported max_stack max_locals placed frames) where
+    pub to_goes : (left : Kinds) (number : ℕ) → FlowsTo left (reported_at frames number) → IsTrue (flows_to left (placed_at placed number))
+    to_goes left number = to_flows_to left (reported_at frames number) (placed_at placed number) (are number)
 
-    pub from_goes : (left : Kinds) (number : ℕ) → IsTrue (flows_to left (placed_at placed number)) → FlowsTo left (told_at frames number)
-    from_goes left number = from_flows_to left (told_at frames number) (placed_at placed number) (are number)
+    pub from_goes : (left : Kinds) (number : ℕ) → IsTrue (flows_to left (placed_at placed number)) → FlowsTo left (reported_at frames number)
+    from_goes left number = from_flows_to left (reported_at frames number) (placed_at placed number) (are number)
 
     pub to_jumps : (left : Kinds) (targets : List ℕ) → JumpsFlow left frames targets → IsTrue (list_all (λ target. flows_to_frame left (placed_at placed target)) targets)
     to_jumps left targets flow =
         list_all_from (λ target. flows_to_frame left (placed_at placed target)) targets
-        (λ k target at. to_flows_to_frame left (told_at frames target) (placed_at placed target) (are target) (flow target (contains_at targets k target at)))
+        (λ k target at. to_flows_to_frame left (reported_at frames target) (placed_at placed target) (are target) (flow target (contains_at targets k target at)))
 
     pub from_jumps : (left : Kinds) (targets : List ℕ) → IsTrue (list_all (λ target. flows_to_frame left (placed_at placed target)) targets) → JumpsFlow left frames targets
     from_jumps left targets t target there =
         let at = at_contains targets target there in
-        from_flows_to_frame left (told_at frames target) (placed_at placed target) (are target)
+        from_flows_to_frame left (reported_at frames target) (placed_at placed target) (are target)
         (list_all_at (λ n. flows_to_frame left (placed_at placed n)) targets t at.0 target at.1)
 
     -- ---- handlers
 
-    handler_of : (told : Option Told) (tell : Option Kinds) → IsToldAs max_stack max_locals told tell → IsTrue (is_handler_frame tell)
-        → (t : Told) × (told ≡ Some t) × (t.stack ≡ kinds.Ref ∷ [])
-    handler_of None tell is t = absurd (let no_frame : IsTrue false = subst (λ (p : Option Kinds). IsTrue (is_handler_frame p)) is t in cc)
-    handler_of (Some told) tell is t =
-        let one : IsTrue (pointwise same_kind (reverse told.stack) (kinds.Ref ∷ [])) = subst (λ (p : Option Kinds). IsTrue (is_handler_frame p)) is.0 t in
-        (told, refl, reverse_injects told.stack (kinds.Ref ∷ []) (same_stacks (reverse told.stack) (kinds.Ref ∷ []) one))
+    handler_of : (reported : Option Reported) (say : Option Kinds) → IsReportedAs max_stack max_locals reported say → IsTrue (is_handler_frame say)
+        → (t : Reported) × (reported ≡ Some t) × (t.stack ≡ kinds.Ref ∷ [])
+    handler_of None say is t = absurd (let no_frame : IsTrue false = subst (λ (p : Option Kinds). IsTrue (is_handler_frame p)) is t in cc)
+    handler_of (Some reported) say is t =
+        let one : IsTrue (pointwise same_kind (reverse reported.stack) (kinds.Ref ∷ [])) = subst (λ (p : Option Kinds). IsTrue (is_handler_frame p)) is.0 t in
+        (reported, refl, reverse_injects reported.stack (kinds.Ref ∷ []) (same_stacks (reverse reported.stack) (kinds.Ref ∷ []) one))
 
-    to_handler : (told : Option Told) (tell : Option Kinds) (t : Told) → IsToldAs max_stack max_locals told tell → told ≡ Some t → t.stack ≡ kinds.Ref ∷ []
-        → IsTrue (is_handler_frame tell)
-    to_handler None tell t is e one = absurd cc
-    to_handler (Some told) tell t is e one =
-        let same : told ≡ t = cc in
-        let stack : reverse told.stack ≡ kinds.Ref ∷ [] = ap (λ (x : Told). reverse x.stack) same ∙ ap reverse one in
+    to_handler : (reported : Option Reported) (say : Option Kinds) (t : Reported) → IsReportedAs max_stack max_locals reported say → reported ≡ Some t → t.stack ≡ kinds.Ref ∷ []
+        → IsTrue (is_handler_frame say)
+    to_handler None say t is e one = absurd cc
+    to_handler (Some reported) say t is e one =
+        let same : reported ≡ t = cc in
+        let stack : reverse reported.stack ≡ kinds.Ref ∷ [] = ap (λ (x : Reported). reverse x.stack) same ∙ ap reverse one in
         subst (λ (p : Option Kinds). IsTrue (is_handler_frame p)) (sym is.0)
         (subst (λ (s : List Kind). IsTrue (pointwise same_kind s (kinds.Ref ∷ []))) (sym stack) (stack_itself (kinds.Ref ∷ [])))
 
@@ -158,15 +158,15 @@ module _ (max_stack max_locals : ℕ) where
           → IsTrue (list_all handles_test (map (range_in pool) rows))
       to_handles each = map_list_all_from (range_in pool) handles_test rows (λ k row at. or_not (nat_eq number row.handler) (is_handler_frame (placed_at placed number)) (λ t.
           let has = each k row at (sym (same_number number row.handler t)) in
-          to_handler (told_at frames number) (placed_at placed number) has.told (are number) has.at has.one))
+          to_handler (reported_at frames number) (placed_at placed number) has.reported (are number) has.at has.one))
 
       pub from_handles : IsTrue (list_all handles_test (map (range_in pool) rows)) → (k : ℕ) (row : Protected) → slice_get rows k ≡ Some row → row.handler ≡ number
           → HasHandlerFrame frames number
       from_handles t k row at e =
           let own : IsTrue (nat_eq number row.handler) = grind (arith, nat_tests) in
           let frame = from_or_not (nat_eq number row.handler) (is_handler_frame (placed_at placed number)) (map_list_all_at (range_in pool) handles_test rows t k row at) own in
-          let has = handler_of (told_at frames number) (placed_at placed number) (are number) frame in
-          record { told = has.0; at = has.1; one = has.2 }
+          let has = handler_of (reported_at frames number) (placed_at placed number) (are number) frame in
+          record { reported = has.0; at = has.1; one = has.2 }
 
       -- ---- local variables of the instructions in ranges
 
@@ -174,20 +174,20 @@ module _ (max_stack max_locals : ℕ) where
         abbrev handled_test : Range → Bool
         handled_test range = not (covers range number) || locals_flow_to before (placed_at placed range.handler)
 
-        to_locals : (row : Protected) (told : Option Told) (kinds : Option Kinds) → IsToldAs max_stack max_locals told kinds → told_at frames row.handler ≡ told
-            → ((slot : ℕ) (kind : Kind) → Tells frames row slot kind → local_at before.locals slot ≡ Some kind) → IsTrue (locals_flow_to before kinds)
+        to_locals : (row : Protected) (reported : Option Reported) (kinds : Option Kinds) → IsReportedAs max_stack max_locals reported kinds → reported_at frames row.handler ≡ reported
+            → ((slot : ℕ) (kind : Kind) → Says frames row slot kind → local_at before.locals slot ≡ Some kind) → IsTrue (locals_flow_to before kinds)
         to_locals row None kinds is e each = subst (λ (p : Option Kinds). IsTrue (locals_flow_to before p)) (sym is) refl
-        to_locals row (Some told) kinds is e each =
+        to_locals row (Some reported) kinds is e each =
             subst (λ (p : Option Kinds). IsTrue (locals_flow_to before p)) (sym is.0)
-            (to_flow before.locals (padded max_locals told.locals)
-            (told_padded max_locals before.locals told.locals (λ slot kind at. each slot kind (record { told = told; at = e; tells = at }))))
+            (to_flow before.locals (padded max_locals reported.locals)
+            (reported_padded max_locals before.locals reported.locals (λ slot kind at. each slot kind (record { reported = reported; at = e; says = at }))))
 
-        from_locals : (row : Protected) (kinds : Option Kinds) (slot : ℕ) (kind : Kind) → IsToldAs max_stack max_locals (told_at frames row.handler) kinds → Tells frames row slot kind
+        from_locals : (row : Protected) (kinds : Option Kinds) (slot : ℕ) (kind : Kind) → IsReportedAs max_stack max_locals (reported_at frames row.handler) kinds → Says frames row slot kind
             → IsTrue (locals_flow_to before kinds) → local_at before.locals slot ≡ Some kind
-        from_locals row kinds slot kind is tells t =
-            let own : IsToldAs max_stack max_locals (Some tells.told) kinds = subst (λ (x : Option Told). IsToldAs max_stack max_locals x kinds) tells.at is in
-            let flow = from_flow before.locals (padded max_locals tells.told.locals) (subst (λ (p : Option Kinds). IsTrue (locals_flow_to before p)) own.0 t) in
-            unpadded_flow max_locals before.locals tells.told.locals flow slot kind tells.tells
+        from_locals row kinds slot kind is says t =
+            let own : IsReportedAs max_stack max_locals (Some says.reported) kinds = subst (λ (x : Option Reported). IsReportedAs max_stack max_locals x kinds) says.at is in
+            let flow = from_flow before.locals (padded max_locals says.reported.locals) (subst (λ (p : Option Kinds). IsTrue (locals_flow_to before p)) own.0 t) in
+            unpadded_flow max_locals before.locals says.reported.locals flow slot kind says.says
 
         within_range : (row : Protected) → IsTrue (covers (range_in pool row) number) → (row.start ≤ number) × (number < row.end)
         within_range row t = both_ways (nat_le row.start number) (nat_lt number row.end) t refl refl where
@@ -206,9 +206,9 @@ module _ (max_stack max_locals : ℕ) where
         to_handled handled =
             map_list_all_from (range_in pool) handled_test rows (λ k row at. or_not (covers (range_in pool row) number) (locals_flow_to before (placed_at placed row.handler)) (λ t.
             let in' = within_range row t in
-            to_locals row (told_at frames row.handler) (placed_at placed row.handler) (are row.handler) refl (λ slot kind tells. handled k row slot kind at in'.0 in'.1 tells)))
+            to_locals row (reported_at frames row.handler) (placed_at placed row.handler) (are row.handler) refl (λ slot kind says. handled k row slot kind at in'.0 in'.1 says)))
 
         pub from_handled : IsTrue (list_all handled_test (map (range_in pool) rows)) → Handled rows frames number before.locals
-        from_handled t k row slot kind at from to tells =
-            from_locals row (placed_at placed row.handler) slot kind (are row.handler) tells
+        from_handled t k row slot kind at from to says =
+            from_locals row (placed_at placed row.handler) slot kind (are row.handler) says
             (from_or_not (covers (range_in pool row) number) (locals_flow_to before (placed_at placed row.handler)) (map_list_all_at (range_in pool) handled_test rows t k row at) (covered row from to))

@@ -13,11 +13,11 @@ use Rattle.dj_model.specs.trusted.Linking.{or_else}
 use Rattle.dj_model.specs.trusted.Program.{Code}
 use Rattle.dj_model.specs.trusted.Kinds.{Entries, entry_slots, entries_of, form_entries, with_locals, with_stack}
 use Rattle.dj_shape.specs.declared.arena.Slot.{Slot}
-use Rattle.dj_shape.specs.declared.arena.Place.{Place}
+use Rattle.dj_shape.specs.declared.arena.LocalsPlace.{LocalsPlace}
 use Rattle.dj_shape.specs.declared.frames.KeptFrame.{KeptFrame}
 use Rattle.dj_shape.specs.Arena.{slots_at, AreLinked, IsIn, IsAt, Extends}
 use Rattle.dj_shape.specs.Placing.{kept_at, AreMarked, ArePlaced, HasOneMore, HasSame}
-use Rattle.dj_shape.specs.Told.{Told, ToldFrames, told_at, told_in, Grows, IsKept}
+use Rattle.dj_shape.specs.Reported.{Reported, ReportedFrames, reported_at, reported_in, Grows, IsKept}
 use Rattle.dj_shape.specs.declared.reading.Reader.{Reader}
 use Rattle.dj_shape.specs.Reading.{ChangesTo, ArePlaces, IsReading, kept_entries}
 use Rattle.dj_shape.proofs.Entries.{slots_more}
@@ -88,7 +88,7 @@ kept_few (forms.Full locals stack) before now = omega arith
 
 -- ---- places
 
-pub places_kept : (slots : List Slot) (places : List Place) (old new : List (Option Kind)) (n : ℕ) → take n new ≡ take n old → ArePlaces slots places old → ArePlaces slots (take n places) new
+pub places_kept : (slots : List Slot) (places : List LocalsPlace) (old new : List (Option Kind)) (n : ℕ) → take n new ≡ take n old → ArePlaces slots places old → ArePlaces slots (take n places) new
 places_kept slots places old new n same are k place e =
     let at = at_take n places k place e in
     let less = at.0 in
@@ -96,15 +96,15 @@ places_kept slots places old new n same are k place e =
     let first : take (suc k) old ≡ take (suc k) new = sym (take_take (suc k) n old within) ∙ ap (take (suc k)) (sym same) ∙ take_take (suc k) n new within in
     subst (λ (l : List (Option Kind)). IsAt slots place (entry_slots l)) first (are k place at.1)
 
-pub places_grown : (old new : List Slot) (places : List Place) (entries : List (Option Kind)) → AreLinked old → Extends old new → ArePlaces old places entries → ArePlaces new places entries
+pub places_grown : (old new : List Slot) (places : List LocalsPlace) (entries : List (Option Kind)) → AreLinked old → Extends old new → ArePlaces old places entries → ArePlaces new places entries
 places_grown old new places entries linked grows are k place e = at_grown old new linked grows place (entry_slots (take (suc k) entries)) (are k place e)
 
-pub places_more : (slots : List Slot) (places : List Place) (place : Place) (entries : List (Option Kind)) → ArePlaces slots places entries
+pub places_more : (slots : List Slot) (places : List LocalsPlace) (place : LocalsPlace) (entries : List (Option Kind)) → ArePlaces slots places entries
     → IsAt slots place (entry_slots (take (suc (length places)) entries)) → ArePlaces slots (places ++ place ∷ []) entries
 places_more slots places place entries are at k p e = elim (split_last places place p k e) [
   | inl there ↦ are k p there
   | inr last ↦
-      subst (λ (q : Place). IsAt slots q (entry_slots (take (suc k) entries))) last.1
+      subst (λ (q : LocalsPlace). IsAt slots q (entry_slots (take (suc k) entries))) last.1
       (subst (λ (n : ℕ). IsAt slots place (entry_slots (take (suc n) entries))) (sym last.0) at)
 ]
 
@@ -114,28 +114,28 @@ entry_more entries k d within =
     let next : suc k ≡ k + 1 = omega arith in
     sym (ap (λ (n : ℕ). entry_slots (take n entries)) next ∙ ap entry_slots (take_more entries k d within) ∙ slots_more (take k entries) (get_or entries k d))
 
-pub next_place : (slots new : List Slot) (last more : Place) (entries : List (Option Kind)) (k : ℕ) (entry : Option Kind) → k < length entries → entry ≡ get_or entries k entry
+pub next_place : (slots new : List Slot) (last more : LocalsPlace) (entries : List (Option Kind)) (k : ℕ) (entry : Option Kind) → k < length entries → entry ≡ get_or entries k entry
     → IsAt slots last (entry_slots (take k entries)) → IsAt new more (slots_at slots last.end ++ entry_slots (entry ∷ [])) → IsAt new more (entry_slots (take (suc k) entries))
 next_place slots new last more entries k entry within e at added =
     subst (IsAt new more)
     (ap (λ (l : List (Option Kind)). l ++ entry_slots (entry ∷ [])) at.are ∙ ap (λ (x : Option Kind). entry_slots (take k entries) ++ entry_slots (x ∷ [])) e ∙ entry_more entries k entry within) added
 
 -- the place of all of them
-pub place_of_all : (slots : List Slot) (place : Place) (entries : List (Option Kind)) (n : ℕ) → n ≡ length entries → IsAt slots place (entry_slots (take n entries)) → IsAt slots place (entry_slots entries)
+pub place_of_all : (slots : List Slot) (place : LocalsPlace) (entries : List (Option Kind)) (n : ℕ) → n ≡ length entries → IsAt slots place (entry_slots (take n entries)) → IsAt slots place (entry_slots entries)
 place_of_all slots place entries n e at = subst (λ (l : List (Option Kind)). IsAt slots place (entry_slots l)) (take_all n entries (omega arith)) at
 
 pub first_place : (slots : List Slot) (entries : List (Option Kind)) → IsAt slots (record { end = 0; count = 0 }) (entry_slots (take 0 entries))
 first_place slots entries = record { within = omega arith; are = no_place slots; count = refl }
 
 -- the place of the last
-pub first_of_none : (slots : List Slot) (places : List Place) (entries : List (Option Kind)) → slice_get places (length places - 1) ≡ None
+pub first_of_none : (slots : List Slot) (places : List LocalsPlace) (entries : List (Option Kind)) → slice_get places (length places - 1) ≡ None
     → IsAt slots (record { end = 0; count = 0 }) (entry_slots (take (length places) entries))
 first_of_none slots [] entries e = first_place slots entries
 first_of_none slots (place ∷ places) entries e = absurd (nothing places place e) where
-  nothing : (l : List Place) (x : Place) → slice_get (x ∷ l) (length (x ∷ l) - 1) ≡ None → ⊥
+  nothing : (l : List LocalsPlace) (x : LocalsPlace) → slice_get (x ∷ l) (length (x ∷ l) - 1) ≡ None → ⊥
   nothing l x f = let s : Some (get_or (x ∷ l) (length (x ∷ l) - 1) x) ≡ None = sym (slice_get-get_or (x ∷ l) (length (x ∷ l) - 1) x (omega arith)) ∙ f in absurd cc
 
-pub last_of_some : (slots : List Slot) (places : List Place) (entries : List (Option Kind)) (place : Place) → ArePlaces slots places entries
+pub last_of_some : (slots : List Slot) (places : List LocalsPlace) (entries : List (Option Kind)) (place : LocalsPlace) → ArePlaces slots places entries
     → slice_get places (length places - 1) ≡ Some place → IsAt slots place (entry_slots (take (length places) entries))
 last_of_some slots [] entries place are e = absurd cc
 last_of_some slots (x ∷ places) entries place are e =
@@ -144,8 +144,8 @@ last_of_some slots (x ∷ places) entries place are e =
 
 -- ---- frames that are kept
 
-pub placed_grown : (old new : List Slot) (told : BTreeMap ℕ KeptFrame) → AreLinked old → Extends old new → ArePlaced old told → ArePlaced new told
-placed_grown old new told linked grows placed number kept at = in_grown old new linked grows kept.place (placed number kept at)
+pub placed_grown : (old new : List Slot) (reported : BTreeMap ℕ KeptFrame) → AreLinked old → Extends old new → ArePlaced old reported → ArePlaced new reported
+placed_grown old new reported linked grows placed number kept at = in_grown old new linked grows kept.place (placed number kept at)
 
 pub placed_same : (slots : List Slot) (old new : BTreeMap ℕ KeptFrame) → HasSame old new → ArePlaced slots old → ArePlaced slots new
 placed_same slots old new same placed number kept at = placed number kept (sym (same number) ∙ at)
@@ -195,44 +195,44 @@ marked_after (Ok x) before after old new at kept more same first marks number e 
     ∙ ap (λ (o : Option KeptFrame). or_else o None) (marks number own.1)
 marked_after (Err f) before after old new at kept more same first marks number e = same number ∙ marks number (first number e).1
 
-pub told_none : (frames : ToldFrames) (number : ℕ) → kept_at frames.told number ≡ None → told_at frames number ≡ None
-unfolding told_at
-told_none frames number e = ap (option_map (told_in frames.slots.items)) e
+pub reported_none : (frames : ReportedFrames) (number : ℕ) → kept_at frames.reported number ≡ None → reported_at frames number ≡ None
+unfolding reported_at
+reported_none frames number e = ap (option_map (reported_in frames.slots.items)) e
 
-pub told_some : (frames : ToldFrames) (number : ℕ) (kept : KeptFrame) → kept_at frames.told number ≡ Some kept → told_at frames number ≡ Some (told_in frames.slots.items kept)
-unfolding told_at
-told_some frames number kept e = ap (option_map (told_in frames.slots.items)) e
+pub reported_some : (frames : ReportedFrames) (number : ℕ) (kept : KeptFrame) → kept_at frames.reported number ≡ Some kept → reported_at frames number ≡ Some (reported_in frames.slots.items kept)
+unfolding reported_at
+reported_some frames number kept e = ap (option_map (reported_in frames.slots.items)) e
 
 -- a frame more
-pub told_more : (old new : ToldFrames) (at : ℕ) (kept : KeptFrame) → new.slots.items ≡ old.slots.items → HasOneMore old.told new.told at kept → IsKept old new at (told_in old.slots.items kept)
-unfolding told_at
-told_more old new at kept slots more number =
-    ap (λ (l : List Slot). option_map (told_in l) (kept_at new.told number)) slots ∙ ap (option_map (told_in old.slots.items)) (more number) ∙ by (kept_at old.told number) (nat_eq at number) where
-      by : (o : Option KeptFrame) (b : Bool) → option_map (told_in old.slots.items) (or_else o (if b then Some kept else None))
-          ≡ or_else (option_map (told_in old.slots.items) o) (if b then Some (told_in old.slots.items kept) else None)
+pub reported_more : (old new : ReportedFrames) (at : ℕ) (kept : KeptFrame) → new.slots.items ≡ old.slots.items → HasOneMore old.reported new.reported at kept → IsKept old new at (reported_in old.slots.items kept)
+unfolding reported_at
+reported_more old new at kept slots more number =
+    ap (λ (l : List Slot). option_map (reported_in l) (kept_at new.reported number)) slots ∙ ap (option_map (reported_in old.slots.items)) (more number) ∙ by (kept_at old.reported number) (nat_eq at number) where
+      by : (o : Option KeptFrame) (b : Bool) → option_map (reported_in old.slots.items) (or_else o (if b then Some kept else None))
+          ≡ or_else (option_map (reported_in old.slots.items) o) (if b then Some (reported_in old.slots.items kept) else None)
       by (Some x) b = refl
       by None true = refl
       by None false = refl
 
 -- more slots change nothing of what frames declare
-pub told_still : (old new : ToldFrames) → Grows old new → (number : ℕ) → told_at new number ≡ told_at old number
-unfolding told_at
-told_still old new grows number =
-    ap (λ (m : BTreeMap ℕ KeptFrame). option_map (told_in new.slots.items) (kept_at m number)) grows.1 ∙ by (kept_at old.told number) (λ kept e. old.placed number kept e) where
+pub reported_still : (old new : ReportedFrames) → Grows old new → (number : ℕ) → reported_at new number ≡ reported_at old number
+unfolding reported_at
+reported_still old new grows number =
+    ap (λ (m : BTreeMap ℕ KeptFrame). option_map (reported_in new.slots.items) (kept_at m number)) grows.1 ∙ by (kept_at old.reported number) (λ kept e. old.placed number kept e) where
       by : (o : Option KeptFrame) → ((kept : KeptFrame) → o ≡ Some kept → IsIn old.slots.items kept.place)
-          → option_map (told_in new.slots.items) o ≡ option_map (told_in old.slots.items) o
+          → option_map (reported_in new.slots.items) o ≡ option_map (reported_in old.slots.items) o
       by None placed = refl
       by (Some kept) placed =
           ap (λ (l : List (Option Kind)). Some (record { locals = l; stack = kept.stack.items }))
           (grown_slots old.slots.items new.slots.items old.linked grows.0 kept.place.end (placed kept refl).0)
 
-pub grows_more : (a b c : ToldFrames) → Grows a b → Grows b c → Grows a c
+pub grows_more : (a b c : ReportedFrames) → Grows a b → Grows b c → Grows a c
 grows_more a b c x y = (extends_more a.slots.items b.slots.items c.slots.items x.0 y.0, y.1 ∙ x.1)
 
 -- a frame is kept after slots were added
-pub kept_after : (a b c : ToldFrames) (at : ℕ) (told : Told) → Grows a b → IsKept b c at told → IsKept a c at told
-kept_after a b c at told grows kept number = kept number ∙ ap (λ (o : Option Told). or_else o (if nat_eq at number then Some told else None)) (told_still a b grows number)
+pub kept_after : (a b c : ReportedFrames) (at : ℕ) (reported : Reported) → Grows a b → IsKept b c at reported → IsKept a c at reported
+kept_after a b c at reported grows kept number = kept number ∙ ap (λ (o : Option Reported). or_else o (if nat_eq at number then Some reported else None)) (reported_still a b grows number)
 
-pub reading_still : (reader : Reader) (frames : ToldFrames) → frames.slots.items ≡ reader.frames.slots.items → IsReading reader → IsReading (record reader { frames = frames })
+pub reading_still : (reader : Reader) (frames : ReportedFrames) → frames.slots.items ≡ reader.frames.slots.items → IsReading reader → IsReading (record reader { frames = frames })
 reading_still reader frames same is =
     record { count = is.count; places = subst (λ (l : List Slot). ArePlaces l reader.places.items reader.entries.items) (sym same) is.places }

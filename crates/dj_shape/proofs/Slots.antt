@@ -77,78 +77,78 @@ second_of_both false b x = absurd cc
 
 -- ---- flows
 
-pub from_flow : (locals told : List (Option Kind)) → IsTrue (locals_flow locals told) → LocalsFlow locals told
+pub from_flow : (locals reported : List (Option Kind)) → IsTrue (locals_flow locals reported) → LocalsFlow locals reported
 from_flow locals [] t slot kind e = absurd cc
-from_flow [] (None ∷ told) t zero kind e = absurd cc
-from_flow [] (None ∷ told) t (suc slot) kind e = from_flow [] told t slot kind e
-from_flow [] (Some k ∷ told) t slot kind e = absurd cc
-from_flow (x ∷ locals) (None ∷ told) t zero kind e = absurd cc
-from_flow (x ∷ locals) (None ∷ told) t (suc slot) kind e = from_flow locals told t slot kind e
-from_flow (x ∷ locals) (Some k ∷ told) t zero kind e = is_some_kind k x (first_of_both (is_kind k x) (locals_flow locals told) t) ∙ e
-from_flow (x ∷ locals) (Some k ∷ told) t (suc slot) kind e = from_flow locals told (second_of_both (is_kind k x) (locals_flow locals told) t) slot kind e
+from_flow [] (None ∷ reported) t zero kind e = absurd cc
+from_flow [] (None ∷ reported) t (suc slot) kind e = from_flow [] reported t slot kind e
+from_flow [] (Some k ∷ reported) t slot kind e = absurd cc
+from_flow (x ∷ locals) (None ∷ reported) t zero kind e = absurd cc
+from_flow (x ∷ locals) (None ∷ reported) t (suc slot) kind e = from_flow locals reported t slot kind e
+from_flow (x ∷ locals) (Some k ∷ reported) t zero kind e = is_some_kind k x (first_of_both (is_kind k x) (locals_flow locals reported) t) ∙ e
+from_flow (x ∷ locals) (Some k ∷ reported) t (suc slot) kind e = from_flow locals reported (second_of_both (is_kind k x) (locals_flow locals reported) t) slot kind e
 
-pub to_flow : (locals told : List (Option Kind)) → LocalsFlow locals told → IsTrue (locals_flow locals told)
+pub to_flow : (locals reported : List (Option Kind)) → LocalsFlow locals reported → IsTrue (locals_flow locals reported)
 to_flow locals [] f = refl
-to_flow [] (None ∷ told) f = to_flow [] told (λ slot kind e. f (suc slot) kind e)
-to_flow [] (Some k ∷ told) f = absurd (let none : None ≡ Some k = f 0 k refl in cc)
-to_flow (x ∷ locals) (None ∷ told) f = to_flow locals told (λ slot kind e. f (suc slot) kind e)
-to_flow (x ∷ locals) (Some k ∷ told) f =
-    both (is_kind k x) (locals_flow locals told) (kind_is k x (f 0 k refl)) (to_flow locals told (λ slot kind e. f (suc slot) kind e))
+to_flow [] (None ∷ reported) f = to_flow [] reported (λ slot kind e. f (suc slot) kind e)
+to_flow [] (Some k ∷ reported) f = absurd (let none : None ≡ Some k = f 0 k refl in cc)
+to_flow (x ∷ locals) (None ∷ reported) f = to_flow locals reported (λ slot kind e. f (suc slot) kind e)
+to_flow (x ∷ locals) (Some k ∷ reported) f =
+    both (is_kind k x) (locals_flow locals reported) (kind_is k x (f 0 k refl)) (to_flow locals reported (λ slot kind e. f (suc slot) kind e))
 
 -- the last of the first of a list
-pub at_last : {A : Type 0} (told rest new done : List (Option A)) (x : Option A) → told ≡ rest ++ done → rest ≡ new ++ x ∷ [] → local_at told (length new) ≡ x
-at_last {A} told rest new done x e f = ap (λ (l : List (Option A)). local_at l (length new)) (e ∙ ap (λ (l : List (Option A)). l ++ done) f) ∙ at_seam new done where
+pub at_last : {A : Type 0} (reported rest new done : List (Option A)) (x : Option A) → reported ≡ rest ++ done → rest ≡ new ++ x ∷ [] → local_at reported (length new) ≡ x
+at_last {A} reported rest new done x e f = ap (λ (l : List (Option A)). local_at l (length new)) (e ∙ ap (λ (l : List (Option A)). l ++ done) f) ∙ at_seam new done where
   at_seam : (xs ys : List (Option A)) → local_at ((xs ++ x ∷ []) ++ ys) (length xs) ≡ x
   at_seam [] ys = refl
   at_seam (y ∷ xs) ys = at_seam xs ys
 
-pub split_less : {A : Type 0} (told rest new done : List (Option A)) (x : Option A) → told ≡ rest ++ done → rest ≡ new ++ x ∷ [] → told ≡ new ++ x ∷ done
-split_less {A} told rest new done x e f = e ∙ ap (λ (l : List (Option A)). l ++ done) f ∙ append_assoc new (x ∷ []) done
+pub split_less : {A : Type 0} (reported rest new done : List (Option A)) (x : Option A) → reported ≡ rest ++ done → rest ≡ new ++ x ∷ [] → reported ≡ new ++ x ∷ done
+split_less {A} reported rest new done x e f = e ∙ ap (λ (l : List (Option A)). l ++ done) f ∙ append_assoc new (x ∷ []) done
 
 pub one_shorter : {A : Type 0} (rest new : List (Option A)) (x : Option A) → rest ≡ new ++ x ∷ [] → length rest ≡ length new + 1
 one_shorter rest new x e = ap length e ∙ length-append new (x ∷ [])
 
-pub split_few : {A : Type 0} (told rest done : List (Option A)) → told ≡ rest ++ done → length rest ≤ length told
-split_few told rest done e = omega (arith, ap length e, length-append rest done)
+pub split_few : {A : Type 0} (reported rest done : List (Option A)) → reported ≡ rest ++ done → length rest ≤ length reported
+split_few reported rest done e = omega (arith, ap length e, length-append rest done)
 
-pub split_none : {A : Type 0} (told rest : List (Option A)) → rest ≡ told → told ≡ rest ++ []
-split_none {A} told rest e = sym (nothing rest ∙ e) where
+pub split_none : {A : Type 0} (reported rest : List (Option A)) → rest ≡ reported → reported ≡ rest ++ []
+split_none {A} reported rest e = sym (nothing rest ∙ e) where
   nothing : (l : List (Option A)) → l ++ [] ≡ l
   nothing [] = refl
   nothing (x ∷ l) = ap (λ (m : List (Option A)). x ∷ m) (nothing l)
 
-pub flow_none : (locals told rest : List (Option Kind)) → rest ≡ told → (slot : ℕ) (kind : Kind) → length rest ≤ slot → local_at told slot ≡ Some kind → local_at locals slot ≡ Some kind
-flow_none locals told rest e slot kind past at =
+pub flow_none : (locals reported rest : List (Option Kind)) → rest ≡ reported → (slot : ℕ) (kind : Kind) → length rest ≤ slot → local_at reported slot ≡ Some kind → local_at locals slot ≡ Some kind
+flow_none locals reported rest e slot kind past at =
     let count = ap length e in
-    let none : local_at told slot ≡ None = at_past told slot (omega arith) in
+    let none : local_at reported slot ≡ None = at_past reported slot (omega arith) in
     absurd cc
 
 -- what holds of each slot from one on, with one more before it
-pub flow_down : (locals told rest new done : List (Option Kind)) (x : Option Kind) → told ≡ rest ++ done → rest ≡ new ++ x ∷ []
-    → ((slot : ℕ) (kind : Kind) → length rest ≤ slot → local_at told slot ≡ Some kind → local_at locals slot ≡ Some kind)
+pub flow_down : (locals reported rest new done : List (Option Kind)) (x : Option Kind) → reported ≡ rest ++ done → rest ≡ new ++ x ∷ []
+    → ((slot : ℕ) (kind : Kind) → length rest ≤ slot → local_at reported slot ≡ Some kind → local_at locals slot ≡ Some kind)
     → ((kind : Kind) → x ≡ Some kind → local_at locals (length new) ≡ Some kind)
-    → (slot : ℕ) (kind : Kind) → length new ≤ slot → local_at told slot ≡ Some kind → local_at locals slot ≡ Some kind
-flow_down locals told rest new done x split last above here slot kind most e = elim (cases_lt (length new) slot) [
+    → (slot : ℕ) (kind : Kind) → length new ≤ slot → local_at reported slot ≡ Some kind → local_at locals slot ≡ Some kind
+flow_down locals reported rest new done x split last above here slot kind most e = elim (cases_lt (length new) slot) [
   | inl less ↦ let count = one_shorter rest new x last in above slot kind (omega arith) e
   | inr least ↦
       let same : slot ≡ length new = omega arith in
       subst (λ (n : ℕ). local_at locals n ≡ Some kind) (sym same)
-      (here kind (sym (at_last told rest new done x split last) ∙ subst (λ (n : ℕ). local_at told n ≡ Some kind) same e))
+      (here kind (sym (at_last reported rest new done x split last) ∙ subst (λ (n : ℕ). local_at reported n ≡ Some kind) same e))
 ]
 
-pub from_all_above : (locals told rest : List (Option Kind)) → rest ≡ [] → ((slot : ℕ) (kind : Kind) → length rest ≤ slot → local_at told slot ≡ Some kind → local_at locals slot ≡ Some kind)
-    → LocalsFlow locals told
-from_all_above locals told rest e above slot kind at = let count = ap length e in above slot kind (omega arith) at
+pub from_all_above : (locals reported rest : List (Option Kind)) → rest ≡ [] → ((slot : ℕ) (kind : Kind) → length rest ≤ slot → local_at reported slot ≡ Some kind → local_at locals slot ≡ Some kind)
+    → LocalsFlow locals reported
+from_all_above locals reported rest e above slot kind at = let count = ap length e in above slot kind (omega arith) at
 
 -- padding of either list changes nothing
-pub padded_flow : (n m : ℕ) (locals told : List (Option Kind)) → LocalsFlow locals told → LocalsFlow (padded n locals) (padded m told)
-padded_flow n m locals told f slot kind e = at_padded n locals slot ∙ f slot kind (sym (at_padded m told slot) ∙ e)
+pub padded_flow : (n m : ℕ) (locals reported : List (Option Kind)) → LocalsFlow locals reported → LocalsFlow (padded n locals) (padded m reported)
+padded_flow n m locals reported f slot kind e = at_padded n locals slot ∙ f slot kind (sym (at_padded m reported slot) ∙ e)
 
-pub unpadded_flow : (m : ℕ) (locals told : List (Option Kind)) → LocalsFlow locals (padded m told) → LocalsFlow locals told
-unpadded_flow m locals told f slot kind e = f slot kind (at_padded m told slot ∙ e)
+pub unpadded_flow : (m : ℕ) (locals reported : List (Option Kind)) → LocalsFlow locals (padded m reported) → LocalsFlow locals reported
+unpadded_flow m locals reported f slot kind e = f slot kind (at_padded m reported slot ∙ e)
 
-pub told_padded : (m : ℕ) (locals told : List (Option Kind)) → LocalsFlow locals told → LocalsFlow locals (padded m told)
-told_padded m locals told f slot kind e = f slot kind (sym (at_padded m told slot) ∙ e)
+pub reported_padded : (m : ℕ) (locals reported : List (Option Kind)) → LocalsFlow locals reported → LocalsFlow locals (padded m reported)
+reported_padded m locals reported f slot kind e = f slot kind (sym (at_padded m reported slot) ∙ e)
 
 -- ---- operands
 
@@ -167,26 +167,26 @@ stack_itself (x ∷ a) = both (same_kind x x) (pointwise same_kind a a) (same_it
 
 -- ---- kinds that flow into others
 
-pub from_flows : (left told : Kinds) → IsTrue (flows_into left told) → LocalsFlow left.locals told.locals × (left.stack ≡ told.stack)
-from_flows left told t = (
-  from_flow left.locals told.locals (first_of_both (locals_flow left.locals told.locals) (pointwise same_kind left.stack told.stack) t),
-  same_stacks left.stack told.stack (second_of_both (locals_flow left.locals told.locals) (pointwise same_kind left.stack told.stack) t),
+pub from_flows : (left reported : Kinds) → IsTrue (flows_into left reported) → LocalsFlow left.locals reported.locals × (left.stack ≡ reported.stack)
+from_flows left reported t = (
+  from_flow left.locals reported.locals (first_of_both (locals_flow left.locals reported.locals) (pointwise same_kind left.stack reported.stack) t),
+  same_stacks left.stack reported.stack (second_of_both (locals_flow left.locals reported.locals) (pointwise same_kind left.stack reported.stack) t),
 )
 
-pub to_flows : (left told : Kinds) → LocalsFlow left.locals told.locals → left.stack ≡ told.stack → IsTrue (flows_into left told)
-to_flows left told f e =
-    both (locals_flow left.locals told.locals) (pointwise same_kind left.stack told.stack) (to_flow left.locals told.locals f)
+pub to_flows : (left reported : Kinds) → LocalsFlow left.locals reported.locals → left.stack ≡ reported.stack → IsTrue (flows_into left reported)
+to_flows left reported f e =
+    both (locals_flow left.locals reported.locals) (pointwise same_kind left.stack reported.stack) (to_flow left.locals reported.locals f)
     (subst (λ s. IsTrue (pointwise same_kind left.stack s)) e (stack_itself left.stack))
 
 -- ---- local variables of which those after the last aren't kept
 
-pub flow_from_all : (n : ℕ) (kept all told tell : List (Option Kind)) → padded n kept ≡ all → tell ≡ told → LocalsFlow all told → LocalsFlow kept tell
-flow_from_all n kept all told tell same e f slot kind at =
+pub flow_from_all : (n : ℕ) (kept all reported say : List (Option Kind)) → padded n kept ≡ all → say ≡ reported → LocalsFlow all reported → LocalsFlow kept say
+flow_from_all n kept all reported say same e f slot kind at =
     sym (at_padded n kept slot) ∙ ap (λ (l : List (Option Kind)). local_at l slot) same
     ∙ f slot kind (sym (ap (λ (l : List (Option Kind)). local_at l slot) e) ∙ at)
 
-pub flow_to_all : (n : ℕ) (kept all told tell : List (Option Kind)) → padded n kept ≡ all → tell ≡ told → LocalsFlow kept tell → LocalsFlow all told
-flow_to_all n kept all told tell same e f slot kind at =
+pub flow_to_all : (n : ℕ) (kept all reported say : List (Option Kind)) → padded n kept ≡ all → say ≡ reported → LocalsFlow kept say → LocalsFlow all reported
+flow_to_all n kept all reported say same e f slot kind at =
     sym (ap (λ (l : List (Option Kind)). local_at l slot) same) ∙ at_padded n kept slot
     ∙ f slot kind (ap (λ (l : List (Option Kind)). local_at l slot) e ∙ at)
 

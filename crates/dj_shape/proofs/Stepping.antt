@@ -16,7 +16,7 @@ use Rattle.dj_shape.specs.declared.handlers.Handlers.{Handlers}
 use Rattle.dj_shape.specs.declared.pass.Method.{Method}
 use Rattle.dj_shape.specs.declared.pass.Pass.{Pass}
 use Rattle.dj_shape.specs.Standing.{Standing, HasRoomOf, SameRoom, standing_in}
-use Rattle.dj_shape.specs.Told.{Told, told_at, told_kinds, IsToldAs}
+use Rattle.dj_shape.specs.Reported.{Reported, reported_at, reported_kinds, IsReportedAs}
 use Rattle.dj_shape.specs.Flows.{Flows, FlowsTo}
 use Rattle.dj_shape.specs.Needs.{need_at, IsChanged}
 use Rattle.dj_shape.specs.Handlers.{Handled, MeetAll, MeetOthers, Enters, IsKnownBut, Stands}
@@ -29,12 +29,12 @@ is_kept true k x e = cc
 is_kept false k x e = absurd cc
 
 -- what a frame declares stands where there is room for it
-told_stands : (s : Standing) (code : Code) (told : Told) → HasRoomOf s code → length told.locals ≤ code.max_locals → depth told.stack ≤ code.max_stack
-    → standing_in s told.locals told.stack ≡ Some (told_kinds code.max_locals told)
-told_stands s code told room locals stack =
-    let a : nat_le (length told.locals) s.max_locals ≡ true = (let r = room.1 in grind (arith, nat_tests)) in
-    let b : nat_le (depth told.stack) s.max_stack ≡ true = (let r = room.0 in grind (arith, nat_tests)) in
-    rw (a, b) (ap (λ (n : ℕ). Some (told_kinds n told)) room.1)
+reported_stands : (s : Standing) (code : Code) (reported : Reported) → HasRoomOf s code → length reported.locals ≤ code.max_locals → depth reported.stack ≤ code.max_stack
+    → standing_in s reported.locals reported.stack ≡ Some (reported_kinds code.max_locals reported)
+reported_stands s code reported room locals stack =
+    let a : nat_le (length reported.locals) s.max_locals ≡ true = (let r = room.1 in grind (arith, nat_tests)) in
+    let b : nat_le (depth reported.stack) s.max_stack ≡ true = (let r = room.0 in grind (arith, nat_tests)) in
+    rw (a, b) (ap (λ (n : ℕ). Some (reported_kinds n reported)) room.1)
 
 run_so : (signature : Signature) (code : Code) (i : Instruction) (k left : Kinds) → after signature code i k ≡ Some left → IsRun i
 unfolding after
@@ -56,46 +56,46 @@ module _ (method : Method) (c : Case) (is : IsCase method c) (number : ℕ) (ins
 
   -- ---- the frame
 
-  frame_fails_at : (told : Option Told) (p q : Pass) → told_at method.frames number ≡ told → IsToldAs c.code.max_stack c.code.max_locals told (placed_at c.placed number)
-      → MeetsFrame false told number p q → Before method c number p → Good → ⊥
-  frame_fails_at None p q e told fails before h =
-      let none : State ≡ None = state_with None None told (before.arrives ∙ ap (λ (b : Bool). kept b p.state.kinds) fails) in
+  frame_fails_at : (reported : Option Reported) (p q : Pass) → reported_at method.frames number ≡ reported → IsReportedAs c.code.max_stack c.code.max_locals reported (placed_at c.placed number)
+      → MeetsFrame false reported number p q → Before method c number p → Good → ⊥
+  frame_fails_at None p q e reported fails before h =
+      let none : State ≡ None = state_with None None reported (before.arrives ∙ ap (λ (b : Bool). kept b p.state.kinds) fails) in
       no_state method c is number instr at none h
-  frame_fails_at (Some t) p q e told (inl unfit) before h =
-      let s = sym unfit ∙ told_stands p.state c.code t before.room told.1 told.2 in
+  frame_fails_at (Some t) p q e reported (inl unfit) before h =
+      let s = sym unfit ∙ reported_stands p.state c.code t before.room reported.1 reported.2 in
       absurd cc
-  frame_fails_at (Some t) p q e told (inr first) before h =
-      let zero_at : told_at method.frames 0 ≡ Some t = subst (λ (n : ℕ). told_at method.frames n ≡ Some t) first.0 e in
+  frame_fails_at (Some t) p q e reported (inr first) before h =
+      let zero_at : reported_at method.frames 0 ≡ Some t = subst (λ (n : ℕ). reported_at method.frames n ≡ Some t) first.0 e in
       let flow : FlowsTo (first_kinds c.signature c.code) (Some t) = subst (FlowsTo (first_kinds c.signature c.code)) zero_at (has_begins method c is number instr at h first.0) in
       first.1 (subst (λ (k : Kinds). Flows k t) (first_so p before first.0) flow)
 
-  pub frame_fails : (p q : Pass) → MeetsFrame false (told_at method.frames number) number p q → Before method c number p → Good → ⊥
-  frame_fails p q = frame_fails_at (told_at method.frames number) p q refl (is.frames number)
+  pub frame_fails : (p q : Pass) → MeetsFrame false (reported_at method.frames number) number p q → Before method c number p → Good → ⊥
+  frame_fails p q = frame_fails_at (reported_at method.frames number) p q refl (is.frames number)
 
-  stands_at : (told : Option Told) (p q : Pass) → told_at method.frames number ≡ told → IsToldAs c.code.max_stack c.code.max_locals told (placed_at c.placed number)
-      → MeetsFrame true told number p q → Before method c number p
-      → (State ≡ Some q.state.kinds) × (number ≡ 0 → FlowsTo (first_kinds c.signature c.code) (told_at method.frames 0))
+  stands_at : (reported : Option Reported) (p q : Pass) → reported_at method.frames number ≡ reported → IsReportedAs c.code.max_stack c.code.max_locals reported (placed_at c.placed number)
+      → MeetsFrame true reported number p q → Before method c number p
+      → (State ≡ Some q.state.kinds) × (number ≡ 0 → FlowsTo (first_kinds c.signature c.code) (reported_at method.frames 0))
       × (q.handlers ≡ p.handlers → IsKnownBut q.changed method.frames number q.state.kinds.locals q.handlers)
-  stands_at None p q e told stands before = (
-    state_with None (Some q.state.kinds) told (before.arrives ∙ ap (λ (b : Bool). kept b p.state.kinds) stands.0 ∙ ap (λ (k : Kinds). Some k) (sym stands.1)),
-    λ zero_so. subst (FlowsTo (first_kinds c.signature c.code)) (sym (subst (λ (n : ℕ). told_at method.frames n ≡ None) zero_so e)) tt,
+  stands_at None p q e reported stands before = (
+    state_with None (Some q.state.kinds) reported (before.arrives ∙ ap (λ (b : Bool). kept b p.state.kinds) stands.0 ∙ ap (λ (k : Kinds). Some k) (sym stands.1)),
+    λ zero_so. subst (FlowsTo (first_kinds c.signature c.code)) (sym (subst (λ (n : ℕ). reported_at method.frames n ≡ None) zero_so e)) tt,
     λ same. subst (λ (h : Handlers). IsKnownBut q.changed method.frames number q.state.kinds.locals h) (sym same)
         (subst (λ (k : Kinds). IsKnownBut q.changed method.frames number k.locals p.handlers) (sym stands.1)
         (subst (λ (x : Changed). IsKnownBut x method.frames number p.state.kinds.locals p.handlers) (sym stands.2) before.known)),
   )
-  stands_at (Some t) p q e told stands before = (
-    (let s : Some (told_kinds c.code.max_locals t) ≡ Some q.state.kinds = sym (told_stands p.state c.code t before.room told.1 told.2) ∙ stands.0 in
-        state_with (Some (told_kinds c.code.max_locals t)) (arriving c number) told.0 refl ∙ s),
-    λ zero_so. subst (FlowsTo (first_kinds c.signature c.code)) (sym (subst (λ (n : ℕ). told_at method.frames n ≡ Some t) zero_so e))
+  stands_at (Some t) p q e reported stands before = (
+    (let s : Some (reported_kinds c.code.max_locals t) ≡ Some q.state.kinds = sym (reported_stands p.state c.code t before.room reported.1 reported.2) ∙ stands.0 in
+        state_with (Some (reported_kinds c.code.max_locals t)) (arriving c number) reported.0 refl ∙ s),
+    λ zero_so. subst (FlowsTo (first_kinds c.signature c.code)) (sym (subst (λ (n : ℕ). reported_at method.frames n ≡ Some t) zero_so e))
         (subst (λ (k : Kinds). Flows k t) (sym (first_so p before zero_so)) (stands.2 zero_so)),
     λ same. subst (λ (h : Handlers). IsKnownBut q.changed method.frames number q.state.kinds.locals h) (sym same)
         (before.known.0, λ slot kept_so. absurd (kept_so (subst (λ (x : Changed). IsChanged x slot) (sym stands.1) tt))),
   )
 
-  pub frame_stands : (p q : Pass) → MeetsFrame true (told_at method.frames number) number p q → Before method c number p
-      → (State ≡ Some q.state.kinds) × (number ≡ 0 → FlowsTo (first_kinds c.signature c.code) (told_at method.frames 0))
+  pub frame_stands : (p q : Pass) → MeetsFrame true (reported_at method.frames number) number p q → Before method c number p
+      → (State ≡ Some q.state.kinds) × (number ≡ 0 → FlowsTo (first_kinds c.signature c.code) (reported_at method.frames 0))
       × (q.handlers ≡ p.handlers → IsKnownBut q.changed method.frames number q.state.kinds.locals q.handlers)
-  frame_stands p q = stands_at (told_at method.frames number) p q refl (is.frames number)
+  frame_stands p q = stands_at (reported_at method.frames number) p q refl (is.frames number)
 
   -- ---- handlers
 
@@ -115,15 +115,15 @@ module _ (method : Method) (c : Case) (is : IsCase method c) (number : ℕ) (ins
 
   sorted_handled : (sorted : List Protected) (locals : List (Option Kind)) → ((row : Protected) → Contains method.rows.now row → Contains sorted row)
       → Handled sorted method.frames number locals → Handled method.rows.now method.frames number locals
-  sorted_handled sorted locals same handled k row slot kind there from to tells =
+  sorted_handled sorted locals same handled k row slot kind there from to says =
       let other = at_contains sorted row (same row (contains_at method.rows.now k row there)) in
-      handled other.0 row slot kind other.1 from to tells
+      handled other.0 row slot kind other.1 from to says
 
   handled_sorted : (sorted : List Protected) (locals : List (Option Kind)) → ((row : Protected) → Contains sorted row → Contains method.rows.now row)
       → Handled method.rows.now method.frames number locals → Handled sorted method.frames number locals
-  handled_sorted sorted locals own handled k row slot kind there from to tells =
+  handled_sorted sorted locals own handled k row slot kind there from to says =
       let other = at_contains method.rows.now row (own row (contains_at sorted k row there)) in
-      handled other.0 row slot kind other.1 from to tells
+      handled other.0 row slot kind other.1 from to says
 
   pub handlers_fail : (p q r : Pass) → Before method c number p → State ≡ Some q.state.kinds → q.handlers ≡ p.handlers
       → (r.state ≡ q.state) × (r.handlers.rows.items ≡ q.handlers.rows.items) → Enters false method.frames number r.state.kinds.locals r.handlers → Good → ⊥
@@ -141,7 +141,7 @@ module _ (method : Method) (c : Case) (is : IsCase method c) (number : ℕ) (ins
       let before : number < (need_at h.needs.items slot).until = omega arith in
       only slot same ∙ meet slot before
 
-  pub step_answers : (p q r s : Pass) (flows : Bool) → Before method c number p → MeetsFrame true (told_at method.frames number) number p q → SameRoom p.state q.state
+  pub step_answers : (p q r s : Pass) (flows : Bool) → Before method c number p → MeetsFrame true (reported_at method.frames number) number p q → SameRoom p.state q.state
       → q.handlers ≡ p.handlers → (method.unhandled ≡ Some number → ⊥) → (r.state ≡ q.state) × (r.handlers.rows.items ≡ q.handlers.rows.items)
       → Enters true method.frames number r.state.kinds.locals r.handlers → after c.signature c.code (instruction_in c.pool instr) r.state.kinds ≡ Some s.state.kinds
       → SameRoom r.state s.state → s.handlers ≡ r.handlers → Leaving method number s.state.kinds s.going s.changed (instruction_in c.pool instr) flows
@@ -150,7 +150,7 @@ module _ (method : Method) (c : Case) (is : IsCase method c) (number : ℕ) (ins
     i : Instruction
     i = instruction_in c.pool instr
 
-    frame : (State ≡ Some q.state.kinds) × (number ≡ 0 → FlowsTo (first_kinds c.signature c.code) (told_at method.frames 0))
+    frame : (State ≡ Some q.state.kinds) × (number ≡ 0 → FlowsTo (first_kinds c.signature c.code) (reported_at method.frames 0))
         × (q.handlers ≡ p.handlers → IsKnownBut q.changed method.frames number q.state.kinds.locals q.handlers)
     frame = frame_stands p q stands before
 
@@ -207,5 +207,5 @@ module _ (method : Method) (c : Case) (is : IsCase method c) (number : ℕ) (ins
       let b : r.state.max_locals ≡ q.state.max_locals = ap (λ (x : Standing). x.max_locals) same in
       (a ∙ room_q.0 ∙ before.room.0, b ∙ room_q.1 ∙ before.room.1)
 
-  pub state_at : (p q r : Pass) → MeetsFrame true (told_at method.frames number) number p q → Before method c number p → r.state ≡ q.state → State ≡ Some r.state.kinds
+  pub state_at : (p q r : Pass) → MeetsFrame true (reported_at method.frames number) number p q → Before method c number p → r.state ≡ q.state → State ≡ Some r.state.kinds
   state_at p q r stands before same = (frame_stands p q stands before).0 ∙ ap (λ (x : Standing). Some x.kinds) (sym same)

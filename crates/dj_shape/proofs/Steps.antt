@@ -14,7 +14,7 @@ use Rattle.dj_model.specs.trusted.Linking.{or_else}
 use Rattle.dj_model.specs.trusted.Kinds.{Kinds, placed_at}
 use Rattle.dj_model.specs.trusted.Shape.{after, first_kinds, flows_to, is_handler_frame, locals_flow_to, covers, goes_on_with, state_before, Holds}
 use Rattle.dj_shape.specs.declared.pass.Method.{Method}
-use Rattle.dj_shape.specs.Told.{told_at}
+use Rattle.dj_shape.specs.Reported.{reported_at}
 use Rattle.dj_shape.specs.Flows.{FlowsTo}
 use Rattle.dj_shape.specs.Handlers.{Handled}
 use Rattle.dj_shape.specs.Passing.{HasHandlerFrame, Case, IsCase, arriving, kept, Flowing}
@@ -68,7 +68,7 @@ module _ (method : Method) (c : Case) (is : IsCase method c) (number : ℕ) (ins
       cc
 
   abbrev Begins : Type 0
-  Begins = number ≡ 0 → FlowsTo (first_kinds c.signature c.code) (told_at method.frames 0)
+  Begins = number ≡ 0 → FlowsTo (first_kinds c.signature c.code) (reported_at method.frames 0)
 
   abbrev Handles : Type 0
   Handles = (k : ℕ) (row : Protected) → slice_get method.rows.now k ≡ Some row → row.handler ≡ number → HasHandlerFrame method.frames number

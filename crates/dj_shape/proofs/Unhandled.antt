@@ -2,7 +2,7 @@
 use Rattle.std.proofs.Common.{◌≡◌, ℕ, zero, suc, ◌<◌, ◌⊎◌, min, List, [], ◌∷◌, ◌++◌, length, Option, Some, None, slice_get, refl, sym, ap, subst, inl, inr, arith}
 use Rattle.std.proofs.lemmas.Bool.{cases_lt}
 use Rattle.dj_labels.specs.declared.labelled.Protected.{Protected}
-use Rattle.dj_shape.specs.Told.{ToldFrames}
+use Rattle.dj_shape.specs.Reported.{ReportedFrames}
 use Rattle.dj_shape.specs.Passing.{HasHandlerFrame, IsUnhandled, IsFirstUnhandled, least_of}
 
 kept_at : (rows : List Protected) (row : Protected) (k : ℕ) (r : Protected) → slice_get rows k ≡ Some r → slice_get (rows ++ row ∷ []) k ≡ Some r
@@ -20,7 +20,7 @@ split_at [] row (suc k) r at = absurd cc
 split_at (x ∷ rows) row zero r at = inl at
 split_at (x ∷ rows) row (suc k) r at = split_at rows row k r at
 
-module _ (frames : ToldFrames) (rows : List Protected) (row : Protected) where
+module _ (frames : ReportedFrames) (rows : List Protected) (row : Protected) where
   still : (n : ℕ) → IsUnhandled frames rows n → IsUnhandled frames (rows ++ row ∷ []) n
   still n (k, r, at, own, none) = (k, r, kept_at rows row k r at, own, none)
 

@@ -21,9 +21,9 @@ use Rattle.dj_model.specs.trusted.Kinds.{Signature, signature_with, with_result,
 use Rattle.dj_model.specs.trusted.Shape as shapes
 use Rattle.dj_model.specs.trusted.Shape.{after, taken, leaving, gives, store_kind, is_kind, same_result, result_list, get_kind, put_kind, counts, is_static_mode, call_kinds}
 use Rattle.dj_model.proofs.MappedNames.{either}
-use Rattle.dj_shape.specs.declared.effect.Slots.{Slots}
-use Rattle.dj_shape.specs.declared.effect.Slots.TheVariants as slots
-use Rattle.dj_shape.specs.declared.effect.Movement.TheVariants as moves
+use Rattle.dj_shape.specs.declared.effect.SlotWidth.{SlotWidth}
+use Rattle.dj_shape.specs.declared.effect.SlotWidth.TheVariants as slots
+use Rattle.dj_shape.specs.declared.effect.KindMovement.TheVariants as moves
 use Rattle.dj_shape.specs.Standing.{Standing, HasRoomOf, GivesResult, Leaves, Takes, room}
 use Rattle.dj_shape.specs.Works.{Work, Gives, Loads, Stores, Increments, Moves, Returns, Calls, Fails, got, put, call_work, is_counted, arguments_of, called, performed, work_of, cut_of, put_under, move_view}
 
@@ -79,7 +79,7 @@ under_two_slots : (cut : Option (Cut Kind)) → under_two is_wide cut ≡ put_un
 under_two_slots None = refl
 under_two_slots (Some cut) = refl
 
-pub moved_under : (top below : Slots) (stack : List Kind) → moved is_wide (move_view (moves.Under top below)) stack ≡ put_under below (cut_of top stack)
+pub moved_under : (top below : SlotWidth) (stack : List Kind) → moved is_wide (move_view (moves.Under top below)) stack ≡ put_under below (cut_of top stack)
 unfolding moved
 moved_under slots.One slots.One stack = under_one_slot (one_slot is_wide stack)
 moved_under slots.One slots.Two stack = under_two_slots (one_slot is_wide stack)

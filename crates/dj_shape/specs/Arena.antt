@@ -2,7 +2,7 @@
 use Rattle.std.specs.Prelude.{◌≡◌, ℕ, zero, suc, ◌<◌, ◌≤◌, List, [], ◌∷◌, ◌++◌, length, Option, Some, None, slice_get}
 use Rattle.dj_names.specs.declared.descriptor.Kind.{Kind}
 use Rattle.dj_shape.specs.declared.arena.Slot.{Slot}
-use Rattle.dj_shape.specs.declared.arena.Place.{Place}
+use Rattle.dj_shape.specs.declared.arena.LocalsPlace.{LocalsPlace}
 
 -- the slot at which local variables end
 abbrev pub slot_at : List Slot → ℕ → Option Slot
@@ -28,11 +28,11 @@ abbrev pub AreLinked : List Slot → Type 0
 AreLinked slots = (end : ℕ) (slot : Slot) → slot_at slots end ≡ Some slot → slot.before < end
 
 -- the place is one of these slots
-abbrev pub IsIn : List Slot → Place → Type 0
+abbrev pub IsIn : List Slot → LocalsPlace → Type 0
 IsIn slots place = (place.end ≤ length slots) × (place.count ≡ length (slots_at slots place.end))
 
 -- the local variables of the place are these
-pub record IsAt (slots : List Slot) (place : Place) (locals : List (Option Kind)) : Type 0 where
+pub record IsAt (slots : List Slot) (place : LocalsPlace) (locals : List (Option Kind)) : Type 0 where
   pub within : place.end ≤ length slots
   pub are : slots_at slots place.end ≡ locals
   pub count : place.count ≡ length locals

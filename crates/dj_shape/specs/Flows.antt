@@ -3,22 +3,22 @@ use Rattle.std.specs.Prelude.{◌≡◌, ℕ, ⊤, List, reverse, Option, Some, 
 use Rattle.dj_names.specs.declared.descriptor.Kind.{Kind}
 use Rattle.dj_model.specs.trusted.Values.{local_at}
 use Rattle.dj_model.specs.trusted.Kinds.{Kinds}
-use Rattle.dj_shape.specs.Told.{Told}
+use Rattle.dj_shape.specs.Reported.{Reported}
 
 -- each local variable for which the second list has a kind has it in the first
 abbrev pub LocalsFlow : List (Option Kind) → List (Option Kind) → Type 0
-LocalsFlow locals told = (slot : ℕ) (kind : Kind) → local_at told slot ≡ Some kind → local_at locals slot ≡ Some kind
+LocalsFlow locals reported = (slot : ℕ) (kind : Kind) → local_at reported slot ≡ Some kind → local_at locals slot ≡ Some kind
 
 -- with this left, the run may go on at a frame with these kinds
-abbrev pub Flows : Kinds → Told → Type 0
-Flows left told = LocalsFlow left.locals told.locals × (left.stack ≡ reverse told.stack)
+abbrev pub Flows : Kinds → Reported → Type 0
+Flows left reported = LocalsFlow left.locals reported.locals × (left.stack ≡ reverse reported.stack)
 
 -- the same; where there is no frame, the run may go on
-abbrev pub FlowsTo : Kinds → Option Told → Type 0
+abbrev pub FlowsTo : Kinds → Option Reported → Type 0
 FlowsTo left None = ⊤
-FlowsTo left (Some told) = Flows left told
+FlowsTo left (Some reported) = Flows left reported
 
 -- the same; where there is no frame, the run may not go on
-abbrev pub FlowsToFrame : Kinds → Option Told → Type 0
+abbrev pub FlowsToFrame : Kinds → Option Reported → Type 0
 FlowsToFrame left None = ⊥
-FlowsToFrame left (Some told) = Flows left told
+FlowsToFrame left (Some reported) = Flows left reported

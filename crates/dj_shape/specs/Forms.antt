@@ -7,7 +7,7 @@ use Rattle.dj_model.specs.trusted.Opcodes.{simple, operand_does, jump_rows}
 use Rattle.dj_model.specs.trusted.Kinds.{Kinds}
 use Rattle.dj_shape.specs.declared.needs.Changed.{Changed}
 use Rattle.dj_shape.specs.declared.needs.Changed.TheVariants as changes
-use Rattle.dj_shape.specs.Told.{ToldFrames, told_at}
+use Rattle.dj_shape.specs.Reported.{ReportedFrames, reported_at}
 use Rattle.dj_shape.specs.Flows.{FlowsToFrame}
 use Rattle.dj_shape.specs.Works.{Work, Stores}
 
@@ -30,10 +30,10 @@ form_ends (instrs.Lookup default pairs) = true
 form_ends instr = false
 
 -- each of its targets has a frame, and this fits it
-abbrev pub FlowsAt : Kinds → ToldFrames → ℤ → Type 0
-FlowsAt left frames target = FlowsToFrame left (told_at frames (unsigned_abs target))
+abbrev pub FlowsAt : Kinds → ReportedFrames → ℤ → Type 0
+FlowsAt left frames target = FlowsToFrame left (reported_at frames (unsigned_abs target))
 
-abbrev pub FormFlows : Kinds → ToldFrames → Instr → Type 0
+abbrev pub FormFlows : Kinds → ReportedFrames → Instr → Type 0
 FormFlows left frames (instrs.Branch op target) = FlowsAt left frames target
 FormFlows left frames (instrs.Table default low targets) = FlowsAt left frames default × All (FlowsAt left frames) targets
 FormFlows left frames (instrs.Lookup default pairs) = FlowsAt left frames default × All (λ pair. FlowsAt left frames pair.1) pairs

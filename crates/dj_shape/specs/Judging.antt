@@ -12,16 +12,16 @@ use Rattle.dj_shape.specs.declared.judge.ShapeFault.{ShapeFault}
 use Rattle.dj_shape.specs.Kept.{KeptKinds}
 use Rattle.dj_shape.specs.Pools.{ArePoolKinds}
 use Rattle.dj_shape.specs.Standing.{Standing, HasRoomOf}
-use Rattle.dj_shape.specs.Told.{ToldFrames, AreTold}
+use Rattle.dj_shape.specs.Reported.{ReportedFrames, AreReported}
 use Rattle.dj_shape.specs.Passing.{Case}
 
 -- the code of the case is this code, whose frames were read, and before its first instruction these kinds stand
-pub record IsJudged (kinds : KeptKinds) (returned : Option Kind) (code : MethodCode) (frames : ToldFrames) (state : Standing) (c : Case) : Type 0 where
+pub record IsJudged (kinds : KeptKinds) (returned : Option Kind) (code : MethodCode) (frames : ReportedFrames) (state : Standing) (c : Case) : Type 0 where
   pub kept : ArePoolKinds c.pool kinds
   pub gives : returned ≡ c.signature.result
   pub instructions : c.code.instructions ≡ map (instruction_in c.pool) code.code.code
   pub ranges : c.code.ranges ≡ map (range_in c.pool) code.code.ranges
-  pub told : AreTold c.code.max_stack c.code.max_locals c.placed frames
+  pub reported : AreReported c.code.max_stack c.code.max_locals c.placed frames
   pub room : HasRoomOf state c.code
   pub first : state.kinds ≡ first_kinds c.signature c.code
 
@@ -30,6 +30,6 @@ abbrev pub IsFaultOf : Signature → Code → Option ℕ → Type 0
 IsFaultOf signature code None = HasShape signature code
 IsFaultOf signature code (Some number) = IsShapeFault signature code (Some number)
 
-abbrev pub fault_told : Option ℕ → Option ShapeFault
-fault_told None = None
-fault_told (Some number) = Some (record { number = Some number })
+abbrev pub fault_reported : Option ℕ → Option ShapeFault
+fault_reported None = None
+fault_reported (Some number) = Some (record { number = Some number })

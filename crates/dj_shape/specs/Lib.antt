@@ -4,7 +4,7 @@ pub mod Kept
 pub mod Pools
 pub mod Standing
 pub mod Placing
-pub mod Told
+pub mod Reported
 pub mod Flows
 pub mod Needs
 pub mod Handlers

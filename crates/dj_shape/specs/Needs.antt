@@ -33,7 +33,7 @@ raised None end need = need
 raised (Some kind) end need = record { until = max need.until end; kind = kind }
 
 abbrev pub AreRaised : List (Option Kind) → ℕ → List Need → List Need → Type 0
-AreRaised told end old new = (slot : ℕ) → need_at new slot ≡ raised (local_at told slot) end (need_at old slot)
+AreRaised reported end old new = (slot : ℕ) → need_at new slot ≡ raised (local_at reported slot) end (need_at old slot)
 
 abbrev pub AreSame : List Need → List Need → Type 0
 AreSame old new = (slot : ℕ) → need_at new slot ≡ need_at old slot

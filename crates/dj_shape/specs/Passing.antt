@@ -16,7 +16,7 @@ use Rattle.dj_shape.specs.declared.pass.Method.{Method}
 use Rattle.dj_shape.specs.declared.pass.Pass.{Pass}
 use Rattle.dj_shape.specs.Pools.{ArePoolKinds}
 use Rattle.dj_shape.specs.Standing.{HasRoomOf, standing_in}
-use Rattle.dj_shape.specs.Told.{Told, ToldFrames, told_at, AreTold}
+use Rattle.dj_shape.specs.Reported.{Reported, ReportedFrames, reported_at, AreReported}
 use Rattle.dj_shape.specs.Flows.{Flows, FlowsTo, FlowsToFrame}
 use Rattle.dj_shape.specs.Needs.{IsChanged}
 use Rattle.dj_shape.specs.Handlers.{IsKnownBut}
@@ -33,22 +33,22 @@ IsRun (Other op named) = ⊥
 IsRun i = ⊤
 
 -- each target has a frame, and this fits it
-abbrev pub JumpsFlow : Kinds → ToldFrames → List ℕ → Type 0
-JumpsFlow left frames targets = (target : ℕ) → Contains targets target → FlowsToFrame left (told_at frames target)
+abbrev pub JumpsFlow : Kinds → ReportedFrames → List ℕ → Type 0
+JumpsFlow left frames targets = (target : ℕ) → Contains targets target → FlowsToFrame left (reported_at frames target)
 
 -- ---- handlers
 
 -- the frame of a handler has one operand, a reference
-pub record HasHandlerFrame (frames : ToldFrames) (number : ℕ) : Type 0 where
-  pub told : Told
-  pub at : told_at frames number ≡ Some told
-  pub one : told.stack ≡ kinds.Ref ∷ []
+pub record HasHandlerFrame (frames : ReportedFrames) (number : ℕ) : Type 0 where
+  pub reported : Reported
+  pub at : reported_at frames number ≡ Some reported
+  pub one : reported.stack ≡ kinds.Ref ∷ []
 
-abbrev pub IsUnhandled : ToldFrames → List Protected → ℕ → Type 0
+abbrev pub IsUnhandled : ReportedFrames → List Protected → ℕ → Type 0
 IsUnhandled frames rows number = (k : ℕ) × (row : Protected) × (slice_get rows k ≡ Some row) × (row.handler ≡ number) × (HasHandlerFrame frames number → ⊥)
 
 -- the least first instruction of a handler that has no handler's frame, if there is one
-abbrev pub IsFirstUnhandled : ToldFrames → List Protected → Option ℕ → Type 0
+abbrev pub IsFirstUnhandled : ReportedFrames → List Protected → Option ℕ → Type 0
 IsFirstUnhandled frames rows number = MatchOption number
     ((k : ℕ) (row : Protected) → slice_get rows k ≡ Some row → HasHandlerFrame frames row.handler)
     (λ least. IsUnhandled frames rows least × ((k : ℕ) (row : Protected) → slice_get rows k ≡ Some row → row.handler < least → HasHandlerFrame frames row.handler))
@@ -72,7 +72,7 @@ pub record IsCase (method : Method) (c : Case) : Type 0 where
   pub gives : method.returned ≡ c.signature.result
   pub instructions : c.code.instructions ≡ map (instruction_in c.pool) method.code.now
   pub ranges : c.code.ranges ≡ map (range_in c.pool) method.rows.now
-  pub frames : AreTold c.code.max_stack c.code.max_locals c.placed method.frames
+  pub frames : AreReported c.code.max_stack c.code.max_locals c.placed method.frames
 
 -- the kinds that are left for an instruction without a frame
 abbrev pub arriving : Case → ℕ → Option Kinds
@@ -99,18 +99,18 @@ pub record Before (method : Method) (c : Case) (number : ℕ) (pass : Pass) : Ty
 -- ---- the steps of the pass
 
 -- whether there are kinds before the instruction, and which
-abbrev pub MeetsFrame : Bool → Option Told → ℕ → Pass → Pass → Type 0
+abbrev pub MeetsFrame : Bool → Option Reported → ℕ → Pass → Pass → Type 0
 MeetsFrame true None number old new = (old.going ≡ true) × (new.state.kinds ≡ old.state.kinds) × (new.changed ≡ old.changed)
-MeetsFrame true (Some told) number old new =
-    (standing_in old.state told.locals told.stack ≡ Some new.state.kinds) × (new.changed ≡ changes.All) × (number ≡ 0 → Flows old.state.kinds told)
+MeetsFrame true (Some reported) number old new =
+    (standing_in old.state reported.locals reported.stack ≡ Some new.state.kinds) × (new.changed ≡ changes.All) × (number ≡ 0 → Flows old.state.kinds reported)
 MeetsFrame false None number old new = old.going ≡ false
-MeetsFrame false (Some told) number old new =
-    (standing_in old.state told.locals told.stack ≡ None) ⊎ ((number ≡ 0) × (Flows old.state.kinds told → ⊥))
+MeetsFrame false (Some reported) number old new =
+    (standing_in old.state reported.locals reported.stack ≡ None) ⊎ ((number ≡ 0) × (Flows old.state.kinds reported → ⊥))
 
 -- what is left fits wherever the run goes on
 pub record Flowing (method : Method) (number : ℕ) (left : Kinds) (i : Instruction) : Type 0 where
   pub jumps : JumpsFlow left method.frames (targets i)
-  pub goes_on : ends i ≡ false → (suc number < length method.code.now) × FlowsTo left (told_at method.frames (suc number))
+  pub goes_on : ends i ≡ false → (suc number < length method.code.now) × FlowsTo left (reported_at method.frames (suc number))
 
 pub record Leaving (method : Method) (number : ℕ) (left : Kinds) (going : Bool) (changed : Changed) (i : Instruction) (flows : Bool) : Type 0 where
   pub goes : going ≡ not (ends i)

@@ -8,15 +8,15 @@ use Rattle.dj_shape.specs.declared.frames.KeptFrame.{KeptFrame}
 use Rattle.dj_shape.specs.Arena.{IsIn}
 
 abbrev pub kept_at : BTreeMap ℕ KeptFrame → ℕ → Option KeptFrame
-kept_at told number = get nat_cmp told number
+kept_at reported number = get nat_cmp reported number
 
 -- the local variables of each frame are a place of these slots
 abbrev pub ArePlaced : List Slot → BTreeMap ℕ KeptFrame → Type 0
-ArePlaced slots told = (number : ℕ) (kept : KeptFrame) → kept_at told number ≡ Some kept → IsIn slots kept.place
+ArePlaced slots reported = (number : ℕ) (kept : KeptFrame) → kept_at reported number ≡ Some kept → IsIn slots kept.place
 
 -- an instruction that isn't marked has no frame
 abbrev pub AreMarked : List Bool → BTreeMap ℕ KeptFrame → Type 0
-AreMarked marked told = (number : ℕ) → get_or marked number true ≡ false → kept_at told number ≡ None
+AreMarked marked reported = (number : ℕ) → get_or marked number true ≡ false → kept_at reported number ≡ None
 
 -- a frame is kept, at an instruction that had none
 abbrev pub HasOneMore : BTreeMap ℕ KeptFrame → BTreeMap ℕ KeptFrame → ℕ → KeptFrame → Type 0

@@ -17,18 +17,18 @@ abbrev pub call_at : List (Option Signature) → ℕ → Option Signature
 call_at calls index = get_or calls index None
 
 -- it says what shape needs to know of this
-abbrev pub TellsKind : List (Option Signature) → Named → ConstantKind → Type 0
-TellsKind calls (AnInt z) constants.Int = ⊤
-TellsKind calls (ALong z) constants.Long = ⊤
-TellsKind calls (AText units) constants.Text = ⊤
-TellsKind calls (AClass class) constants.Class = ⊤
-TellsKind calls (AField m) (constants.Field kind) = field_kind m.desc ≡ kind
-TellsKind calls (AMethod m) (constants.Method index) = call_signature m.desc ≡ call_at calls index
-TellsKind calls (AnInterfaceMethod m) (constants.InterfaceMethod index) = call_signature m.desc ≡ call_at calls index
-TellsKind calls Another constants.Other = ⊤
-TellsKind calls named kind = ⊥
+abbrev pub SaysKind : List (Option Signature) → Named → ConstantKind → Type 0
+SaysKind calls (AnInt z) constants.Int = ⊤
+SaysKind calls (ALong z) constants.Long = ⊤
+SaysKind calls (AText units) constants.Text = ⊤
+SaysKind calls (AClass class) constants.Class = ⊤
+SaysKind calls (AField m) (constants.Field kind) = field_kind m.desc ≡ kind
+SaysKind calls (AMethod m) (constants.Method index) = call_signature m.desc ≡ call_at calls index
+SaysKind calls (AnInterfaceMethod m) (constants.InterfaceMethod index) = call_signature m.desc ≡ call_at calls index
+SaysKind calls Another constants.Other = ⊤
+SaysKind calls named kind = ⊥
 
 -- it does so for each index, and for each text that is a descriptor
 pub record ArePoolKinds (pool : List Constant) (kinds : KeptKinds) : Type 0 where
-  pub each : (index : ℕ) → TellsKind kinds.calls (named_at pool index) (get_or kinds.constants index constants.Other)
+  pub each : (index : ℕ) → SaysKind kinds.calls (named_at pool index) (get_or kinds.constants index constants.Other)
   pub calls : (index : ℕ) → IsDescriptor (name_in pool index) → call_signature (desc_in (name_in pool index)) ≡ call_at kinds.calls index

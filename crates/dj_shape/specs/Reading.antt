@@ -11,11 +11,11 @@ use Rattle.dj_model.specs.trusted.Instructions.{Instruction, Nop, New}
 use Rattle.dj_model.specs.trusted.Program.{Code}
 use Rattle.dj_model.specs.trusted.Kinds.{Signature, Entry, Of, NoEntry, Entries, stack_of, fitting, entry_slots, frames_after, Map, Read, Faulty, and_then, Placed, Kinds, depth}
 use Rattle.dj_shape.specs.declared.arena.Slot.{Slot}
-use Rattle.dj_shape.specs.declared.arena.Place.{Place}
+use Rattle.dj_shape.specs.declared.arena.LocalsPlace.{LocalsPlace}
 use Rattle.dj_shape.specs.declared.frames.KeptFrame.{KeptFrame}
 use Rattle.dj_shape.specs.declared.reading.Reader.{Reader}
 use Rattle.dj_shape.specs.Arena.{IsAt, IsIn}
-use Rattle.dj_shape.specs.Told.{Told, ToldFrames, AreTold, told_in, told_kinds}
+use Rattle.dj_shape.specs.Reported.{Reported, ReportedFrames, AreReported, reported_in, reported_kinds}
 
 -- an instruction, as far as reading frames needs to know it: whether it makes an object
 abbrev pub made_as : Bool → Instruction
@@ -43,17 +43,17 @@ entry_view (Some kind) = Of kind
 
 -- whether each type has an entry, and the entries then
 abbrev pub Gains : Bool → Option (List (Option Kind)) → List (Option Kind) → List (Option Kind) → Type 0
-Gains true told old new = (more : List (Option Kind)) × (told ≡ Some more) × (new ≡ old ++ more)
-Gains false told old new = told ≡ None
+Gains true reported old new = (more : List (Option Kind)) × (reported ≡ Some more) × (new ≡ old ++ more)
+Gains false reported old new = reported ≡ None
 
 -- the operands of a form, and the local variables then
 abbrev pub ChangesTo : Option (List Kind) → Option Entries → List (Option Kind) → Type 0
-ChangesTo None told new = option_and_then (λ (e : Entries). stack_of e.stack) told ≡ None
-ChangesTo (Some stack) told new = (e : Entries) × (told ≡ Some e) × (e.locals ≡ new) × (stack_of e.stack ≡ Some stack)
+ChangesTo None reported new = option_and_then (λ (e : Entries). stack_of e.stack) reported ≡ None
+ChangesTo (Some stack) reported new = (e : Entries) × (reported ≡ Some e) × (e.locals ≡ new) × (stack_of e.stack ≡ Some stack)
 
 -- frames that were read, or the number of the first without kinds
-abbrev pub AreRead : Code → List (Option Kind) → List Frame → Result ToldFrames ℕ → Type 0
-AreRead code before frames (Ok told) = (placed : List Placed) × (frames_after code before frames ≡ Read placed) × AreTold code.max_stack code.max_locals placed told
+abbrev pub AreRead : Code → List (Option Kind) → List Frame → Result ReportedFrames ℕ → Type 0
+AreRead code before frames (Ok reported) = (placed : List Placed) × (frames_after code before frames ≡ Read placed) × AreReported code.max_stack code.max_locals placed reported
 AreRead code before frames (Err at) = frames_after code before frames ≡ Faulty at
 
 -- these frames, and those after them
@@ -67,8 +67,8 @@ kept_entries (forms.Full locals stack) before now = 0
 kept_entries form before now = min before now
 
 -- the local variables at each place are the entries up to the place's own
-abbrev pub ArePlaces : List Slot → List Place → List (Option Kind) → Type 0
-ArePlaces slots places entries = (k : ℕ) (place : Place) → slice_get places k ≡ Some place → IsAt slots place (entry_slots (take (suc k) entries))
+abbrev pub ArePlaces : List Slot → List LocalsPlace → List (Option Kind) → Type 0
+ArePlaces slots places entries = (k : ℕ) (place : LocalsPlace) → slice_get places k ≡ Some place → IsAt slots place (entry_slots (take (suc k) entries))
 
 -- each entry has its place
 pub record IsReading (reader : Reader) : Type 0 where
@@ -79,17 +79,17 @@ abbrev pub fits_of : Code → Option Entries → Option Kinds
 fits_of code e = option_and_then (λ (x : Entries). fitting code x.locals (stack_of x.stack)) e
 
 -- a frame was read: it has no kinds that fit, or it has these, and these are the local variables then
-pub record TellsSome (code : Code) (e : Option Entries) (told : Told) (new : List (Option Kind)) : Type 0 where
+pub record SaysSome (code : Code) (e : Option Entries) (reported : Reported) (new : List (Option Kind)) : Type 0 where
   pub entries : Entries
   pub are : e ≡ Some entries
   pub locals : entries.locals ≡ new
-  pub fit : fitting code entries.locals (stack_of entries.stack) ≡ Some (told_kinds code.max_locals told)
-  pub slots : told.locals ≡ entry_slots new
-  pub few : length told.locals ≤ code.max_locals
-  pub low : depth told.stack ≤ code.max_stack
+  pub fit : fitting code entries.locals (stack_of entries.stack) ≡ Some (reported_kinds code.max_locals reported)
+  pub slots : reported.locals ≡ entry_slots new
+  pub few : length reported.locals ≤ code.max_locals
+  pub low : depth reported.stack ≤ code.max_stack
 
 -- what is kept of the frame, whose local variables are in the reader's slots
 abbrev pub IsFrameRead : Code → Option Entries → Option KeptFrame → Reader → Type 0
 IsFrameRead code e None reader = fits_of code e ≡ None
 IsFrameRead code e (Some kept) reader =
-    TellsSome code e (told_in reader.frames.slots.items kept) reader.entries.items × IsIn reader.frames.slots.items kept.place × IsReading reader
+    SaysSome code e (reported_in reader.frames.slots.items kept) reader.entries.items × IsIn reader.frames.slots.items kept.place × IsReading reader

@@ -6,8 +6,8 @@ use Rattle.dj_model.specs.trusted.Initialisation.{padded}
 use Rattle.dj_model.specs.trusted.Kinds.{Kinds, Signature, depth}
 use Rattle.dj_model.specs.trusted.Shape.{taken}
 use Rattle.dj_model.specs.trusted.Values.{Cut}
-use Rattle.dj_shape.specs.declared.state.Piece.{Piece}
-use Rattle.dj_shape.specs.declared.state.Piece.TheVariants as pieces
+use Rattle.dj_shape.specs.declared.state.KindPiece.{KindPiece}
+use Rattle.dj_shape.specs.declared.state.KindPiece.TheVariants as pieces
 
 -- the kinds of the local variables and of the operands, with the room that there is for them
 pub record Standing : Type 0 where
@@ -69,11 +69,11 @@ Takes false kind old new = (wanted : List Kind) → taken (kind ∷ wanted) old 
 -- ---- the upper operands
 
 -- the top first
-abbrev pub piece_kinds : Piece → List Kind
+abbrev pub piece_kinds : KindPiece → List Kind
 piece_kinds (pieces.One kind) = kind ∷ []
 piece_kinds (pieces.Two top under) = top ∷ under ∷ []
 
 -- the answer says whether they were cut, and which operands are left
-abbrev pub IsCut : Option Piece → Option (Cut Kind) → List Kind → Type 0
+abbrev pub IsCut : Option KindPiece → Option (Cut Kind) → List Kind → Type 0
 IsCut None cut rest = cut ≡ None
 IsCut (Some piece) cut rest = cut ≡ Some (record { top = piece_kinds piece; rest = rest })

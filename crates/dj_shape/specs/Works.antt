@@ -14,10 +14,10 @@ use Rattle.dj_model.specs.trusted.Shape.{is_kind, leaving, gives, store_kind, sa
 use Rattle.dj_shape.specs.Pools.{call_at}
 use Rattle.dj_shape.specs.declared.pool.ConstantKind.{ConstantKind}
 use Rattle.dj_shape.specs.declared.pool.ConstantKind.TheVariants as constants
-use Rattle.dj_shape.specs.declared.effect.Slots.{Slots}
-use Rattle.dj_shape.specs.declared.effect.Slots.TheVariants as slots
-use Rattle.dj_shape.specs.declared.effect.Movement.{Movement}
-use Rattle.dj_shape.specs.declared.effect.Movement.TheVariants as moves
+use Rattle.dj_shape.specs.declared.effect.SlotWidth.{SlotWidth}
+use Rattle.dj_shape.specs.declared.effect.SlotWidth.TheVariants as slots
+use Rattle.dj_shape.specs.declared.effect.KindMovement.{KindMovement}
+use Rattle.dj_shape.specs.declared.effect.KindMovement.TheVariants as moves
 use Rattle.dj_shape.specs.declared.effect.Effect.{Effect}
 use Rattle.dj_shape.specs.declared.effect.Effect.TheVariants as effects
 
@@ -158,16 +158,16 @@ class_work op _ = Fails
 
 -- ---- of what the code makes of it
 
-abbrev pub cut_of : Slots → List Kind → Option (Cut Kind)
+abbrev pub cut_of : SlotWidth → List Kind → Option (Cut Kind)
 cut_of slots.One stack = one_slot is_wide stack
 cut_of slots.Two stack = two_slots is_wide stack
 
 -- the upper operands are put once more below those that are cut under them
-abbrev pub put_under : Slots → Option (Cut Kind) → Option (List Kind)
+abbrev pub put_under : SlotWidth → Option (Cut Kind) → Option (List Kind)
 put_under below None = None
 put_under below (Some cut) = under cut.top (cut_of below cut.rest)
 
-abbrev pub move_view : Movement → StackOperation
+abbrev pub move_view : KindMovement → StackOperation
 move_view (moves.Drop slots.One) = Pop
 move_view (moves.Drop slots.Two) = Pop2
 move_view (moves.Double slots.One) = Dup

@@ -15,7 +15,7 @@ pub struct Slot {
 
 /// Where local variables end in the list of slots, and how many there are.
 #[derive(Clone, Copy)]
-pub struct Place {
+pub struct LocalsPlace {
     /// One more than the index of the last one's slot; 0 where there is none.
     pub end: u32,
     pub count: u32,
@@ -25,7 +25,7 @@ pub struct Place {
 #[derive(Drop)]
 pub struct Locals<'a> {
     slots: &'a [Slot],
-    place: Place,
+    place: LocalsPlace,
 }
 
 impl<'a> Model for Locals<'a> {
@@ -56,7 +56,7 @@ fn slot_at(slots: &[Slot], end: u32) -> Option<Slot>
 
 impl<'a> Locals<'a> {
     /// The local variables of a place.
-    pub fn new(slots: &'a [Slot], place: Place) -> Locals<'a>
+    pub fn new(slots: &'a [Slot], place: LocalsPlace) -> Locals<'a>
         requires linked { AreLinked slots.now }
         requires within { IsIn slots.now place }
         ensures { result ≡ slots_at slots.now place.end }
@@ -89,7 +89,7 @@ impl<'a> Locals<'a> {
             return None;
         };
         let count = self.place.count - 1;
-        self.place = Place {
+        self.place = LocalsPlace {
             end: slot.before,
             count,
         };
@@ -110,9 +110,9 @@ fn next_end(count: usize) -> Result<u32, ShapeError>
 /// Appends a local variable to those of a place, which stay as they are.
 pub fn add_slot(
     slots: &mut Vec<Slot>,
-    place: Place,
+    place: LocalsPlace,
     kind: Option<Kind>,
-) -> Result<Place, ShapeError>
+) -> Result<LocalsPlace, ShapeError>
     requires linked { AreLinked slots.old.items }
     requires within { IsIn slots.old.items place }
     ensures linked { AreLinked slots.new.items }
@@ -124,7 +124,7 @@ pub fn add_slot(
         kind,
         before: place.end,
     })?;
-    Ok(Place {
+    Ok(LocalsPlace {
         end,
         count: place.count + 1,
     })

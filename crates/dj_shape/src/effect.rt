@@ -10,20 +10,20 @@ use dj_names::Kind;
 
 /// One operand that takes one slot, or what takes two.
 #[derive(Clone, Copy)]
-pub enum Slots {
+pub enum SlotWidth {
     One,
     Two,
 }
 
 /// What is done to the upper operands alone.
 #[derive(Clone, Copy)]
-pub enum Movement {
+pub enum KindMovement {
     /// They are dropped.
-    Drop(Slots),
+    Drop(SlotWidth),
     /// They are pushed once more.
-    Double(Slots),
+    Double(SlotWidth),
     /// They are pushed once more, below those under them.
-    Under(Slots, Slots),
+    Under(SlotWidth, SlotWidth),
     /// The upper two change places.
     Swap,
 }
@@ -39,7 +39,7 @@ pub enum Effect {
     Store(Kind, u16),
     /// A number is added to a local variable.
     Increment(u16),
-    Move(Movement),
+    Move(KindMovement),
     Return(Option<Kind>),
     /// A method is called, with the count that stands beside its index and the index of its descriptor's text.
     Call {
@@ -104,15 +104,15 @@ fn move_effect(op: u8) -> Effect
     ensures { (calls : List (Option Signature)) → work_view calls result ≡ work_of (row_does stack_rows Nothing op) }
 {
     match op {
-        87 => Effect::Move(Movement::Drop(Slots::One)),
-        88 => Effect::Move(Movement::Drop(Slots::Two)),
-        89 => Effect::Move(Movement::Double(Slots::One)),
-        90 => Effect::Move(Movement::Under(Slots::One, Slots::One)),
-        91 => Effect::Move(Movement::Under(Slots::One, Slots::Two)),
-        92 => Effect::Move(Movement::Double(Slots::Two)),
-        93 => Effect::Move(Movement::Under(Slots::Two, Slots::One)),
-        94 => Effect::Move(Movement::Under(Slots::Two, Slots::Two)),
-        95 => Effect::Move(Movement::Swap),
+        87 => Effect::Move(KindMovement::Drop(SlotWidth::One)),
+        88 => Effect::Move(KindMovement::Drop(SlotWidth::Two)),
+        89 => Effect::Move(KindMovement::Double(SlotWidth::One)),
+        90 => Effect::Move(KindMovement::Under(SlotWidth::One, SlotWidth::One)),
+        91 => Effect::Move(KindMovement::Under(SlotWidth::One, SlotWidth::Two)),
+        92 => Effect::Move(KindMovement::Double(SlotWidth::Two)),
+        93 => Effect::Move(KindMovement::Under(SlotWidth::Two, SlotWidth::One)),
+        94 => Effect::Move(KindMovement::Under(SlotWidth::Two, SlotWidth::Two)),
+        95 => Effect::Move(KindMovement::Swap),
         _ => Effect::Fails,
     }
 }

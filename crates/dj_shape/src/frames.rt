@@ -2,7 +2,7 @@ ghost use Rattle.std.specs.Prelude.{◌≡◌, ℕ, true, false, get_or, IfErr, 
 ghost use Rattle.dj_shape.specs.Arena.{AreLinked};
 ghost use Rattle.dj_shape.specs.Placing.{AreMarked, ArePlaced, HasOneMore, HasSame};
 
-use crate::arena::{Locals, Place, Slot, add_slot};
+use crate::arena::{Locals, LocalsPlace, Slot, add_slot};
 use crate::error::ShapeError;
 use dj_names::Kind;
 use std::alloc::Global;
@@ -11,14 +11,14 @@ use std::collections::BTreeMap;
 /// The kinds of a frame of a stack map, as they are kept.
 #[derive(Drop)]
 pub struct KeptFrame {
-    pub place: Place,
+    pub place: LocalsPlace,
     /// The kinds of the operands, the top last.
     pub stack: Vec<Kind>,
 }
 
 /// The kinds of a frame of a stack map.
 #[derive(Drop)]
-pub struct Telling<'a> {
+pub struct LentFrame<'a> {
     /// The kinds of the local variables in their slots; those after the last have none.
     pub locals: Locals<'a>,
     /// The kinds of the operands, the top last.
@@ -28,23 +28,23 @@ pub struct Telling<'a> {
 /// The kinds of the frames of a stack map, by the numbers of their instructions. Their local variables are kept in slots, and a frame shares the slots of
 /// those that it has from the frame before it: so all frames together take no more memory than their stack map, and a byte for each instruction.
 #[derive(Drop)]
-pub struct Frames {
+pub struct KeptFrames {
     slots: Vec<Slot>,
-    told: BTreeMap<u64, KeptFrame>,
+    reported: BTreeMap<u64, KeptFrame>,
     // For each instruction, whether it may have a frame, so that most aren't looked up.
     marked: Vec<bool>,
     pub ghost linked: { AreLinked slots.items },
-    pub ghost placed: { ArePlaced slots.items told },
-    pub ghost marks: { AreMarked marked.items told },
+    pub ghost placed: { ArePlaced slots.items reported },
+    pub ghost marks: { AreMarked marked.items reported },
 }
 
 // Keeps a frame, where there is none at the instruction yet.
-fn keep(told: &mut BTreeMap<u64, KeptFrame>, at: u64, kept: KeptFrame) -> Result<(), ShapeError>
-    ensures more { IfOk result (λ x. HasOneMore told.old told.new at kept) }
-    ensures same { IfErr result (λ e. HasSame told.old told.new) }
+fn keep(reported: &mut BTreeMap<u64, KeptFrame>, at: u64, kept: KeptFrame) -> Result<(), ShapeError>
+    ensures more { IfOk result (λ x. HasOneMore reported.old reported.new at kept) }
+    ensures same { IfErr result (λ e. HasSame reported.old reported.new) }
 {
-    if !told.contains_key(&at) {
-        told.insert(at, kept)?;
+    if !reported.contains_key(&at) {
+        reported.insert(at, kept)?;
     }
     Ok(())
 }
@@ -70,34 +70,34 @@ fn mark(marked: &mut [bool], number: u64)
     }
 }
 
-impl Frames {
+impl KeptFrames {
     ghost use Rattle.std.specs.Prelude.{◌≡◌, ℕ, false, ◌∷◌, ◌++◌, [], None, Some, IfOk, MatchOption};
     ghost use Rattle.dj_shape.specs.Arena.{IsAt, IsIn, slots_at};
-    ghost use Rattle.dj_shape.specs.Told.{Grows, IsKept, told_at, told_by, told_in};
+    ghost use Rattle.dj_shape.specs.Reported.{Grows, IsKept, reported_at, reported_by, reported_in};
 
     /// No frames, of code with this many instructions.
-    pub fn new(alloc: Global, count: usize) -> Result<Frames, ShapeError>
-        ensures { IfOk result (λ frames. (number : ℕ) → told_at frames number ≡ None) }
+    pub fn new(alloc: Global, count: usize) -> Result<KeptFrames, ShapeError>
+        ensures { IfOk result (λ frames. (number : ℕ) → reported_at frames number ≡ None) }
     {
-        Ok(Frames {
+        Ok(KeptFrames {
             slots: Vec::new(alloc),
-            told: BTreeMap::new(alloc),
+            reported: BTreeMap::new(alloc),
             marked: vec![in alloc; false; count]?,
         })
     }
 
     /// Whether there may be a frame at the instruction of this number. Most have none.
-    pub fn may_tell(&self, number: u64) -> bool
-        ensures { result ≡ false → told_at self.now number ≡ None }
+    pub fn may_report(&self, number: u64) -> bool
+        ensures { result ≡ false → reported_at self.now number ≡ None }
     {
         is_marked(&self.marked, number)
     }
 
     /// The kinds of the frame at the instruction of this number, if there is one.
-    pub fn at(&self, number: u64) -> Option<Telling<'_>>
-        ensures { MatchOption result (told_at self.now number ≡ None) (λ telling. told_at self.now number ≡ Some (told_by telling)) }
+    pub fn at(&self, number: u64) -> Option<LentFrame<'_>>
+        ensures { MatchOption result (reported_at self.now number ≡ None) (λ lent_frame. reported_at self.now number ≡ Some (reported_by lent_frame)) }
     {
-        if self.may_tell(number) {
+        if self.may_report(number) {
             self.look_up(number)
         } else {
             None
@@ -105,12 +105,12 @@ impl Frames {
     }
 
     // The same, whether the instruction is marked or not.
-    fn look_up(&self, number: u64) -> Option<Telling<'_>>
-        ensures { MatchOption result (told_at self.now number ≡ None) (λ telling. told_at self.now number ≡ Some (told_by telling)) }
+    fn look_up(&self, number: u64) -> Option<LentFrame<'_>>
+        ensures { MatchOption result (reported_at self.now number ≡ None) (λ lent_frame. reported_at self.now number ≡ Some (reported_by lent_frame)) }
     {
-        match self.told.get(&number) {
+        match self.reported.get(&number) {
             None => None,
-            Some(kept) => Some(Telling {
+            Some(kept) => Some(LentFrame {
                 locals: self.locals(kept.place),
                 stack: kept.stack.as_slice(),
             }),
@@ -118,7 +118,7 @@ impl Frames {
     }
 
     /// The local variables of a place.
-    pub fn locals(&self, place: Place) -> Locals<'_>
+    pub fn locals(&self, place: LocalsPlace) -> Locals<'_>
         requires { IsIn self.now.slots.items place }
         ensures { result ≡ slots_at self.now.slots.items place.end }
     {
@@ -126,7 +126,7 @@ impl Frames {
     }
 
     /// Appends a local variable to those of a place.
-    pub fn add(&mut self, place: Place, kind: Option<Kind>) -> Result<Place, ShapeError>
+    pub fn add(&mut self, place: LocalsPlace, kind: Option<Kind>) -> Result<LocalsPlace, ShapeError>
         requires { IsIn self.old.slots.items place }
         ensures grows { Grows self.old self.new }
         ensures added { IfOk result (λ more. IsAt self.new.slots.items more (slots_at self.old.slots.items place.end ++ kind ∷ [])) }
@@ -138,9 +138,9 @@ impl Frames {
     pub fn keep(&mut self, at: u64, kept: KeptFrame) -> Result<(), ShapeError>
         requires { IsIn self.old.slots.items kept.place }
         ensures same { self.new.slots.items ≡ self.old.slots.items }
-        ensures kept { IfOk result (λ x. IsKept self.old self.new at (told_in self.old.slots.items kept)) }
+        ensures kept { IfOk result (λ x. IsKept self.old self.new at (reported_in self.old.slots.items kept)) }
     {
         mark(&mut self.marked, at);
-        keep(&mut self.told, at, kept)
+        keep(&mut self.reported, at, kept)
     }
 }

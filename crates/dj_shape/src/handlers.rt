@@ -1,12 +1,12 @@
 ghost use Rattle.std.specs.Prelude.{◌≡◌, List, Contains, Option, IfOk};
 ghost use Rattle.dj_names.specs.declared.descriptor.Kind.{Kind};
 ghost use Rattle.dj_labels.specs.declared.labelled.Protected.{Protected};
-ghost use Rattle.dj_shape.specs.Told.{ToldFrames};
+ghost use Rattle.dj_shape.specs.Reported.{ReportedFrames};
 ghost use Rattle.dj_shape.specs.Handlers.{AreRising, Begins, Enters, IsKnown, IsKnownBut, MeetAll, Stands};
 
 use crate::error::ShapeError;
 use crate::flows::locals_flow;
-use crate::frames::Frames;
+use crate::frames::KeptFrames;
 use crate::needs::{Changed, Need, meets, raise};
 use dj_labels::Protected;
 use dj_names::Kind;
@@ -37,7 +37,7 @@ fn in_order(alloc: Global, rows: &[Protected]) -> Result<Vec<Protected>, ShapeEr
 // Begins a range. Whether the local variables have the kinds of its handler's frame, if the range has any instruction.
 fn begin(
     needs: &mut Vec<Need>,
-    frames: &Frames,
+    frames: &KeptFrames,
     row: Protected,
     locals: &[Option<Kind>],
 ) -> Result<bool, ShapeError>
@@ -47,20 +47,20 @@ fn begin(
         return Ok(true);
     }
     let handler = u64::from(row.handler);
-    let Some(told) = frames.at(handler) else {
+    let Some(reported) = frames.at(handler) else {
         return Ok(true);
     };
-    if !locals_flow(locals, &told.locals) {
+    if !locals_flow(locals, &reported.locals) {
         return Ok(false);
     }
-    raise(needs, &told.locals, row.end)?;
+    raise(needs, &reported.locals, row.end)?;
     Ok(true)
 }
 
 impl Handlers {
     /// The ranges of an exception table, none of which has begun.
     pub fn new(alloc: Global, rows: &[Protected]) -> Result<Handlers, ShapeError>
-        ensures stands { IfOk result (λ handlers. (frames : ToldFrames) → Stands frames 0 handlers) }
+        ensures stands { IfOk result (λ handlers. (frames : ReportedFrames) → Stands frames 0 handlers) }
         ensures to { IfOk result (λ handlers. (row : Protected) → Contains rows.now row → Contains handlers.rows.items row) }
         ensures from { IfOk result (λ handlers. (row : Protected) → Contains handlers.rows.items row → Contains rows.now row) }
         ensures meet { IfOk result (λ handlers. (locals : List (Option Kind)) → MeetAll handlers.needs.items 0 locals) }
@@ -75,7 +75,7 @@ impl Handlers {
     // Begins the ranges that start at the instruction. Whether the local variables have the kinds of their handlers' frames.
     fn begin_all(
         &mut self,
-        frames: &Frames,
+        frames: &KeptFrames,
         number: u32,
         locals: &[Option<Kind>],
     ) -> Result<bool, ShapeError>
@@ -98,7 +98,7 @@ impl Handlers {
     /// frames of the handlers of all ranges that the instruction is in.
     pub fn enter(
         &mut self,
-        frames: &Frames,
+        frames: &KeptFrames,
         number: u32,
         locals: &[Option<Kind>],
         changed: Changed,

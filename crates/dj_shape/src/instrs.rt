@@ -11,7 +11,7 @@ ghost use Rattle.dj_shape.specs.Works.{work_of, work_view};
 
 use crate::effect::Effect;
 use crate::flows::flows_to_frame;
-use crate::frames::Frames;
+use crate::frames::KeptFrames;
 use crate::needs::Changed;
 use crate::pool::{ConstantKind, PoolKinds};
 use crate::state::KindState;
@@ -100,13 +100,13 @@ pub fn changed_by(effect: Effect) -> Changed
 
 // ---- where it jumps to
 
-fn flows_at(state: &KindState, frames: &Frames, target: i64) -> bool
+fn flows_at(state: &KindState, frames: &KeptFrames, target: i64) -> bool
     ensures { Decides result (FlowsAt state.now.kinds frames.now target) }
 {
     flows_to_frame(state, frames, target.unsigned_abs())
 }
 
-fn all_flow(state: &KindState, frames: &Frames, targets: &[i64]) -> bool
+fn all_flow(state: &KindState, frames: &KeptFrames, targets: &[i64]) -> bool
     ensures { Decides result (All (FlowsAt state.now.kinds frames.now) targets.now) }
 {
     for target in targets {
@@ -117,7 +117,7 @@ fn all_flow(state: &KindState, frames: &Frames, targets: &[i64]) -> bool
     true
 }
 
-fn pairs_flow(state: &KindState, frames: &Frames, pairs: &[(i32, i64)]) -> bool
+fn pairs_flow(state: &KindState, frames: &KeptFrames, pairs: &[(i32, i64)]) -> bool
     ensures { Decides result (All (λ pair. FlowsAt state.now.kinds frames.now pair.1) pairs.now) }
 {
     for pair in pairs {
@@ -128,7 +128,7 @@ fn pairs_flow(state: &KindState, frames: &Frames, pairs: &[(i32, i64)]) -> bool
     true
 }
 
-fn form_flows(state: &KindState, frames: &Frames, instr: &Instr) -> bool
+fn form_flows(state: &KindState, frames: &KeptFrames, instr: &Instr) -> bool
     ensures { Decides result (FormFlows state.now.kinds frames.now instr.now) }
 {
     match instr {
@@ -146,7 +146,7 @@ fn form_flows(state: &KindState, frames: &Frames, instr: &Instr) -> bool
 }
 
 /// Whether each target of the instruction has a frame, into which these kinds flow; an instruction that isn't supported has no targets.
-pub fn jumps_flow(state: &KindState, frames: &Frames, instr: &Instr) -> bool
+pub fn jumps_flow(state: &KindState, frames: &KeptFrames, instr: &Instr) -> bool
     ensures { (pool : List Constant) → IsRun (instruction_in pool instr.now) → Decides result (JumpsFlow state.now.kinds frames.now (targets (instruction_in pool instr.now))) }
 {
     form_flows(state, frames, instr)

@@ -5,7 +5,7 @@ ghost use Rattle.dj_declared.specs.trusted.Files.{name_in};
 ghost use Rattle.dj_declared.specs.Members.{IsDescriptor};
 ghost use Rattle.dj_program.specs.trusted.Codes.{code_in};
 ghost use Rattle.dj_program.specs.Views.{parts_of};
-ghost use Rattle.dj_shape.specs.Judging.{IsFaultOf, IsJudged, fault_told};
+ghost use Rattle.dj_shape.specs.Judging.{IsFaultOf, IsJudged, fault_reported};
 ghost use Rattle.dj_shape.specs.Passing.{Case, IsFirst};
 ghost use Rattle.dj_shape.specs.Pools.{ArePoolKinds};
 ghost use Rattle.dj_shape.specs.Reading.{entries_with, signature_with};
@@ -13,7 +13,7 @@ ghost use Rattle.dj_shape.specs.trusted.Rule.{signature_at};
 ghost use Rattle.dj_shape.specs.Rule.{IsShapeAnswer};
 
 use crate::error::ShapeError;
-use crate::frames::Frames as ToldFrames;
+use crate::frames::KeptFrames;
 use crate::pass::{Method, Pass, first_unhandled};
 use crate::pool::{CallKinds, PoolKinds};
 use crate::reading::{Reader, objects_made, read_frames};
@@ -62,7 +62,7 @@ fn judge(
     kinds: &PoolKinds,
     returned: Option<Kind>,
     code: &MethodCode,
-    frames: ToldFrames,
+    frames: KeptFrames,
     state: KindState,
 ) -> Result<Option<u32>, ShapeError>
     requires { length code.now.code.code < 2 ^ 32 }
@@ -111,12 +111,12 @@ fn fault_with_frames(
         frames.as_slice(),
     )? {
         Err(at) => Ok(Some(at)),
-        Ok(told) => judge(alloc, kinds, call.result(), code, told, state),
+        Ok(reported) => judge(alloc, kinds, call.result(), code, reported, state),
     }
 }
 
-fn fault_told(fault: Option<u32>) -> Option<ShapeFault>
-    ensures { result ≡ fault_told fault }
+fn fault_reported(fault: Option<u32>) -> Option<ShapeFault>
+    ensures { result ≡ fault_reported fault }
 {
     match fault {
         None => None,
@@ -146,5 +146,5 @@ pub fn shape(
         return Ok(None);
     };
     let fault = fault_with_frames(alloc, kinds, is_static, call, code, frames)?;
-    Ok(fault_told(fault))
+    Ok(fault_reported(fault))
 }

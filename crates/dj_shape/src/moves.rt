@@ -5,24 +5,24 @@ ghost use Rattle.dj_model.specs.trusted.Values.{below, doubled, dropped, moved, 
 ghost use Rattle.dj_shape.specs.Standing.{SameRoom, SameLocals, Leaves, IsCut, piece_kinds, room};
 ghost use Rattle.dj_shape.specs.Works.{cut_of, move_view, put_under};
 
-use crate::effect::{Movement, Slots};
+use crate::effect::{KindMovement, SlotWidth};
 use crate::error::ShapeError;
-use crate::state::{KindState, Piece};
+use crate::state::{KindPiece, KindState};
 
 // The upper operands, which are popped.
-fn cut(state: &mut KindState, slots: Slots) -> Option<Piece>
+fn cut(state: &mut KindState, slots: SlotWidth) -> Option<KindPiece>
     ensures locals { SameLocals state.old state.new }
     ensures cut { IsCut result (cut_of slots state.old.kinds.stack) state.new.kinds.stack }
 {
     match slots {
-        Slots::One => state.cut_one(),
-        Slots::Two => state.cut_two(),
+        SlotWidth::One => state.cut_one(),
+        SlotWidth::Two => state.cut_two(),
     }
 }
 
 // Whether there is room for these operands, and for those above them.
 #[tactic(auto, using(crate::proofs::States::depth_append))]
-fn put_both(state: &mut KindState, first: Piece, second: Piece) -> Result<bool, ShapeError>
+fn put_both(state: &mut KindState, first: KindPiece, second: KindPiece) -> Result<bool, ShapeError>
     ensures room { SameRoom state.old state.new }
     ensures put { IfOk result (λ fits. Leaves fits
         (leaving (room state.old) state.old.kinds.locals (Some (piece_kinds second ++ (piece_kinds first ++ state.old.kinds.stack)))) state.new.kinds) }
@@ -30,7 +30,7 @@ fn put_both(state: &mut KindState, first: Piece, second: Piece) -> Result<bool, 
     Ok(state.put(first)? && state.put(second)?)
 }
 
-fn dropped(state: &mut KindState, slots: Slots) -> Result<bool, ShapeError>
+fn dropped(state: &mut KindState, slots: SlotWidth) -> Result<bool, ShapeError>
     ensures room { SameRoom state.old state.new }
     ensures left { IfOk result (λ fits. Leaves fits
         (leaving (room state.old) state.old.kinds.locals (dropped (cut_of slots state.old.kinds.stack))) state.new.kinds) }
@@ -41,7 +41,7 @@ fn dropped(state: &mut KindState, slots: Slots) -> Result<bool, ShapeError>
     }
 }
 
-fn doubled(state: &mut KindState, slots: Slots) -> Result<bool, ShapeError>
+fn doubled(state: &mut KindState, slots: SlotWidth) -> Result<bool, ShapeError>
     ensures room { SameRoom state.old state.new }
     ensures left { IfOk result (λ fits. Leaves fits
         (leaving (room state.old) state.old.kinds.locals (doubled (cut_of slots state.old.kinds.stack))) state.new.kinds) }
@@ -54,7 +54,7 @@ fn doubled(state: &mut KindState, slots: Slots) -> Result<bool, ShapeError>
 
 // Pushes the top once more, below what is cut under it.
 #[tactic(auto, using(crate::proofs::States::depth_append))]
-fn put_under(state: &mut KindState, top: Piece, slots: Slots) -> Result<bool, ShapeError>
+fn put_under(state: &mut KindState, top: KindPiece, slots: SlotWidth) -> Result<bool, ShapeError>
     ensures room { SameRoom state.old state.new }
     ensures left { IfOk result (λ fits. Leaves fits
         (leaving (room state.old) state.old.kinds.locals (under (piece_kinds top) (cut_of slots state.old.kinds.stack))) state.new.kinds) }
@@ -65,7 +65,11 @@ fn put_under(state: &mut KindState, top: Piece, slots: Slots) -> Result<bool, Sh
     }
 }
 
-fn doubled_under(state: &mut KindState, slots: Slots, under: Slots) -> Result<bool, ShapeError>
+fn doubled_under(
+    state: &mut KindState,
+    slots: SlotWidth,
+    under: SlotWidth,
+) -> Result<bool, ShapeError>
     ensures room { SameRoom state.old state.new }
     ensures left { IfOk result (λ fits. Leaves fits
         (leaving (room state.old) state.old.kinds.locals (put_under under (cut_of slots state.old.kinds.stack))) state.new.kinds) }
@@ -92,15 +96,15 @@ fn swapped(state: &mut KindState) -> Result<bool, ShapeError>
 
 /// Whether the operands can be moved in this way, and what is left fits.
 #[tactic(auto, using(crate::proofs::Works::moved_under), unfolding(dj_model::specs::trusted::Values::moved))]
-pub fn move_operands(state: &mut KindState, movement: Movement) -> Result<bool, ShapeError>
+pub fn move_operands(state: &mut KindState, movement: KindMovement) -> Result<bool, ShapeError>
     ensures room { SameRoom state.old state.new }
     ensures left { IfOk result (λ fits. Leaves fits
         (leaving (room state.old) state.old.kinds.locals (moved is_wide (move_view movement) state.old.kinds.stack)) state.new.kinds) }
 {
     match movement {
-        Movement::Drop(slots) => dropped(state, slots),
-        Movement::Double(slots) => doubled(state, slots),
-        Movement::Under(slots, under) => doubled_under(state, slots, under),
-        Movement::Swap => swapped(state),
+        KindMovement::Drop(slots) => dropped(state, slots),
+        KindMovement::Double(slots) => doubled(state, slots),
+        KindMovement::Under(slots, under) => doubled_under(state, slots, under),
+        KindMovement::Swap => swapped(state),
     }
 }

@@ -63,34 +63,34 @@ fn grow(needs: &mut Vec<Need>, count: usize) -> Result<(), ShapeError>
 }
 
 // The local variable is needed up to the end, with the kind that the frame has for it, if it has one.
-fn note(needs: &mut [Need], slot: usize, told: Option<Kind>, end: u32)
+fn note(needs: &mut [Need], slot: usize, reported: Option<Kind>, end: u32)
     requires { slot < length needs.old }
     ensures count { length needs.new ≡ length needs.old }
-    ensures here { need_at needs.new slot ≡ raised told end (need_at needs.old slot) }
+    ensures here { need_at needs.new slot ≡ raised reported end (need_at needs.old slot) }
     ensures others { (other : ℕ) → (other ≡ slot → ⊥) → need_at needs.new other ≡ need_at needs.old other }
 {
-    if let Some(kind) = told {
+    if let Some(kind) = reported {
         let until = needs[slot].until.max(end);
         needs[slot] = Need { until, kind };
     }
 }
 
 // Each local variable for which the frame has a kind is needed up to the end.
-fn note_all(needs: &mut [Need], told: &Locals<'_>, end: u32)
-    requires { length told.now ≤ length needs.old }
-    ensures { AreRaised told.now end needs.old needs.new }
+fn note_all(needs: &mut [Need], reported: &Locals<'_>, end: u32)
+    requires { length reported.now ≤ length needs.old }
+    ensures { AreRaised reported.now end needs.old needs.new }
 {
-    let mut rest = told.again();
+    let mut rest = reported.again();
     while let Some((slot, kind)) = rest.pop() {
         note(needs, slot, kind, end);
     }
 }
 
 /// Each local variable for which the frame of a handler has a kind is needed up to the end of its range.
-pub fn raise(needs: &mut Vec<Need>, told: &Locals<'_>, end: u32) -> Result<(), ShapeError>
-    ensures { IfOk result (λ x. AreRaised told.now end needs.old.items needs.new.items) }
+pub fn raise(needs: &mut Vec<Need>, reported: &Locals<'_>, end: u32) -> Result<(), ShapeError>
+    ensures { IfOk result (λ x. AreRaised reported.now end needs.old.items needs.new.items) }
 {
-    grow(needs, told.len())?;
-    note_all(needs, told, end);
+    grow(needs, reported.len())?;
+    note_all(needs, reported, end);
     Ok(())
 }

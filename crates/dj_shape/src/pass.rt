@@ -7,14 +7,14 @@ ghost use Rattle.dj_shape.specs.Flows.{FlowsTo};
 ghost use Rattle.dj_shape.specs.Handlers.{Enters, IsKnownBut};
 ghost use Rattle.dj_shape.specs.Passing.{Answers, Before, Case, HasHandlerFrame, IsCase, IsFirst, IsFirstUnhandled, Leaving, MeetsFrame, least_of};
 ghost use Rattle.dj_shape.specs.Standing.{HasRoomOf, SameRoom};
-ghost use Rattle.dj_shape.specs.Told.{told_at};
+ghost use Rattle.dj_shape.specs.Reported.{reported_at};
 ghost use Rattle.dj_shape.specs.Works.{work_of, work_view};
 
 use crate::apply::{apply, effect_of};
 use crate::effect::Effect;
 use crate::error::ShapeError;
 use crate::flows::{flows, flows_to, same_stacks};
-use crate::frames::Frames;
+use crate::frames::KeptFrames;
 use crate::handlers::Handlers;
 use crate::instrs::{changed_by, ends, jumps_flow};
 use crate::needs::Changed;
@@ -32,7 +32,7 @@ pub struct Method<'a> {
     pub code: &'a [Instr],
     pub rows: &'a [Protected],
     /// The kinds of its frames, by the numbers of their instructions.
-    pub frames: Frames,
+    pub frames: KeptFrames,
     /// The kind of what the method returns.
     pub returned: Option<Kind>,
     /// The least first instruction of a handler that has no handler's frame.
@@ -63,24 +63,24 @@ impl Pass {
     fn meet_frame(&mut self, method: &Method<'_>, number: u32) -> Result<bool, ShapeError>
         ensures room { SameRoom self.old.state self.new.state }
         ensures same { self.new.handlers ≡ self.old.handlers }
-        ensures met { IfOk result (λ stands. MeetsFrame stands (told_at method.now.frames number) number self.old self.new) }
+        ensures met { IfOk result (λ stands. MeetsFrame stands (reported_at method.now.frames number) number self.old self.new) }
     {
-        if !method.frames.may_tell(u64::from(number)) {
+        if !method.frames.may_report(u64::from(number)) {
             return Ok(self.going);
         }
-        let Some(told) = method.frames.at(u64::from(number)) else {
+        let Some(reported) = method.frames.at(u64::from(number)) else {
             return Ok(self.going);
         };
-        if number == 0 && !flows(&self.state, &told) {
+        if number == 0 && !flows(&self.state, &reported) {
             return Ok(false);
         }
         self.changed = Changed::All;
-        self.state.set(&told.locals, told.stack)
+        self.state.set(&reported.locals, reported.stack)
     }
 
     // Whether the run goes on at an instruction, and with kinds that flow into its frame, if it has one.
     fn goes_on(&self, method: &Method<'_>, next: usize) -> bool
-        ensures { Decides result ((next < length method.now.code.now) × FlowsTo self.now.state.kinds (told_at method.now.frames next)) }
+        ensures { Decides result ((next < length method.now.code.now) × FlowsTo self.now.state.kinds (reported_at method.now.frames next)) }
     {
         next < method.code.len() && flows_to(&self.state, &method.frames, next as u64)
     }
@@ -163,12 +163,12 @@ impl Pass {
 }
 
 // Whether the frame at the instruction has one operand, a reference.
-fn has_handler_frame(frames: &Frames, number: u32) -> bool
+fn has_handler_frame(frames: &KeptFrames, number: u32) -> bool
     ensures { Decides result (HasHandlerFrame frames.now number) }
 {
     match frames.at(u64::from(number)) {
         None => false,
-        Some(told) => same_stacks(told.stack, &[Kind::Ref]),
+        Some(reported) => same_stacks(reported.stack, &[Kind::Ref]),
     }
 }
 
@@ -182,7 +182,7 @@ fn least_of(least: Option<u32>, number: u32) -> u32
 }
 
 // The lesser of this number and the first instruction of the row's handler, where that has no handler's frame.
-fn with_row(frames: &Frames, least: Option<u32>, row: Protected) -> Option<u32>
+fn with_row(frames: &KeptFrames, least: Option<u32>, row: Protected) -> Option<u32>
     ensures { (rows : List Protected) → IsFirstUnhandled frames.now rows least → IsFirstUnhandled frames.now (rows ++ row ∷ []) result }
 {
     if has_handler_frame(frames, row.handler) {
@@ -193,7 +193,7 @@ fn with_row(frames: &Frames, least: Option<u32>, row: Protected) -> Option<u32>
 }
 
 /// The least first instruction of a handler that has no handler's frame.
-pub fn first_unhandled(frames: &Frames, rows: &[Protected]) -> Option<u32>
+pub fn first_unhandled(frames: &KeptFrames, rows: &[Protected]) -> Option<u32>
     ensures { IsFirstUnhandled frames.now rows.now result }
 {
     let mut least: Option<u32> = None;

@@ -11,11 +11,11 @@ ghost use Rattle.dj_shape.specs.Arena.{IsAt, IsIn, slots_at};
 ghost use Rattle.dj_shape.specs.Makes.{form_makes};
 ghost use Rattle.dj_shape.specs.Pools.{ArePoolKinds};
 ghost use Rattle.dj_shape.specs.Reading.{ArePlaces, AreRead, ChangesTo, Gains, IsFrameRead, IsReading, entry_view, frame_code, kept_entries, made_as};
-ghost use Rattle.dj_shape.specs.Told.{Grows, told_at};
+ghost use Rattle.dj_shape.specs.Reported.{Grows, reported_at};
 
-use crate::arena::{Locals, Place};
+use crate::arena::{Locals, LocalsPlace};
 use crate::error::ShapeError;
-use crate::frames::{Frames, KeptFrame};
+use crate::frames::{KeptFrame, KeptFrames};
 use crate::instrs::makes_object;
 use crate::kinds::depth_within;
 use crate::pool::PoolKinds;
@@ -26,12 +26,12 @@ use std::marker::Model;
 
 /// For each instruction of code, whether it makes an object of a class.
 #[derive(Drop)]
-pub struct Made<'a> {
+pub struct ObjectMakers<'a> {
     kinds: &'a PoolKinds,
     code: &'a [Instr],
 }
 
-impl<'a> Model for Made<'a> {
+impl<'a> Model for ObjectMakers<'a> {
     ghost use Rattle.std.specs.Prelude.{Bool, List, map};
     ghost use Rattle.dj_shape.specs.Makes.{form_makes};
 
@@ -41,10 +41,10 @@ impl<'a> Model for Made<'a> {
 }
 
 /// For each instruction, whether it makes an object of a class.
-pub fn objects_made<'a>(kinds: &'a PoolKinds, code: &'a [Instr]) -> Made<'a>
+pub fn objects_made<'a>(kinds: &'a PoolKinds, code: &'a [Instr]) -> ObjectMakers<'a>
     ensures { (pool : List Constant) → ArePoolKinds pool kinds.now → result ≡ map (λ i. makes_uninitialised (instruction_in pool i)) code.now }
 {
-    Made { kinds, code }
+    ObjectMakers { kinds, code }
 }
 
 // Whether the instruction of the number makes an object.
@@ -58,7 +58,7 @@ fn makes_at(kinds: &PoolKinds, code: &[Instr], number: u32) -> bool
     }
 }
 
-impl Made<'_> {
+impl ObjectMakers<'_> {
     // Whether the instruction of the number makes an object.
     fn is_made(&self, number: u32) -> bool
         ensures { result ≡ get_or self.now number false }
@@ -68,7 +68,7 @@ impl Made<'_> {
 }
 
 // What an instruction makes, if it makes an object.
-fn made_entry(made: &Made<'_>, number: u32) -> Option<Option<Kind>>
+fn made_entry(made: &ObjectMakers<'_>, number: u32) -> Option<Option<Kind>>
     ensures { entry_view result ≡ made_by (slice_get (map made_as made.now) number) }
 {
     if made.is_made(number) {
@@ -79,7 +79,7 @@ fn made_entry(made: &Made<'_>, number: u32) -> Option<Option<Kind>>
 }
 
 // The entry of a type: a value of a kind, or one that may be anything; or there is none.
-fn entry_of(made: &Made<'_>, ty: VType) -> Option<Option<Kind>>
+fn entry_of(made: &ObjectMakers<'_>, ty: VType) -> Option<Option<Kind>>
     ensures { (max_stack max_locals : ℕ) → entry_view result ≡ entry_of (frame_code max_stack max_locals made.now) ty }
 {
     match ty {
@@ -95,10 +95,10 @@ fn entry_of(made: &Made<'_>, ty: VType) -> Option<Option<Kind>>
 // Appends the entries of types, one after the other. Whether each type has one.
 fn add_entries(
     entries: &mut Vec<Option<Kind>>,
-    made: &Made<'_>,
+    made: &ObjectMakers<'_>,
     types: &[VType],
 ) -> Result<bool, ShapeError>
-    ensures { IfOk result (λ told. (max_stack max_locals : ℕ) → Gains told (entries_of (frame_code max_stack max_locals made.now) types.now) entries.old.items entries.new.items) }
+    ensures { IfOk result (λ reported. (max_stack max_locals : ℕ) → Gains reported (entries_of (frame_code max_stack max_locals made.now) types.now) entries.old.items entries.new.items) }
 {
     for ty in types {
         let Some(entry) = entry_of(made, *ty) else {
@@ -126,7 +126,7 @@ fn stack_kinds(alloc: Global, entries: &[Option<Kind>]) -> Result<Option<Vec<Kin
 // The operands that types declare.
 fn operands(
     alloc: Global,
-    made: &Made<'_>,
+    made: &ObjectMakers<'_>,
     types: &[VType],
 ) -> Result<Option<Vec<Kind>>, ShapeError>
     ensures { IfOk result (λ stack. (max_stack max_locals : ℕ) → option_map (λ v. v.items) stack ≡ option_and_then stack_of (entries_of (frame_code max_stack max_locals made.now) types.now)) }
@@ -153,7 +153,7 @@ fn chop(alloc: Global, entries: &mut Vec<Option<Kind>>, count: usize) -> Option<
 fn change(
     alloc: Global,
     entries: &mut Vec<Option<Kind>>,
-    made: &Made<'_>,
+    made: &ObjectMakers<'_>,
     form: &Form,
 ) -> Result<Option<Vec<Kind>>, ShapeError>
     ensures { IfOk result (λ stack. (max_stack max_locals : ℕ) → ChangesTo (option_map (λ v. v.items) stack) (form_entries (frame_code max_stack max_locals made.now) entries.old.items form.now) entries.new.items) }
@@ -191,17 +191,21 @@ fn kept_entries(form: &Form, before: usize, now: usize) -> usize
 // ---- the local variables in slots
 
 // The place of the last entry that has one.
-fn last_place(places: &[Place]) -> Place
+fn last_place(places: &[LocalsPlace]) -> LocalsPlace
     ensures { (slots : List Slot) (entries : List (Option Kind)) → ArePlaces slots places.now entries → IsAt slots result (entry_slots (take (length places.now) entries)) }
 {
     match places.last() {
-        None => Place { end: 0, count: 0 },
+        None => LocalsPlace { end: 0, count: 0 },
         Some(place) => *place,
     }
 }
 
 // Appends an entry in its slot, or in its two, to the local variables of a place.
-fn add_entry(frames: &mut Frames, place: Place, entry: Option<Kind>) -> Result<Place, ShapeError>
+fn add_entry(
+    frames: &mut KeptFrames,
+    place: LocalsPlace,
+    entry: Option<Kind>,
+) -> Result<LocalsPlace, ShapeError>
     requires { IsIn frames.old.slots.items place }
     ensures grows { Grows frames.old frames.new }
     ensures added { IfOk result (λ more. IsAt frames.new.slots.items more (slots_at frames.old.slots.items place.end ++ entry_slots (entry ∷ []))) }
@@ -219,8 +223,8 @@ pub struct Reader {
     // The last one's local variables, one after the other.
     entries: Vec<Option<Kind>>,
     // For each of them, the place where it and those before it are kept.
-    places: Vec<Place>,
-    frames: Frames,
+    places: Vec<LocalsPlace>,
+    frames: KeptFrames,
 }
 
 impl Reader {
@@ -248,19 +252,19 @@ impl Reader {
     ) -> Result<Reader, ShapeError>
         ensures reading { IfOk result (λ reader. IsReading reader) }
         ensures entries { IfOk result (λ reader. reader.entries.items ≡ entries.items) }
-        ensures none { IfOk result (λ reader. (number : ℕ) → told_at reader.frames number ≡ None) }
+        ensures none { IfOk result (λ reader. (number : ℕ) → reported_at reader.frames number ≡ None) }
     {
         let mut reader = Reader {
             entries,
             places: Vec::new(alloc),
-            frames: Frames::new(alloc, count)?,
+            frames: KeptFrames::new(alloc, count)?,
         };
         reader.place_all()?;
         Ok(reader)
     }
 
     // The place of the local variables.
-    fn place(&self) -> Place
+    fn place(&self) -> LocalsPlace
         requires { IsReading self.now }
         ensures { IsAt self.now.frames.slots.items result (entry_slots self.now.entries.items) }
     {
@@ -279,7 +283,7 @@ impl Reader {
     fn change(
         &mut self,
         alloc: Global,
-        made: &Made<'_>,
+        made: &ObjectMakers<'_>,
         form: &Form,
     ) -> Result<Option<Vec<Kind>>, ShapeError>
         requires { IsReading self.old }
@@ -302,7 +306,7 @@ impl Reader {
         &mut self,
         alloc: Global,
         room: (u16, u16),
-        made: &Made<'_>,
+        made: &ObjectMakers<'_>,
         form: &Form,
     ) -> Result<Option<KeptFrame>, ShapeError>
         requires { IsReading self.old }
@@ -327,12 +331,12 @@ impl Reader {
 pub fn read_frames(
     alloc: Global,
     room: (u16, u16),
-    made: &Made<'_>,
+    made: &ObjectMakers<'_>,
     mut reader: Reader,
     frames: &[Frame],
-) -> Result<Result<Frames, u32>, ShapeError>
+) -> Result<Result<KeptFrames, u32>, ShapeError>
     requires reading { IsReading reader }
-    requires none { (number : ℕ) → told_at reader.frames number ≡ None }
+    requires none { (number : ℕ) → reported_at reader.frames number ≡ None }
     ensures { IfOk result (λ read. AreRead (frame_code room.0 room.1 made.now) reader.entries.items frames.now read) }
 {
     for frame in frames {
@@ -341,6 +345,9 @@ pub fn read_frames(
         };
         reader.frames.keep(u64::from(frame.at), kept)?;
     }
-    let Reader { frames: told, .. } = reader;
-    Ok(Ok(told))
+    let Reader {
+        frames: reported,
+        ..
+    } = reader;
+    Ok(Ok(reported))
 }

@@ -16,7 +16,7 @@ use std::marker::Model;
 
 /// One operand, or two of which the first was above the second.
 #[derive(Clone, Copy)]
-pub enum Piece {
+pub enum KindPiece {
     One(Kind),
     Two(Kind, Kind),
 }
@@ -196,11 +196,11 @@ impl KindState {
         ensures taken { Leaves result (taken (reverse wanted.now) self.old.kinds.stack) self.new.kinds.stack }
     {
         let mut rest = wanted;
-        while let Some((last, front)) = rest.split_last() {
+        while let Some((last, prefix)) = rest.split_last() {
             if !self.take(*last) {
                 return false;
             }
-            rest = front;
+            rest = prefix;
         }
         true
     }
@@ -243,7 +243,7 @@ impl KindState {
     // ---- the upper operands
 
     /// The top operand, which is popped, where it takes one slot.
-    pub fn cut_one(&mut self) -> Option<Piece>
+    pub fn cut_one(&mut self) -> Option<KindPiece>
         ensures locals { SameLocals self.old self.new }
         ensures cut { IsCut result (one_slot is_wide self.old.kinds.stack) self.new.kinds.stack }
     {
@@ -251,34 +251,34 @@ impl KindState {
         if is_wide(top) {
             return None;
         }
-        Some(Piece::One(top))
+        Some(KindPiece::One(top))
     }
 
     /// The top operand, where it takes two slots, or the upper two, where each takes one. They are popped.
-    pub fn cut_two(&mut self) -> Option<Piece>
+    pub fn cut_two(&mut self) -> Option<KindPiece>
         ensures locals { SameLocals self.old self.new }
         ensures cut { IsCut result (two_slots is_wide self.old.kinds.stack) self.new.kinds.stack }
     {
         let top = self.pop()?;
         if is_wide(top) {
-            return Some(Piece::One(top));
+            return Some(KindPiece::One(top));
         }
         let under = self.pop()?;
         if is_wide(under) {
             return None;
         }
-        Some(Piece::Two(top, under))
+        Some(KindPiece::Two(top, under))
     }
 
     /// Whether there is room for these operands, which are then pushed.
-    pub fn put(&mut self, piece: Piece) -> Result<bool, ShapeError>
+    pub fn put(&mut self, piece: KindPiece) -> Result<bool, ShapeError>
         ensures room { SameRoom self.old self.new }
         ensures put { IfOk result (λ fits. Leaves fits
             (leaving (room self.old) self.old.kinds.locals (Some (piece_kinds piece ++ self.old.kinds.stack))) self.new.kinds) }
     {
         match piece {
-            Piece::One(kind) => self.push(Some(kind)),
-            Piece::Two(top, under) => Ok(self.push(Some(under))? && self.push(Some(top))?),
+            KindPiece::One(kind) => self.push(Some(kind)),
+            KindPiece::Two(top, under) => Ok(self.push(Some(under))? && self.push(Some(top))?),
         }
     }
 }

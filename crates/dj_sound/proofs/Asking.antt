@@ -69,7 +69,7 @@ asks_nothing library classes program quiet is class m id there own native =
     let all : program ≡ joined (is.classes ++ rows_of library) [] = is.is ∙ sym (joined-append is.classes (rows_of library)) in
     let either = (members_joined (is.classes ++ rows_of library) class).0 (subst (λ (p : Program). Contains p class) all there) in
     elim (member_of_either is.classes (rows_of library) class either) [
-      | inl front ↦ absurd (files_run classes is.classes is.each class front m id own native)
+      | inl prefix ↦ absurd (files_run classes is.classes is.each class prefix m id own native)
       | inr back ↦ quiet class m id ((members_joined (rows_of library) class).1 back) own native
     ]
 

@@ -31,5 +31,5 @@ module _ (library : Library) (files : List File) (silent : (v : Violation) → I
 
 pub have_class_files : HaveClassFiles
 have_class_files files bytes silent =
-    let told = good_files deterministic_library files (λ v line. member_none v ((silent.all v).1 line)) files (λ file m. m) bytes in
-    (told.0, record { good = told.1; silent = silent })
+    let reported = good_files deterministic_library files (λ v line. member_none v ((silent.all v).1 line)) files (λ file m. m) bytes in
+    (reported.0, record { good = reported.1; silent = silent })

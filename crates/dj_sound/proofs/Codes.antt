@@ -48,9 +48,9 @@ frames_at starts least (frame ∷ frames) text (first, others, one, rest, is) f 
   | inr later ↦ frames_at starts (slice_index starts frame.at + 1) frames others rest f later
 ]
 
-told_frames : (code starts body : List ℕ) (instrs : List Instr) (told : Option (List Frame)) (frames : List Frame) → IsCut code starts instrs (length code)
-    → AreFramesOf code body told → told ≡ Some frames → (f : Frame) → Contains frames f → f.at < length instrs
-told_frames code starts body instrs told frames cut are e f m =
+reported_frames : (code starts body : List ℕ) (instrs : List Instr) (reported : Option (List Frame)) (frames : List Frame) → IsCut code starts instrs (length code)
+    → AreFramesOf code body reported → reported ≡ Some frames → (f : Frame) → Contains frames f → f.at < length instrs
+reported_frames code starts body instrs reported frames cut are e f m =
     let map : IsStackMap body are.starts frames = subst (AreFramesAt are.starts body) e are.are in
     let within = frames_at are.starts 0 frames map.text map.spells f m in
     let same = one_cut code are.starts starts are.instrs instrs (length code) (length code) (whole_ends code) (whole_ends code) are.cut cut in
@@ -58,12 +58,12 @@ told_frames code starts body instrs told frames cut are e f m =
     let instrs_same = ap length same.instrs in
     omega (arith, within, count, instrs_same)
 
-frames_within : (code starts : List ℕ) (bodies : List (List ℕ)) (instrs : List Instr) (told : Option (List Frame)) → IsCut code starts instrs (length code) → HasFrames code bodies told
-    → (frames : List Frame) → told ≡ Some frames → (f : Frame) → Contains frames f → f.at < length instrs
-frames_within code starts [] instrs told cut has frames e f m =
+frames_within : (code starts : List ℕ) (bodies : List (List ℕ)) (instrs : List Instr) (reported : Option (List Frame)) → IsCut code starts instrs (length code) → HasFrames code bodies reported
+    → (frames : List Frame) → reported ≡ Some frames → (f : Frame) → Contains frames f → f.at < length instrs
+frames_within code starts [] instrs reported cut has frames e f m =
     let none : frames ≡ [] = (let same : Some frames ≡ Some [] = sym e ∙ has in cc) in
     absurd (member_none f (subst (λ (fs : List Frame). Contains fs f) none m))
-frames_within code starts (body ∷ bodies) instrs told cut has frames e f m = told_frames code starts body instrs told frames cut has e f m
+frames_within code starts (body ∷ bodies) instrs reported cut has frames e f m = reported_frames code starts body instrs reported frames cut has e f m
 
 -- ---- code
 
@@ -94,8 +94,8 @@ module _ (pool : List Constant) (m : MemberInfo) (parts : CodeParts) (is : IsMet
         let start : own.start ≡ range.start = ap (λ (r : Range). r.start) e in
         let end : own.end ≡ range.end = ap (λ (r : Range). r.end) e in
         (omega (arith, such.some, start, end), omega (arith, such.within, end, count_is));
-    frames_within = λ frames told f there.
-        let within = frames_within is.info.code is.labels.starts (maps_of pool is.info) (addressed is.labels.starts parts.labelled.code) parts.frames is.labels.cut is.frames frames told f there in
+    frames_within = λ frames reported f there.
+        let within = frames_within is.info.code is.labels.starts (maps_of pool is.info) (addressed is.labels.starts parts.labelled.code) parts.frames is.labels.cut is.frames frames reported f there in
         omega (arith, within, count_is, numbered);
   }
 

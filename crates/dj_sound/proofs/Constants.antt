@@ -91,8 +91,8 @@ constant_fits pool (MethodType desc) text fits none = absurd fits
 constant_fits pool (Dynamic bootstrap names) text fits none = absurd fits
 constant_fits pool Hole text fits none = absurd fits
 
-index_told : (index : ℕ) → index < 2 ^ 16 → value_index (u2 index) ≡ Some index
-index_told index small = ap Some (omega (arith, small))
+index_reported : (index : ℕ) → index < 2 ^ 16 → value_index (u2 index) ≡ Some index
+index_reported index small = ap Some (omega (arith, small))
 
 abbrev at_index : List Constant → Option ℕ → Option Constant
 at_index pool None = None
@@ -100,7 +100,7 @@ at_index pool (Some index) = constant_at pool index
 
 constant_is : (pool : List Constant) (index : ℕ) (k : Constant) → index < 2 ^ 16 → constant_at pool index ≡ Some k → constant_of_body pool (u2 index) ≡ constant_by pool k
 constant_is pool index k small found =
-    ap (λ (o : Option ℕ). unwrap_or (option_map (constant_by pool) (at_index pool o)) programs.Unfit) (index_told index small)
+    ap (λ (o : Option ℕ). unwrap_or (option_map (constant_by pool) (at_index pool o)) programs.Unfit) (index_reported index small)
     ∙ ap (λ (o : Option Constant). unwrap_or (option_map (constant_by pool) o) programs.Unfit) found
 
 value_fits : (pool : List Constant) (f : MemberInfo) (body : List ℕ) → IsValueFor pool f.desc body → (NamesFloat pool f.desc → ⊥)

@@ -15,7 +15,7 @@ use Rattle.dj_declared.specs.trusted.Files.{declared_class}
 use Rattle.dj_classes.proofs.Orders.{names_from_same, same_from_names}
 use Rattle.dj_classes.proofs.Rising.{members_joined}
 use Rattle.dj_loader.specs.Loads.{StandsUnder, StandsBelow, IsOwnAncestor}
-use Rattle.dj_loader.proofs.Lists.{member_first, member_later, member_none, member_cases, member_front, member_mapped, of_map}
+use Rattle.dj_loader.proofs.Lists.{member_first, member_later, member_none, member_cases, member_prefix, member_mapped, of_map}
 use Rattle.dj_program.specs.trusted.Programs.{IsProgramIn}
 use Rattle.dj_sandbox.proofs.NoCycles.{no_cycle}
 use Rattle.dj_sound.specs.Accepted.{IsAcceptedBy, OfAcceptedBy}
@@ -88,7 +88,7 @@ module _ {judge : Library} (library : Library) (alike : IsAlike library) (sound 
   unfolding declared_class
   under_super class above of e = record {
     class = declared_class of.read;
-    there = member_front (map declared_class classes) (rows_of deterministic_library) (declared_class of.read) (member_mapped declared_class classes of.read of.listed);
+    there = member_prefix (map declared_class classes) (rows_of deterministic_library) (declared_class of.read) (member_mapped declared_class classes of.read of.listed);
     named = ap (λ (c : Class). c.name) (sym of.is.is);
     listed = subst (λ (o : Option Name). Contains (option_list o ++ (declared_class of.read).interfaces) above)
         (sym e ∙ ap (λ (c : Class). c.superclass) of.is.is)

@@ -20,7 +20,7 @@ use Rattle.dj_classes.specs.Tables.{class_number, name_of}
 use Rattle.dj_classes.specs.ClassRows.{RiseStrictly}
 use Rattle.dj_classes.proofs.Numbered.{class_number-rise, class_at-at}
 use Rattle.dj_classes.proofs.Rising.{members_joined}
-use Rattle.dj_loader.proofs.Lists.{member_first, member_later, member_none, member_cases, member_front, member_mapped, of_map, place_of_member}
+use Rattle.dj_loader.proofs.Lists.{member_first, member_later, member_none, member_cases, member_prefix, member_mapped, of_map, place_of_member}
 use Rattle.dj_program.specs.trusted.Programs.{AreSideBySide, IsClassIn, IsProgramIn}
 use Rattle.dj_sandbox.specs.trusted.Checked.{AreGoodFiles}
 use Rattle.dj_sound.specs.Accepted.{IsAcceptedBy}
@@ -84,7 +84,7 @@ module _ {judge : Library} (library : Library) (alike : IsAlike library) (files 
       let (d, m, beside) = class_beside classes is.classes c is.each listed in (
         d,
         subst (λ (p : Program). Contains p d) (sym (as_joined library files classes program accepted.good is))
-            ((members_joined (is.classes ++ rows_of library) d).1 (member_front is.classes (rows_of library) d m)),
+            ((members_joined (is.classes ++ rows_of library) d).1 (member_prefix is.classes (rows_of library) d m)),
         head_beside c d beside ∙ sym same,
       )
   stands_there h (inr listed) =

@@ -15,7 +15,7 @@ use Rattle.dj_check.specs.trusted.Heads.{head_of, StandsAmong}
 use Rattle.dj_declared.specs.trusted.Files.{declared_class}
 use Rattle.dj_classes.proofs.Orders.{same_from_names}
 use Rattle.dj_loader.specs.Loads.{all_classes, above_names, StandsUnder, LacksAbove, StandsBelow, IsOwnAncestor, IsLoadable}
-use Rattle.dj_loader.proofs.Lists.{member_none, member_cases, member_front, member_back, member_of_either, member_mapped, of_map}
+use Rattle.dj_loader.proofs.Lists.{member_none, member_cases, member_prefix, member_back, member_of_either, member_mapped, of_map}
 use Rattle.dj_sandbox.proofs.NoCycles.{no_cycle}
 use Rattle.dj_sound.specs.Accepted.{IsAcceptedBy}
 use Rattle.dj_sound.specs.Laws.{AreLoadable}
@@ -79,7 +79,7 @@ module _ {judge : Library} (library : Library) (alike : IsAlike library) (closed
   stands_there : (h : Head) → StandsAmong files h → (d : Class) × Contains all d × (head_in d ≡ h)
   stands_there h (inl (file, among, c, good, same)) = (
     declared_class c,
-    member_front (map declared_class classes) (rows_of library) (declared_class c) (member_mapped declared_class classes c (good_at files classes file c accepted.good among good)),
+    member_prefix (map declared_class classes) (rows_of library) (declared_class c) (member_mapped declared_class classes c (good_at files classes file c accepted.good among good)),
     head_declared c ∙ sym same,
   )
   stands_there h (inr listed) =
@@ -101,16 +101,16 @@ module _ {judge : Library} (library : Library) (alike : IsAlike library) (closed
   file_above : (c : ClassFile) → Contains classes c → (above : Name) → Contains (above_names (declared_class c)) above → class_at all above ≡ None → ⊥
   unfolding declared_class
   file_above c m above listed none = elim (member_of_either (option_list (declared_class c).superclass) (declared_class c).interfaces above listed) [
-    | inl front ↦
-        let is = superclass_listed (declared_class c).superclass above front in
+    | inl prefix ↦
+        let is = superclass_listed (declared_class c).superclass above prefix in
         no_violation c m (inr (inl (subst (λ (o : Option Name). IsSomeAnd o (IsBadSuperclass (StandsAmong files))) (sym is) (inl (missing above none)))))
     | inr back ↦ no_violation c m (inr (inr (inr (inl (above, back, inl (missing above none))))))
   ]
 
   nothing_lacks : (name : Name) → LacksAbove all name → ⊥
   nothing_lacks name (above, under, none) = elim (member_of_either (map declared_class classes) (rows_of library) under.class under.there) [
-    | inl front ↦
-        let (c, own, same) = of_map declared_class classes under.class front in
+    | inl prefix ↦
+        let (c, own, same) = of_map declared_class classes under.class prefix in
         file_above c own above (subst (λ (x : Class). Contains (above_names x) above) (sym same) under.listed) none
     | inr row ↦
         let each : has_above (rows_of library) under.class ≡ true = all_at (has_above (rows_of library)) (rows_of library) under.class closed row in
@@ -125,7 +125,7 @@ module _ {judge : Library} (library : Library) (alike : IsAlike library) (closed
 
   under_moved : (a b : Name) → StandsUnder all a b → StandsUnder others a b
   under_moved a b under = elim (member_of_either (map declared_class classes) (rows_of library) under.class under.there) [
-    | inl front ↦ record { class = under.class; there = member_front (map declared_class classes) (rows_of deterministic_library) under.class front; named = under.named; listed = under.listed }
+    | inl prefix ↦ record { class = under.class; there = member_prefix (map declared_class classes) (rows_of deterministic_library) under.class prefix; named = under.named; listed = under.listed }
     | inr row ↦
         let (d, m, e) = of_map head_in (rows_of deterministic_library) (head_in under.class) (subst (λ (hs : List Head). Contains hs (head_in under.class)) alike (member_mapped head_in (rows_of library) under.class row)) in
         record {

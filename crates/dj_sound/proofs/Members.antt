@@ -107,24 +107,24 @@ module _ {judge : Library} (files : List File) (classes : List ClassFile) (accep
 
   fields_of_file : fields_differ (map (field_in_file of.read.pool) of.read.fields) ≡ true
   fields_of_file = fields_apart (map (field_in_file of.read.pool) of.read.fields) (λ i k a b lt p q t.
-      let (one, one_is, one_told) = some_of_map (field_in_file of.read.pool) of.read.fields i a p in
-      let (two, two_is, two_told) = some_of_map (field_in_file of.read.pool) of.read.fields k b q in
+      let (one, one_is, one_reported) = some_of_map (field_in_file of.read.pool) of.read.fields i a p in
+      let (two, two_is, two_reported) = some_of_map (field_in_file of.read.pool) of.read.fields k b q in
       let t1 : is_named (field_in_file of.read.pool one).name (field_in_file of.read.pool one).desc b.name b.desc ≡ true =
-      subst (λ (x : Field). is_named x.name x.desc b.name b.desc ≡ true) (sym one_told) t in
+      subst (λ (x : Field). is_named x.name x.desc b.name b.desc ≡ true) (sym one_reported) t in
       let t2 : is_named (field_in_file of.read.pool one).name (field_in_file of.read.pool one).desc (field_in_file of.read.pool two).name (field_in_file of.read.pool two).desc ≡ true =
-      subst (λ (x : Field). is_named (field_in_file of.read.pool one).name (field_in_file of.read.pool one).desc x.name x.desc ≡ true) (sym two_told) t1 in
+      subst (λ (x : Field). is_named (field_in_file of.read.pool one).name (field_in_file of.read.pool one).desc x.name x.desc ≡ true) (sym two_reported) t1 in
       let valid = of.good.file.valid.fields in
       let same = alike _ IsFieldDescriptor field_described of.read.pool one two (each_at (IsField of.read.pool) of.read.fields i one valid one_is) (each_at (IsField of.read.pool) of.read.fields k two valid two_is) t2 in
       no_repeats (inl (record { first = i; other = k; apart = lt; one = one; one_is = one_is; two = two; two_is = two_is; name = same.0; desc = same.1 })))
 
   methods_of_file : methods_differ of.is.methods ≡ true
   methods_of_file = methods_apart of.is.methods (λ i k a b lt p q t.
-      let (one, one_is, one_told) = side_at (IsMethodIn of.read.pool) of.read.methods of.is.methods i a of.is.each p in
-      let (two, two_is, two_told) = side_at (IsMethodIn of.read.pool) of.read.methods of.is.methods k b of.is.each q in
+      let (one, one_is, one_reported) = side_at (IsMethodIn of.read.pool) of.read.methods of.is.methods i a of.is.each p in
+      let (two, two_is, two_reported) = side_at (IsMethodIn of.read.pool) of.read.methods of.is.methods k b of.is.each q in
       let t1 : is_named (declared_method of.read.pool one).name (declared_method of.read.pool one).desc b.name b.desc ≡ true =
-      subst (λ (x : Method). is_named x.name x.desc b.name b.desc ≡ true) one_told.is t in
+      subst (λ (x : Method). is_named x.name x.desc b.name b.desc ≡ true) one_reported.is t in
       let t2 : is_named (declared_method of.read.pool one).name (declared_method of.read.pool one).desc (declared_method of.read.pool two).name (declared_method of.read.pool two).desc ≡ true =
-      subst (λ (x : Method). is_named (declared_method of.read.pool one).name (declared_method of.read.pool one).desc x.name x.desc ≡ true) two_told.is t1 in
+      subst (λ (x : Method). is_named (declared_method of.read.pool one).name (declared_method of.read.pool one).desc x.name x.desc ≡ true) two_reported.is t1 in
       let valid = of.good.file.valid.methods in
       let same = alike _ IsMethodDescriptor method_described of.read.pool one two (each_at (IsMethod of.read.pool) of.read.methods i one valid one_is) (each_at (IsMethod of.read.pool) of.read.methods k two valid two_is) t2 in
       no_repeats (inr (record { first = i; other = k; apart = lt; one = one; one_is = one_is; two = two; two_is = two_is; name = same.0; desc = same.1 })))

@@ -59,7 +59,7 @@ unfolding after
 never_run signature code (Other op named) before left is found = absurd cc
 never_run signature code _ before left is found = absurd is
 
-all_run : (signature : Signature) (code : Code) (told : Map) → AllHold signature code told → (k : ℕ) (i : Instruction) → slice_get code.instructions k ≡ Some i → IsOther i → ⊥
+all_run : (signature : Signature) (code : Code) (reported : Map) → AllHold signature code reported → (k : ℕ) (i : Instruction) → slice_get code.instructions k ≡ Some i → IsOther i → ⊥
 all_run signature code (Faulty n) hold k i at other = absurd hold
 all_run signature code NoMap hold k i at other = absurd hold
 all_run signature code (Read placed) hold k i at other =
@@ -119,8 +119,8 @@ module _ {judge : Library} (files : List File) (classes : List ClassFile) (accep
 
   pub java_row : (d : Class) → Contains judged d → is_of_java d.name ≡ true → Contains (rows_of judge) d
   java_row d m java = elim (judged_member d m) [
-    | inl front ↦
-        let (c, own, same) = of_map declared_class classes d front in
+    | inl prefix ↦
+        let (c, own, same) = of_map declared_class classes d prefix in
         absurd (file_java c own (ap (λ (x : Class). is_of_java x.name) same ∙ java))
     | inr listed ↦ listed
   ]
@@ -175,7 +175,7 @@ module _ {judge : Library} (files : List File) (classes : List ClassFile) (accep
               own = listed;
               number = number;
               rule = 19;
-              such = record { untold = record { native = no_native; finalizer = no_finalizer; early = no_early; linked = no_link }; lacks = lacks; rule_is = refl };
+              such = record { unreported = record { native = no_native; finalizer = no_finalizer; early = no_early; linked = no_link }; lacks = lacks; rule_is = refl };
               line = refl;
             },
           ),
@@ -184,8 +184,8 @@ module _ {judge : Library} (files : List File) (classes : List ClassFile) (accep
     -- ---- its code
 
     module _ (parts : CodeParts) (code : IsMethodCode pool info parts) where
-      untold_instr : (k : ℕ) (instr : Instr) → slice_get parts.labelled.code k ≡ Some instr → (rule : ℕ) → InstrViolates pool instr rule → ⊥
-      untold_instr k instr at rule violates = no_early (Some k) rule (inr (record {
+      unreported_instr : (k : ℕ) (instr : Instr) → slice_get parts.labelled.code k ≡ Some instr → (rule : ℕ) → InstrViolates pool instr rule → ⊥
+      unreported_instr k instr at rule violates = no_early (Some k) rule (inr (record {
         labelled = parts.labelled;
         code = record { code = code.info; own = code.own; labels = code.labels };
         at = k;
@@ -204,10 +204,10 @@ module _ {judge : Library} (files : List File) (classes : List ClassFile) (accep
       })
 
       near : (k : ℕ) (instr : Instr) → slice_get parts.labelled.code k ≡ Some instr → IsForeign (declared_program judge classes) pool instr → ⊥
-      near k instr at foreign = no_instr_link k instr at 17 (untold_instr k instr at, inl (foreign, refl))
+      near k instr at foreign = no_instr_link k instr at 17 (unreported_instr k instr at, inl (foreign, refl))
 
       linked : (k : ℕ) (instr : Instr) → slice_get parts.labelled.code k ≡ Some instr → IsUnlinked (declared_program judge classes) (this_name of.read) pool instr → ⊥
-      linked k instr at unlinked = no_instr_link k instr at 18 (untold_instr k instr at, inr (near k instr at, unlinked, refl))
+      linked k instr at unlinked = no_instr_link k instr at 18 (unreported_instr k instr at, inr (near k instr at, unlinked, refl))
 
       fine : (k : ℕ) (instr : Instr) → slice_get parts.labelled.code k ≡ Some instr → IsFine program (instruction_in pool instr)
       fine k instr at = instr_fine judged program sees (this_name of.read) pool of.good.file.valid.pool (hides_string hides) instr (near k instr at) (linked k instr at)

@@ -88,7 +88,7 @@ module _ (library : Library) (files : List File) (classes : List ClassFile) (pro
   origin class m =
       let in_both = (members_joined (is.classes ++ rows_of library) class).0 (subst (λ (p : Program). Contains p class) as_joined m) in
       elim (member_of_either is.classes (rows_of library) class in_both) [
-        | inl front ↦ inl (of_file files classes is.classes class good is.each front)
+        | inl prefix ↦ inl (of_file files classes is.classes class good is.each prefix)
         | inr back ↦ inr (of_map library_class library class back)
       ]
 

@@ -130,5 +130,5 @@ are_raw_accepted files class classes good silent = is_accepted files class silen
 
 pub have_raw_class_files : HaveRawClassFiles
 have_raw_class_files files class bytes silent =
-    let told = good_files raw_library files (no_line files class silent) files (λ file m. m) bytes in
-    (told.0, is_accepted files class silent told.0 told.1)
+    let reported = good_files raw_library files (no_line files class silent) files (λ file m. m) bytes in
+    (reported.0, is_accepted files class silent reported.0 reported.1)

@@ -33,8 +33,8 @@ row_body small large m (Some id) e is = subst (IsSoundBody large [] m) (sym e) (
 row_bodies : (library : Library) → IsSoundLibrary library → (program : Program) (class : Class) → IsRow library class → (m : Method) → Contains class.methods m → IsSoundBody program [] m m.body
 row_bodies library sound program class row m own =
     let (named, listed, same) = row in
-    let (told, there, is) = of_map library_method named.methods m (subst (λ (c : Class). Contains c.methods m) (sym same) own) in
-    row_body (library_program library) program m told.native (ap (λ (x : Method). x.body) (sym is)) ((sound.classes class (row_member library class row)).bodies m own)
+    let (reported, there, is) = of_map library_method named.methods m (subst (λ (c : Class). Contains c.methods m) (sym same) own) in
+    row_body (library_program library) program m reported.native (ap (λ (x : Method). x.body) (sym is)) ((sound.classes class (row_member library class row)).bodies m own)
 
 file_bodies : {judge : Library} → HidesConstructor judge → (files : List File) (classes : List ClassFile) (program : Program) → IsAcceptedBy judge files classes → Sees (declared_program judge classes) program
     → (class : Class) → IsOfFile files classes class → (m : Method) → Contains class.methods m → IsSoundBody program [] m m.body

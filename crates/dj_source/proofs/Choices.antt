@@ -23,7 +23,7 @@ abbrev pub single : {A : Type 0} → (A → Item) → (A → Type 0) → (A → 
 single item is fits = record { items = λ a. item a ∷ []; is = is; fits = fits }
 
 -- a test on tokens answers what they say
-pub record IsTold {A : Type 0} (item : A → Item) (is : A → Type 0) (says : Token → Option A) : Type 0 where
+pub record IsReported {A : Type 0} (item : A → Item) (is : A → Type 0) (says : Token → Option A) : Type 0 where
   pub sound : (token : Token) (a : A) → says token ≡ Some a → is a × Says (item a) token
   pub whole : (token : Token) (a : A) → is a → Says (item a) token → says token ≡ Some a
 
@@ -38,16 +38,16 @@ abbrev pub place : Token → Placed
 place token = record { line = 0; column = 0; token = token }
 
 module _ {A : Type 0} (item : A → Item) (is fits : A → Type 0) (says : Token → Option A) (test : A → Bool)
-    (told : IsTold item is says) (decides : (a : A) → (test a ≡ true) ↔ fits a) (some : IsInhabited item is fits) where
+    (reported : IsReported item is says) (decides : (a : A) → (test a ≡ true) ↔ fits a) (some : IsInhabited item is fits) where
   abbrev L : Lang A
   L = single item is fits
 
   -- who is said by one token
-  told_at : (b : A) (here : Placed) (us more after : List Placed) → is b → Said (item b ∷ []) us → us ++ more ≡ here ∷ after → (says here.token ≡ Some b) × (more ≡ after)
-  told_at b here [] more after i said e = absurd said
-  told_at b here (u ∷ []) more after i said e =
-      (told.whole here.token b i (subst (λ (p : Placed). Says (item b) p.token) (head_same u here more after e) said.0), tail_same u here more after e)
-  told_at b here (u ∷ v ∷ us) more after i said e = absurd said.1
+  reported_at : (b : A) (here : Placed) (us more after : List Placed) → is b → Said (item b ∷ []) us → us ++ more ≡ here ∷ after → (says here.token ≡ Some b) × (more ≡ after)
+  reported_at b here [] more after i said e = absurd said
+  reported_at b here (u ∷ []) more after i said e =
+      (reported.whole here.token b i (subst (λ (p : Placed). Says (item b) p.token) (head_same u here more after e) said.0), tail_same u here more after e)
+  reported_at b here (u ∷ v ∷ us) more after i said e = absurd said.1
 
   none_of_nil : (b : A) (us more : List Placed) → Said (item b ∷ []) us → us ++ more ≡ [] → ⊥
   none_of_nil b [] more said e = said
@@ -58,35 +58,35 @@ module _ {A : Type 0} (item : A → Item) (is fits : A → Type 0) (says : Token
 
   one_got : (here : Placed) (rest : List Placed) (a : A) → says here.token ≡ Some a → test a ≡ true → GotFrom L (here ∷ rest) a rest
   one_got here rest a e fit = record {
-    front = here ∷ [];
+    prefix = here ∷ [];
     parts = refl;
-    is = (told.sound here.token a e).0;
+    is = (reported.sound here.token a e).0;
     fits = (decides a).0 fit;
-    said = ((told.sound here.token a e).1, tt);
-    unique = λ b us more after i said same. let t = told_at b here us more after i said same in (some_is b a (sym t.0 ∙ e), t.1);
+    said = ((reported.sound here.token a e).1, tt);
+    unique = λ b us more after i said same. let t = reported_at b here us more after i said same in (some_is b a (sym t.0 ∙ e), t.1);
   }
 
   one_large : (here : Placed) (rest : List Placed) (a : A) → says here.token ≡ Some a → test a ≡ false → LargeFrom L (here ∷ rest) (here ∷ rest)
   one_large here rest a e unfit = record {
-    front = [];
+    prefix = [];
     here = here;
     others = rest;
     rest_is = refl;
     parts = refl;
     good = one_started;
-    some = record { value = a; is = (told.sound here.token a e).0; more = []; said = ((told.sound here.token a e).1, tt) };
+    some = record { value = a; is = (reported.sound here.token a e).0; more = []; said = ((reported.sound here.token a e).1, tt) };
     none = λ b us more after i fit said same.
-        let t = told_at b here us more after i said same in
+        let t = reported_at b here us more after i said same in
         let equal = some_is b a (sym t.0 ∙ e) in
         true≢false (sym ((decides b).1 fit) ∙ (ap test equal ∙ unfit));
   }
 
   one_wrong : (here : Placed) (rest : List Placed) → says here.token ≡ None → WrongFrom L (here ∷ rest) (here ∷ rest)
   one_wrong here rest e = record {
-    front = [];
+    prefix = [];
     parts = refl;
     good = one_started;
-    none = λ b us more after i said same. let t = told_at b here us more after i said same in absurd cc (e, t.0);
+    none = λ b us more after i said same. let t = reported_at b here us more after i said same in absurd cc (e, t.0);
   }
 
   by_test : (here : Placed) (rest : List Placed) (a : A) (b : Bool) → says here.token ≡ Some a → test a ≡ b → ReadFrom L (here ∷ rest) (cond b (Got a rest) (Large (here ∷ rest)))
@@ -98,7 +98,7 @@ module _ {A : Type 0} (item : A → Item) (is fits : A → Type 0) (says : Token
   by_token here rest (Some a) e = by_test here rest a (test a) e refl
 
   one_each : (tokens : List Placed) → ReadFrom L tokens (one says test tokens)
-  one_each [] = record { front = []; parts = refl; good = one_started; none = λ b us more after i said e. none_of_nil b us more said e }
+  one_each [] = record { prefix = []; parts = refl; good = one_started; none = λ b us more after i said e. none_of_nil b us more said e }
   one_each (here ∷ rest) = by_token here rest (says here.token) refl
 
   pub one_reads : IsReader L (one says test)
@@ -137,11 +137,11 @@ module _ {K A : Type 0} (N : Lang A) (P : K → A → Type 0) (first : K → Ite
       from d.0 d.1 us (subst (λ items. Said items us) (choice.items d.0 a d.1) said) e where
         from : (k : K) (p : P k a) (us : List Placed) → Said (first k ∷ drop 1 (N.items a)) us → us ++ more ≡ here ∷ after → At a here us
         from k p [] said e = absurd said
-        from k p (u ∷ us) (told, said) e =
+        from k p (u ∷ us) (reported, said) e =
             let same : u ≡ here = head_same u here (us ++ more) after e in
             record {
               k = k;
-              begun = choice.whole here.token k a p (subst (λ (t : Placed). Says (first k) t.token) same told);
+              begun = choice.whole here.token k a p (subst (λ (t : Placed). Says (first k) t.token) same reported);
               is = p;
               others = us;
               parts = ap (λ t. t ∷ us) same;
@@ -178,40 +178,40 @@ module _ {K A : Type 0} (N : Lang A) (P : K → A → Type 0) (first : K → Ite
 
     pub kind_read : (x : Read A) → ReadFrom M rest x → ReadFrom N (here ∷ rest) x
     kind_read (Got a others) g = record {
-      front = here ∷ g.front;
+      prefix = here ∷ g.prefix;
       parts = ap (λ ts. here ∷ ts) g.parts;
       is = choice.is k a g.is;
       fits = g.fits;
-      said = with_first a g.front g.is g.said;
-      unique = λ b us more after i said e. let o = of_kind b us more (g.front ++ after) i said e in g.unique b o.0 more after o.1 o.2 o.3;
+      said = with_first a g.prefix g.is g.said;
+      unique = λ b us more after i said e. let o = of_kind b us more (g.prefix ++ after) i said e in g.unique b o.0 more after o.1 o.2 o.3;
     }
     kind_read (Wrong others) w = record {
-      front = here ∷ w.front;
+      prefix = here ∷ w.prefix;
       parts = ap (λ ts. here ∷ ts) w.parts;
-      good = kind_started w.front w.good;
-      none = λ b us more after i said e. let o = of_kind b us more (w.front ++ and_on others after) i said e in w.none b o.0 more after o.1 o.2 o.3;
+      good = kind_started w.prefix w.good;
+      none = λ b us more after i said e. let o = of_kind b us more (w.prefix ++ and_on others after) i said e in w.none b o.0 more after o.1 o.2 o.3;
     }
     kind_read (Large others) w = record {
-      front = here ∷ w.front;
+      prefix = here ∷ w.prefix;
       here = w.here;
       others = w.others;
       rest_is = w.rest_is;
       parts = ap (λ ts. here ∷ ts) w.parts;
-      good = kind_started w.front w.good;
-      some = kind_allowed (w.front ++ w.here ∷ []) w.some;
-      none = λ b us more after i fit said e. let o = of_kind b us more (w.front ++ w.here ∷ after) i said e in w.none b o.0 more after o.1 fit o.2 o.3;
+      good = kind_started w.prefix w.good;
+      some = kind_allowed (w.prefix ++ w.here ∷ []) w.some;
+      none = λ b us more after i fit said e. let o = of_kind b us more (w.prefix ++ w.here ∷ after) i said e in w.none b o.0 more after o.1 fit o.2 o.3;
     }
 
   pub none_begun : Started N [] → (here : Placed) (rest : List Placed) → begins here.token ≡ None → WrongFrom N (here ∷ rest) (here ∷ rest)
   none_begun some here rest e = record {
-    front = [];
+    prefix = [];
     parts = refl;
     good = some;
     none = λ b us more after i said same. let q = at b here us more after i said same in absurd cc (e, q.begun);
   }
 
   pub nothing_left : Started N [] → WrongFrom N [] []
-  nothing_left some = record { front = []; parts = refl; good = some; none = λ b us more after i said e. no_empty b us more i said e }
+  nothing_left some = record { prefix = []; parts = refl; good = some; none = λ b us more after i said e. no_empty b us more i said e }
 
   module _ (next : K → Reader A) (some : Started N []) (each : (token : Token) (k : K) → begins token ≡ Some k → IsReader (after_first N P k) (next k)) where
     by_first : (here : Placed) (rest : List Placed) (o : Option K) → begins here.token ≡ o → ReadFrom N (here ∷ rest) (begun o next here rest)

@@ -52,30 +52,30 @@ class_begun = record { source = least; such = least_sized; rest = Word (codes ".
 -- a missing word is at the column after the line's last byte
 no_name : IsMisplaced (codes ".class 21") (asm_errors.Syntax 1 10)
 unfolding tokens_after word_units
-no_name = record { front = at 1 1 (Word (codes ".class")) ∷ at 1 8 (Word (codes "21")) ∷ []; here = at 1 10 LineEnd; at = record { rest = []; parts = refl; good = flags_begun }; none = λ b. let word = b.read.1.1.0.word in absurd cc; told = refl }
+no_name = record { prefix = at 1 1 (Word (codes ".class")) ∷ at 1 8 (Word (codes "21")) ∷ []; here = at 1 10 LineEnd; at = record { rest = []; parts = refl; good = flags_begun }; none = λ b. let word = b.read.1.1.0.word in absurd cc; reported = refl }
 
 -- a byte outside the grammar
 bad_name : IsMisplaced (codes ".class 21 " ++ 65 ∷ 127 ∷ 32 ∷ 65 ∷ []) (asm_errors.Syntax 1 11)
 unfolding tokens_after word_units
-bad_name = record { front = at 1 1 (Word (codes ".class")) ∷ at 1 8 (Word (codes "21")) ∷ []; here = at 1 11 Bad; at = record { rest = at 1 15 LineEnd ∷ []; parts = refl; good = flags_begun }; none = λ b. let word = b.read.1.1.0.word in absurd cc; told = refl }
+bad_name = record { prefix = at 1 1 (Word (codes ".class")) ∷ at 1 8 (Word (codes "21")) ∷ []; here = at 1 11 Bad; at = record { rest = at 1 15 LineEnd ∷ []; parts = refl; good = flags_begun }; none = λ b. let word = b.read.1.1.0.word in absurd cc; reported = refl }
 
 -- a word too many
 extra_word : IsMisplaced (codes ".class 21 A x") (asm_errors.Syntax 1 13)
 unfolding tokens_after word_units
-extra_word = record { front = at 1 1 (Word (codes ".class")) ∷ at 1 8 (Word (codes "21")) ∷ at 1 11 (Word (65 ∷ [])) ∷ []; here = at 1 13 (Word (codes "x")); at = record { rest = at 1 14 LineEnd ∷ []; parts = refl; good = record { source = least; such = least_sized; rest = LineEnd ∷ Word (codes ".super") ∷ Word (65 ∷ []) ∷ LineEnd ∷ []; read = (refl, (flags, (name, (refl, (refl, (name, (refl, tt))))))) } }; none = λ b. let word = b.read.1.1.1.0 in absurd cc; told = refl }
+extra_word = record { prefix = at 1 1 (Word (codes ".class")) ∷ at 1 8 (Word (codes "21")) ∷ at 1 11 (Word (65 ∷ [])) ∷ []; here = at 1 13 (Word (codes "x")); at = record { rest = at 1 14 LineEnd ∷ []; parts = refl; good = record { source = least; such = least_sized; rest = LineEnd ∷ Word (codes ".super") ∷ Word (65 ∷ []) ∷ LineEnd ∷ []; read = (refl, (flags, (name, (refl, (refl, (name, (refl, tt))))))) } }; none = λ b. let word = b.read.1.1.1.0 in absurd cc; reported = refl }
 
 -- a string where a word is to stand, after a line and a comment
 first_string : IsMisplaced (codes "# c" ++ 10 ∷ codes " \"\"") (asm_errors.Syntax 2 2)
 unfolding tokens_after word_units string_units
-first_string = record { front = []; here = at 2 2 (Quoted []); at = record { rest = at 2 4 LineEnd ∷ []; parts = refl; good = none_begun }; none = λ b. let word = b.read.0 in absurd cc; told = refl }
+first_string = record { prefix = []; here = at 2 2 (Quoted []); at = record { rest = at 2 4 LineEnd ∷ []; parts = refl; good = none_begun }; none = λ b. let word = b.read.0 in absurd cc; reported = refl }
 
 -- a missing line is at the line after the last
 empty : IsUnfinished [] (asm_errors.Syntax 1 1)
-empty = record { good = none_begun; none = λ s text. text.read; told = refl }
+empty = record { good = none_begun; none = λ s text. text.read; reported = refl }
 
 blank_lines : IsUnfinished (10 ∷ 10 ∷ codes "# c" ++ 10 ∷ []) (asm_errors.Syntax 4 1)
 unfolding tokens_after
-blank_lines = record { good = none_begun; none = λ s text. text.read; told = refl }
+blank_lines = record { good = none_begun; none = λ s text. text.read; reported = refl }
 
 -- what is a text isn't unfinished
 whole : (e : AsmError) → IsUnfinished (codes ".class 21 A" ++ 10 ∷ codes ".super A") e → ⊥
@@ -134,12 +134,12 @@ large_version flags name (Some (major, minor)) super interfaces fields methods s
 large_major : IsLargeNumber (codes ".class 21 A" ++ 10 ∷ codes ".version 65536 x") (asm_errors.Large 2)
 unfolding tokens_after word_units
 large_major = record {
-  front = at 1 1 (Word (codes ".class")) ∷ at 1 8 (Word (codes "21")) ∷ at 1 11 (Word (65 ∷ [])) ∷ at 1 12 LineEnd ∷ at 2 1 (Word (codes ".version")) ∷ [];
+  prefix = at 1 1 (Word (codes ".class")) ∷ at 1 8 (Word (codes "21")) ∷ at 1 11 (Word (65 ∷ [])) ∷ at 1 12 LineEnd ∷ at 2 1 (Word (codes ".version")) ∷ [];
   here = at 2 10 (Word (codes "65536"));
   at = record { rest = at 2 16 (Word (codes "x")) ∷ at 2 17 LineEnd ∷ []; parts = refl; good = version_begun };
   some = large_begun;
   none = λ b. large_version b.source.flags b.source.name b.source.version b.source.super b.source.interfaces b.source.fields b.source.methods b.such b.rest b.read;
-  told = refl;
+  reported = refl;
 }
 
 -- a word that is no number is misplaced there, and not Large
@@ -170,11 +170,11 @@ wordy_version flags name (Some (major, minor)) super interfaces fields methods r
 wordy_major : IsMisplaced (codes ".class 21 A" ++ 10 ∷ codes ".version x 99999") (asm_errors.Syntax 2 10)
 unfolding tokens_after word_units
 wordy_major = record {
-  front = at 1 1 (Word (codes ".class")) ∷ at 1 8 (Word (codes "21")) ∷ at 1 11 (Word (65 ∷ [])) ∷ at 1 12 LineEnd ∷ at 2 1 (Word (codes ".version")) ∷ [];
+  prefix = at 1 1 (Word (codes ".class")) ∷ at 1 8 (Word (codes "21")) ∷ at 1 11 (Word (65 ∷ [])) ∷ at 1 12 LineEnd ∷ at 2 1 (Word (codes ".version")) ∷ [];
   here = at 2 10 (Word (120 ∷ []));
   at = record { rest = at 2 12 (Word (codes "99999")) ∷ at 2 17 LineEnd ∷ []; parts = refl; good = version_begun };
   none = λ b. wordy_version b.source.flags b.source.name b.source.version b.source.super b.source.interfaces b.source.fields b.source.methods b.rest b.read;
-  told = refl;
+  reported = refl;
 }
 
 -- ---- what is known of no such text

@@ -19,24 +19,24 @@ use Rattle.dj_tokens.specs.WordReading.{class_text_test}
 use Rattle.dj_source.specs.Reading.{one, any_size, word_of, string_of, end_of, exactly, flags_of, number_of, name_of, caught_of, type_of, base_of}
 use Rattle.dj_source.specs.LineReading.{line_end, flags, number, name, label, string, keyword, frame_type, base, caught}
 use Rattle.dj_source.proofs.Readers.{Lang, IsReader}
-use Rattle.dj_source.proofs.Choices.{single, IsTold, IsInhabited, one_reads}
-use Rattle.dj_source.proofs.WordLaws.{end_told, string_told, label_told, exactly_told, flags_told, number_told, any_decides, name_told, class_text_decides}
-use Rattle.dj_source.proofs.TypeWords.{base_told, type_told, caught_told, IsCaught}
+use Rattle.dj_source.proofs.Choices.{single, IsReported, IsInhabited, one_reads}
+use Rattle.dj_source.proofs.WordLaws.{end_reported, string_reported, label_reported, exactly_reported, flags_reported, number_reported, any_decides, name_reported, class_text_decides}
+use Rattle.dj_source.proofs.TypeWords.{base_reported, type_reported, caught_reported, IsCaught}
 
 abbrev pub all : {A : Type 0} → A → Type 0
 all a = ⊤
 
 -- ---- without a size
 
-module _ {A : Type 0} (item : A → Item) (is : A → Type 0) (says : Token → Option A) (told : IsTold item is says) (some : IsInhabited item is all) where
+module _ {A : Type 0} (item : A → Item) (is : A → Type 0) (says : Token → Option A) (reported : IsReported item is says) (some : IsInhabited item is all) where
   pub plain_reads : IsReader (single item is all) (one says any_size)
-  plain_reads = one_reads item is all says any_size told any_decides some
+  plain_reads = one_reads item is all says any_size reported any_decides some
 
 abbrev pub end_lang : Lang ⊤
 end_lang = single (λ x. Ended) all all
 
 pub end_reads : IsReader end_lang line_end
-end_reads = plain_reads (λ (x : ⊤). Ended) all end_of end_told (record { value = tt; token = LineEnd; allowed = tt; sized = tt; said = refl })
+end_reads = plain_reads (λ (x : ⊤). Ended) all end_of end_reported (record { value = tt; token = LineEnd; allowed = tt; sized = tt; said = refl })
 
 abbrev pub flags_lang : Lang ℕ
 flags_lang = single Flags all all
@@ -45,45 +45,45 @@ one_flag : SaysFlags 1 (Word (codes "1"))
 one_flag = record { digits = codes "1"; word = refl; numeral = (omega arith, (omega arith, tt)); few = omega arith; value = refl }
 
 pub flags_reads : IsReader flags_lang flags
-flags_reads = plain_reads Flags all flags_of flags_told (record { value = 1; token = Word (codes "1"); allowed = tt; sized = tt; said = one_flag })
+flags_reads = plain_reads Flags all flags_of flags_reported (record { value = 1; token = Word (codes "1"); allowed = tt; sized = tt; said = one_flag })
 
 abbrev pub label_lang : Lang Label
 label_lang = single Exactly all all
 
 pub label_reads : IsReader label_lang label
-label_reads = plain_reads Exactly all word_of label_told (record { value = []; token = Word []; allowed = tt; sized = tt; said = refl })
+label_reads = plain_reads Exactly all word_of label_reported (record { value = []; token = Word []; allowed = tt; sized = tt; said = refl })
 
 abbrev pub string_lang : Lang (List ℕ)
 string_lang = single Text all all
 
 pub string_reads : IsReader string_lang string
-string_reads = plain_reads Text all string_of string_told (record { value = []; token = Quoted []; allowed = tt; sized = tt; said = refl })
+string_reads = plain_reads Text all string_of string_reported (record { value = []; token = Quoted []; allowed = tt; sized = tt; said = refl })
 
 abbrev pub keyword_lang : List ℕ → Lang ⊤
 keyword_lang word = single (λ x. Exactly word) all all
 
 pub keyword_reads : (word : List ℕ) → IsReader (keyword_lang word) (keyword word)
-keyword_reads word = plain_reads (λ (x : ⊤). Exactly word) all (exactly word) (exactly_told word) (record { value = tt; token = Word word; allowed = tt; sized = tt; said = refl })
+keyword_reads word = plain_reads (λ (x : ⊤). Exactly word) all (exactly word) (exactly_reported word) (record { value = tt; token = Word word; allowed = tt; sized = tt; said = refl })
 
 abbrev pub type_lang : Lang FrameType
 type_lang = single type_item IsFrameType all
 
 pub type_reads : IsReader type_lang frame_type
-type_reads = plain_reads type_item IsFrameType type_of type_told (record { value = Simple (codes "top"); token = Word (codes "top"); allowed = inl refl; sized = tt; said = refl })
+type_reads = plain_reads type_item IsFrameType type_of type_reported (record { value = Simple (codes "top"); token = Word (codes "top"); allowed = inl refl; sized = tt; said = refl })
 
 abbrev pub base_lang : Lang ℕ
 base_lang = single (λ b. Exactly (base_word b)) IsArrayType all
 
 pub base_reads : IsReader base_lang base
 base_reads =
-    plain_reads (λ b. Exactly (base_word b)) IsArrayType base_of base_told
+    plain_reads (λ b. Exactly (base_word b)) IsArrayType base_of base_reported
     (record { value = 4; token = Word (codes "boolean"); allowed = (omega arith, omega arith); sized = tt; said = refl })
 
 abbrev pub caught_lang : Lang (Option Name)
 caught_lang = single catch_item IsCaught all
 
 pub caught_reads : IsReader caught_lang caught
-caught_reads = plain_reads catch_item IsCaught caught_of caught_told (record { value = None; token = Word (codes "any"); allowed = tt; sized = tt; said = refl })
+caught_reads = plain_reads catch_item IsCaught caught_of caught_reported (record { value = None; token = Word (codes "any"); allowed = tt; sized = tt; said = refl })
 
 -- ---- numbers
 
@@ -95,7 +95,7 @@ one_number = record { digits = codes "1"; word = refl; numeral = (omega arith, (
 
 pub number_reads : (test : ℤ → Bool) (fits : ℤ → Type 0) → ((z : ℤ) → (test z ≡ true) ↔ fits z) → test (pos 1) ≡ true → IsReader (number_lang fits) (number test)
 number_reads test fits decides e =
-    one_reads Number all fits number_of test number_told decides
+    one_reads Number all fits number_of test number_reported decides
     (record { value = pos 1; token = Word (codes "1"); allowed = tt; sized = (decides (pos 1)).0 e; said = inl one_number })
 
 -- ---- names
@@ -106,7 +106,7 @@ name_lang is = single called is all
 pub name_reads : (test : List ℕ → Bool) (is : Name → Type 0) → ((text : List ℕ) → (test text ≡ true) ↔ is text) → (text : List ℕ) → test text ≡ true → text ≡ units_text text
     → IsReader (name_lang is) (name test)
 name_reads test is decides text e plain =
-    plain_reads called is (name_of test) (name_told test is decides)
+    plain_reads called is (name_of test) (name_reported test is decides)
     (record { value = text; token = Word text; allowed = (decides text).0 e; sized = tt; said = record { units = text; word = refl; value = plain } })
 
 pub class_name_reads : IsReader (name_lang IsClassName) (name class_name_test)

@@ -16,33 +16,33 @@ use Rattle.dj_source.specs.LineReading.{lines_read}
 use Rattle.dj_source.specs.LabelReading.{marks_from, mislabelled_from, sections_of, mislabelled_after, read_fault, label_error, text_fault}
 use Rattle.dj_source.specs.SourceLines.{TextLines, AreLinesOf, IsFirstFault}
 use Rattle.dj_source.proofs.TextLaws.{lines_are_read, text_lines}
-use Rattle.dj_source.proofs.LabelTextLaws.{none_told, word_fault_told, label_fault_told}
+use Rattle.dj_source.proofs.LabelTextLaws.{none_reported, word_fault_reported, label_fault_reported}
 use Rattle.dj_source.proofs.ReadingLaws.{lines_of_source}
 
 -- ---- one answer at most
 
 -- a first fault is reported
-is_told : (text : List ℕ) (e : AsmError) → WordFault text e ⊎ LabelFault text e → text_fault text ≡ Some e
-is_told text e (inl fault) = word_fault_told text e fault
-is_told text e (inr fault) = label_fault_told text e fault
+is_reported : (text : List ℕ) (e : AsmError) → WordFault text e ⊎ LabelFault text e → text_fault text ≡ Some e
+is_reported text e (inl fault) = word_fault_reported text e fault
+is_reported text e (inr fault) = label_fault_reported text e fault
 
 fault_is : (text : List ℕ) (e : AsmError) → e ≢ asm_errors.Memory → IsFirstFault text e → text_fault text ≡ Some e
 fault_is text asm_errors.Memory other fault = absurd (other refl)
-fault_is text (asm_errors.Syntax line column) other fault = is_told text (asm_errors.Syntax line column) fault
-fault_is text (asm_errors.Label line) other fault = is_told text (asm_errors.Label line) fault
-fault_is text (asm_errors.Large line) other fault = is_told text (asm_errors.Large line) fault
+fault_is text (asm_errors.Syntax line column) other fault = is_reported text (asm_errors.Syntax line column) fault
+fault_is text (asm_errors.Label line) other fault = is_reported text (asm_errors.Label line) fault
+fault_is text (asm_errors.Large line) other fault = is_reported text (asm_errors.Large line) fault
 
 -- a text has one at most
 pub one_first_fault : (text : List ℕ) (e f : AsmError) → e ≢ asm_errors.Memory → f ≢ asm_errors.Memory → IsFirstFault text e → IsFirstFault text f → e ≡ f
 one_first_fault text e f a b first other = some_is e f (sym (fault_is text e a first) ∙ fault_is text f b other)
 
-none_is_told : (text : List ℕ) (read : TextLines) → AreLinesOf text read → text_fault text ≡ None
-none_is_told text read are =
-    ap (read_fault text) (lines_are_read text are.source are.is_text) ∙ ap (label_error (line_numbers text)) (none_told are.source are.labelled)
+none_is_reported : (text : List ℕ) (read : TextLines) → AreLinesOf text read → text_fault text ≡ None
+none_is_reported text read are =
+    ap (read_fault text) (lines_are_read text are.source are.is_text) ∙ ap (label_error (line_numbers text)) (none_reported are.source are.labelled)
 
 -- and none where it has lines
 pub no_fault_of_lines : (text : List ℕ) (read : TextLines) (e : AsmError) → e ≢ asm_errors.Memory → AreLinesOf text read → IsFirstFault text e → ⊥
-no_fault_of_lines text read e other are fault = some_or_none (sym (none_is_told text read are) ∙ fault_is text e other fault) where
+no_fault_of_lines text read e other are fault = some_or_none (sym (none_is_reported text read are) ∙ fault_is text e other fault) where
   some_or_none : ◌≡◌ {A = Option AsmError} None (Some e) → ⊥
   some_or_none same = absurd cc
 

@@ -10,9 +10,9 @@ use Rattle.dj_tokens.specs.WordReading.{row_of}
 use Rattle.dj_source.specs.Reading.{Read, Got, Wrong, read_map, exactly, type_of, is_between, ◌&◌}
 use Rattle.dj_source.specs.LineReading.{line_end, number, frame_type, types_from, types_until, types_up_to, is_end, is_slash, FrameStart, SameWord, StackWord, ChopWord, AppendWord, FullWord, frame_start, frame_after, frame}
 use Rattle.dj_source.proofs.Readers.{Lang, Said, Started, ReadFrom, IsReader, GotFrom, both, sequence_reads, IsMade, IsSeenAs, seen_read, mapped_reads}
-use Rattle.dj_source.proofs.Choices.{after_first, HasFirst, IsChoice, IsTold, kind_read, none_begun, nothing_left, choose_reads, place}
-use Rattle.dj_source.proofs.WordLaws.{exactly_told, chop_decides, rows_told}
-use Rattle.dj_source.proofs.TypeWords.{type_told, mapped_some}
+use Rattle.dj_source.proofs.Choices.{after_first, HasFirst, IsChoice, IsReported, kind_read, none_begun, nothing_left, choose_reads, place}
+use Rattle.dj_source.proofs.WordLaws.{exactly_reported, chop_decides, rows_reported}
+use Rattle.dj_source.proofs.TypeWords.{type_reported, mapped_some}
 use Rattle.dj_source.proofs.FieldReaders.{all, end_lang, end_reads, type_lang, type_reads, number_lang, number_reads}
 
 -- ---- types up to an end
@@ -57,11 +57,11 @@ module _ (last : Item) (ends : Token → Bool) (end : IsEnd last ends) (is later
     by true t e = subst (λ j. Says (item_of j) token) (some_is None k e) (end.sound token t)
     by false t e =
         let m = mapped_some (λ type. Some type) (type_of token) k e in
-        subst (λ j. Says (item_of j) token) m.2 (type_told.sound token m.0 m.1).1
+        subst (λ j. Says (item_of j) token) m.2 (type_reported.sound token m.0 m.1).1
 
   type_first : (token : Token) (type : FrameType) → IsFrameType type → Says (type_item type) token → type_start ends token ≡ Some (Some type)
   type_first token type i said =
-      ap (λ t. cond t (Some None) (option_map (λ k. Some k) (type_of token))) (end.apart token type i said) ∙ ap (option_map (λ k. Some k)) (type_told.whole token type i said)
+      ap (λ t. cond t (Some None) (option_map (λ k. Some k) (type_of token))) (end.apart token type i said) ∙ ap (option_map (λ k. Some k)) (type_reported.whole token type i said)
 
   choice : IsChoice N AreTypes item_of (type_start ends)
   choice = record { sound = start_sound; whole = whole; kind = kind; is = allowed; items = items } where
@@ -82,7 +82,7 @@ module _ (last : Item) (ends : Token → Bool) (end : IsEnd last ends) (is later
     items (Some type) types p = subst (HasFirst N (type_item type)) (sym p.1.1) refl
 
   got_end : (rest : List Placed) → GotFrom (after_first N AreTypes None) rest [] rest
-  got_end rest = record { front = []; parts = refl; is = refl; fits = tt; said = tt; unique = unique } where
+  got_end rest = record { prefix = []; parts = refl; is = refl; fits = tt; said = tt; unique = unique } where
     unique : (types : List FrameType) (us more after : List Placed) → types ≡ [] → Said (drop 1 (map type_item types ++ last ∷ [])) us → us ++ more ≡ after → (types ≡ []) × (more ≡ after)
     unique types [] more after i said e = (i, e)
     unique [] (u ∷ us) more after i said e = absurd said
@@ -107,7 +107,7 @@ module _ (last : Item) (ends : Token → Bool) (end : IsEnd last ends) (is later
       by false (Some type) t e =
           kind_read N AreTypes item_of (type_start ends) choice here rest (Some type)
           (ap (λ b. cond b (Some None) (option_map (λ k. Some k) (type_of here.token))) t ∙ ap (option_map (λ k. Some k)) e) (read_map (one_more type) more)
-          (seen_read (types_lang last later) (after_first N AreTypes (Some type)) (one_more type) (type_seen type (type_told.sound here.token type e).0) rest more each)
+          (seen_read (types_lang last later) (after_first N AreTypes (Some type)) (one_more type) (type_seen type (type_reported.sound here.token type e).0) rest more each)
 
     pub no_types : ReadFrom N [] (Wrong [])
     no_types = nothing_left N AreTypes item_of (type_start ends) choice some
@@ -150,7 +150,7 @@ end_type = record { sound = sound; whole = λ token e. ap is_end e; apart = apar
 slash_type : IsEnd (Exactly (codes "/")) is_slash
 slash_type = record { sound = sound; whole = λ token e. ap is_slash e; apart = apart } where
   from : (token : Token) (o : Option ⊤) → exactly (codes "/") token ≡ o → is_some o ≡ true → token ≡ Word (codes "/")
-  from token (Some x) e t = ((exactly_told (codes "/")).sound token x e).1
+  from token (Some x) e t = ((exactly_reported (codes "/")).sound token x e).1
   from token None e t = absurd cc
 
   sound : (token : Token) → is_slash token ≡ true → token ≡ Word (codes "/")
@@ -263,13 +263,13 @@ frame_row ChopWord = refl
 frame_row AppendWord = refl
 frame_row FullWord = refl
 
-frame_told : IsTold frame_first all frame_start
-frame_told = rows_told frame_word frame_rows (refl, (refl, (refl, (refl, (refl, tt))))) frame_row
+frame_reported : IsReported frame_first all frame_start
+frame_reported = rows_reported frame_word frame_rows (refl, (refl, (refl, (refl, (refl, tt))))) frame_row
 
 frames_choice : IsChoice frames_lang IsFrameOf frame_first frame_start
 frames_choice = record {
-  sound = λ token k e. (frame_told.sound token k e).1;
-  whole = λ token k f p said. frame_told.whole token k tt said;
+  sound = λ token k e. (frame_reported.sound token k e).1;
+  whole = λ token k f p said. frame_reported.whole token k tt said;
   kind = kind;
   is = is;
   items = items;

@@ -17,8 +17,8 @@ abbrev is_among : List ℕ → Row → List Row → Bool
 is_among word row [] = bytes_eq word row.0
 is_among word row (next ∷ rows) = bytes_eq word row.0 || is_among word next rows
 
-abbrev Tells : List ℕ → Option SimpleType → Bool → Type 0
-Tells word found among = MatchOption found (among ≡ false) (λ ty. (among ≡ true) × (word ≡ simple_word ty))
+abbrev Says : List ℕ → Option SimpleType → Bool → Type 0
+Says word found among = MatchOption found (among ≡ false) (λ ty. (among ≡ true) × (word ≡ simple_word ty))
 
 flip_true : (a b : List ℕ) → bytes_eq a b ≡ true → bytes_eq b a ≡ true
 flip_true a b e = (bytes_eq-Decides b a).1 (sym ((bytes_eq-Decides a b).0 e))
@@ -30,16 +30,16 @@ flip_false a b e =
       | inr h ↦ h
     ]
 
-rows_tell : (word : List ℕ) (row : Row) (rows : List Row) → AllByRecursion (λ (r : Row). r.0 ≡ simple_word r.1) (row ∷ rows) → Tells word (row_of (row ∷ rows) word) (is_among word row rows)
-rows_tell word row [] named =
+rows_say : (word : List ℕ) (row : Row) (rows : List Row) → AllByRecursion (λ (r : Row). r.0 ≡ simple_word r.1) (row ∷ rows) → Says word (row_of (row ∷ rows) word) (is_among word row rows)
+rows_say word row [] named =
     elim (cases_Bool (bytes_eq row.0 word)) [
       | inl e ↦ rw (e, flip_true row.0 word e) (refl, sym ((bytes_eq-Decides row.0 word).0 e) ∙ named.0)
       | inr e ↦ rw (e, flip_false row.0 word e) refl
     ]
-rows_tell word row (next ∷ rows) named =
+rows_say word row (next ∷ rows) named =
     elim (cases_Bool (bytes_eq row.0 word)) [
       | inl e ↦ rw (e, flip_true row.0 word e) (refl, sym ((bytes_eq-Decides row.0 word).0 e) ∙ named.0)
-      | inr e ↦ rw (e, flip_false row.0 word e) (rows_tell word next rows named.1)
+      | inr e ↦ rw (e, flip_false row.0 word e) (rows_say word next rows named.1)
     ]
 
 abbrev simple_rows : List Row
@@ -52,6 +52,6 @@ pub simple_found : (word : List ℕ) (found : Option SimpleType)
     ∷ (codes "long", simples.Long) ∷ (codes "null", simples.Null) ∷ (codes "this", simples.This) ∷ []) word
     → MatchOption found (is_simple_type word ≡ false) (λ ty. (is_simple_type word ≡ true) × (word ≡ simple_word ty))
 simple_found word found e =
-    subst (λ (o : Option SimpleType). Tells word o (is_simple_type word)) (sym e)
-    (rows_tell word (codes "top", simples.Top) ((codes "int", simples.Int) ∷ (codes "float", simples.Float) ∷ (codes "double", simples.Double)
+    subst (λ (o : Option SimpleType). Says word o (is_simple_type word)) (sym e)
+    (rows_say word (codes "top", simples.Top) ((codes "int", simples.Int) ∷ (codes "float", simples.Float) ∷ (codes "double", simples.Double)
     ∷ (codes "long", simples.Long) ∷ (codes "null", simples.Null) ∷ (codes "this", simples.This) ∷ []) (refl, (refl, (refl, (refl, (refl, (refl, (refl, tt))))))))

@@ -133,9 +133,9 @@ wrong_labels =
     ∷ (codes "L:|.frame same|L:|nop|.end|", label 8)
     ∷ []
 
-wrong_labels_told : map in_body wrong_labels ≡ map (λ row. row.1) wrong_labels
+wrong_labels_reported : map in_body wrong_labels ≡ map (λ row. row.1) wrong_labels
 unfolding lines_read tokens_after word_units string_units mnemonics targets pairs_after types_until types_up_to form_of class_name_test reads_class_name unqualified_name_test method_name_test field_descriptor_test method_descriptor_test array_descriptor_test field_read type_read dims_read of_read method_read params_read return_read class_read name_read marks_from mislabelled_from sections_of mislabelled_after
-wrong_labels_told = refl
+wrong_labels_reported = refl
 
 abbrev right_labels : List Row
 right_labels =
@@ -157,6 +157,6 @@ right_labels =
     ∷ (codes "goto nowhere|", wrong 7 1)
     ∷ []
 
-right_labels_told : map in_body right_labels ≡ map (λ row. row.1) right_labels
+right_labels_reported : map in_body right_labels ≡ map (λ row. row.1) right_labels
 unfolding lines_read tokens_after word_units string_units mnemonics targets pairs_after types_until types_up_to form_of class_name_test reads_class_name unqualified_name_test method_name_test field_descriptor_test method_descriptor_test array_descriptor_test field_read type_read dims_read of_read method_read params_read return_read class_read name_read marks_from mislabelled_from sections_of mislabelled_after
-right_labels_told = refl
+right_labels_reported = refl

@@ -27,10 +27,10 @@ AreOthers label lines = AllByRecursion (λ line. line ≢ Beside (Labelled label
 
 -- the first line that defines the label
 record IsFirst (lines : List Line) (label : Label) : Type 0 where
-  front : List Line
+  prefix : List Line
   rest : List Line
-  parts : lines ≡ front ++ Beside (Labelled label) ∷ rest
-  others : AreOthers label front
+  parts : lines ≡ prefix ++ Beside (Labelled label) ∷ rest
+  others : AreOthers label prefix
 
 label_is : (a b : Label) → labelled a ≡ labelled b → a ≡ b
 label_is a b e = cc
@@ -49,8 +49,8 @@ first_or_none : (lines : List Line) (label : Label) → IsFirst lines label ⊎ 
 first_or_none [] label = inr tt
 first_or_none (line ∷ lines) label = by (same_line label line) (first_or_none lines label) where
   by : (line ≡ labelled label) ⊎ (line ≢ labelled label) → IsFirst lines label ⊎ AreOthers label lines → IsFirst (line ∷ lines) label ⊎ AreOthers label (line ∷ lines)
-  by (inl e) more = inl (record { front = []; rest = lines; parts = ap (λ l. l ∷ lines) e; others = tt })
-  by (inr n) (inl first) = inl (record { front = line ∷ first.front; rest = first.rest; parts = ap (λ ls. line ∷ ls) first.parts; others = (n, first.others) })
+  by (inl e) more = inl (record { prefix = []; rest = lines; parts = ap (λ l. l ∷ lines) e; others = tt })
+  by (inr n) (inl first) = inl (record { prefix = line ∷ first.prefix; rest = first.rest; parts = ap (λ ls. line ∷ ls) first.parts; others = (n, first.others) })
   by (inr n) (inr none) = inr (n, none)
 
 -- a row of another line
@@ -85,18 +85,18 @@ number_more line number lines = after_is (is_instruction line) number (instructi
 same_mark : {p q m n : ℕ} → p ≡ q → m ≡ n → Some (mark p m) ≡ Some (mark q n)
 same_mark e f = cc
 
-row_at : (label : Label) (place number : ℕ) (front rest : List Line) → AreOthers label front
-    → row_of (marks_from place number (front ++ Beside (Labelled label) ∷ rest)) label ≡ Some (mark (place + length front) (number + instruction_count front))
+row_at : (label : Label) (place number : ℕ) (prefix rest : List Line) → AreOthers label prefix
+    → row_of (marks_from place number (prefix ++ Beside (Labelled label) ∷ rest)) label ≡ Some (mark (place + length prefix) (number + instruction_count prefix))
 unfolding marks_from
 row_at label place number [] rest others = row_here label place number (marks_from (suc place) number rest) ∙ same_mark (omega arith) (omega arith)
-row_at label place number (line ∷ front) rest (n, others) =
-    row_past label line place number (marks_from (suc place) (number_after line number) (front ++ Beside (Labelled label) ∷ rest)) n
-    ∙ (row_at label (suc place) (number_after line number) front rest others
-    ∙ same_mark (omega arith) (number_more line number front))
+row_at label place number (line ∷ prefix) rest (n, others) =
+    row_past label line place number (marks_from (suc place) (number_after line number) (prefix ++ Beside (Labelled label) ∷ rest)) n
+    ∙ (row_at label (suc place) (number_after line number) prefix rest others
+    ∙ same_mark (omega arith) (number_more line number prefix))
 
-first_row : (label : Label) (front rest : List Line) → AreOthers label front
-    → row_of (marks_of (front ++ Beside (Labelled label) ∷ rest)) label ≡ Some (mark (length front) (instruction_count front))
-first_row label front rest others = row_at label 0 0 front rest others ∙ same_mark (omega arith) (omega arith)
+first_row : (label : Label) (prefix rest : List Line) → AreOthers label prefix
+    → row_of (marks_of (prefix ++ Beside (Labelled label) ∷ rest)) label ≡ Some (mark (length prefix) (instruction_count prefix))
+first_row label prefix rest others = row_at label 0 0 prefix rest others ∙ same_mark (omega arith) (omega arith)
 
 -- ---- what is decided of a body
 
@@ -104,37 +104,37 @@ none_or_some : (m : Mark) → ◌≡◌ {A = Option Mark} None (Some m) → ⊥
 none_or_some m e = absurd cc
 
 module _ (body : List Line) where
-  row_first : (label : Label) (first : IsFirst body label) → row_of (marks_of body) label ≡ Some (mark (length first.front) (instruction_count first.front))
+  row_first : (label : Label) (first : IsFirst body label) → row_of (marks_of body) label ≡ Some (mark (length first.prefix) (instruction_count first.prefix))
   row_first label first =
-      ap (λ ls. row_of (marks_of ls) label) first.parts ∙ first_row label first.front first.rest first.others
+      ap (λ ls. row_of (marks_of ls) label) first.parts ∙ first_row label first.prefix first.rest first.others
 
   -- a row says what the label stands for
   pub row_sound : (label : Label) (m : Mark) → row_of (marks_of body) label ≡ Some m → IsLabelAt body label m.number
   row_sound label m e = by (first_or_none body label) where
     by : IsFirst body label ⊎ AreOthers label body → IsLabelAt body label m.number
     by (inl first) = record {
-      front = first.front;
+      prefix = first.prefix;
       rest = first.rest;
       parts = first.parts;
       first = first.others;
-      number_is = ap (λ (k : Mark). k.number) (some_is m (mark (length first.front) (instruction_count first.front)) (sym e ∙ row_first label first));
+      number_is = ap (λ (k : Mark). k.number) (some_is m (mark (length first.prefix) (instruction_count first.prefix)) (sym e ∙ row_first label first));
     }
     by (inr none) = absurd (none_or_some m (sym (no_row label 0 0 body none) ∙ e))
 
   -- what a label stands for has a row
-  pub row_whole : (label : Label) (number : ℕ) (at : IsLabelAt body label number) → row_of (marks_of body) label ≡ Some (mark (length at.front) number)
+  pub row_whole : (label : Label) (number : ℕ) (at : IsLabelAt body label number) → row_of (marks_of body) label ≡ Some (mark (length at.prefix) number)
   row_whole label number at =
-      row_first label (record { front = at.front; rest = at.rest; parts = at.parts; others = at.first })
-      ∙ ap (λ n. Some (mark (length at.front) n)) (sym at.number_is)
+      row_first label (record { prefix = at.prefix; rest = at.rest; parts = at.parts; others = at.first })
+      ∙ ap (λ n. Some (mark (length at.prefix) n)) (sym at.number_is)
 
   pub one_number : (label : Label) (m n : ℕ) → IsLabelAt body label m → IsLabelAt body label n → m ≡ n
   one_number label m n a b =
-      ap (λ (k : Mark). k.number) (some_is (mark (length a.front) m) (mark (length b.front) n) (sym (row_whole label m a) ∙ row_whole label n b))
+      ap (λ (k : Mark). k.number) (some_is (mark (length a.prefix) m) (mark (length b.prefix) n) (sym (row_whole label m a) ∙ row_whole label n b))
 
   instruction_decides : (label : Label) (o : Option Mark) → row_of (marks_of body) label ≡ o → Decides (is_below (instruction_count body) o) (IsInstructionLabel body label)
   instruction_decides label None e = (
     λ t. absurd (true≢false (sym t)),
-    λ met. absurd (none_or_some (mark (length met.defined.front) met.number) (sym e ∙ row_whole label met.number met.defined)),
+    λ met. absurd (none_or_some (mark (length met.defined.prefix) met.number) (sym e ∙ row_whole label met.number met.defined)),
   )
   instruction_decides label (Some m) e = (
     λ t. record { number = m.number; defined = row_sound label m e; instruction = ltb-true m.number (instruction_count body) t },
@@ -144,11 +144,11 @@ module _ (body : List Line) where
   range_decides : (from to : Label) (o p : Option Mark) → row_of (marks_of body) from ≡ o → row_of (marks_of body) to ≡ p → Decides (is_in_order o p) (IsRange body from to)
   range_decides from to None p e f = (
     λ t. absurd (true≢false (sym t)),
-    λ met. absurd (none_or_some (mark (length met.from_is.front) met.first) (sym e ∙ row_whole from met.first met.from_is)),
+    λ met. absurd (none_or_some (mark (length met.from_is.prefix) met.first) (sym e ∙ row_whole from met.first met.from_is)),
   )
   range_decides from to (Some m) None e f = (
     λ t. absurd (true≢false (sym t)),
-    λ met. absurd (none_or_some (mark (length met.to_is.front) met.end) (sym f ∙ row_whole to met.end met.to_is)),
+    λ met. absurd (none_or_some (mark (length met.to_is.prefix) met.end) (sym f ∙ row_whole to met.end met.to_is)),
   )
   range_decides from to (Some m) (Some n) e f = (
     λ t. record { first = m.number; end = n.number; from_is = row_sound from m e; to_is = row_sound to n f; some = ltb-true m.number n.number t },
@@ -175,30 +175,30 @@ others_lack label lines others contains = All-contains (λ line. line ≢ labell
 first_contains : (label : Label) (lines : List Line) → IsFirst lines label → Contains lines (labelled label)
 first_contains label lines first =
     subst (λ ls. Contains ls (labelled label)) (sym first.parts)
-    (length first.front, omega (arith, length-append first.front (labelled label ∷ first.rest)), get_or_at first.front (labelled label) first.rest (labelled label) (length first.front) refl)
+    (length first.prefix, omega (arith, length-append first.prefix (labelled label ∷ first.rest)), get_or_at first.prefix (labelled label) first.rest (labelled label) (length first.prefix) refl)
 
-module _ (front : List Line) (rest : List Line) where
+module _ (prefix : List Line) (rest : List Line) where
   -- with the label after the prefix
-  label_again : (label : Label) → IsFirst front label ⊎ AreOthers label front
-      → Decides (is_before (length front) (row_of (marks_of (front ++ labelled label ∷ rest)) label)) (Contains front (labelled label))
+  label_again : (label : Label) → IsFirst prefix label ⊎ AreOthers label prefix
+      → Decides (is_before (length prefix) (row_of (marks_of (prefix ++ labelled label ∷ rest)) label)) (Contains prefix (labelled label))
   label_again label (inl first) =
-      let whole : front ++ labelled label ∷ rest ≡ first.front ++ labelled label ∷ (first.rest ++ labelled label ∷ rest) =
-      ap (λ ls. ls ++ labelled label ∷ rest) first.parts ∙ append_assoc first.front (labelled label ∷ first.rest) (labelled label ∷ rest) in
-      let row : row_of (marks_of (front ++ labelled label ∷ rest)) label ≡ Some (mark (length first.front) (instruction_count first.front)) =
-      ap (λ ls. row_of (marks_of ls) label) whole ∙ first_row label first.front (first.rest ++ labelled label ∷ rest) first.others in
-      let size = ap length first.parts ∙ length-append first.front (labelled label ∷ first.rest) in
-      let below : length first.front < length front = omega (arith, size) in (
-        λ t. first_contains label front first,
-        λ contains. ap (is_before (length front)) row ∙ lt-ltb (length first.front) (length front) below,
+      let whole : prefix ++ labelled label ∷ rest ≡ first.prefix ++ labelled label ∷ (first.rest ++ labelled label ∷ rest) =
+      ap (λ ls. ls ++ labelled label ∷ rest) first.parts ∙ append_assoc first.prefix (labelled label ∷ first.rest) (labelled label ∷ rest) in
+      let row : row_of (marks_of (prefix ++ labelled label ∷ rest)) label ≡ Some (mark (length first.prefix) (instruction_count first.prefix)) =
+      ap (λ ls. row_of (marks_of ls) label) whole ∙ first_row label first.prefix (first.rest ++ labelled label ∷ rest) first.others in
+      let size = ap length first.parts ∙ length-append first.prefix (labelled label ∷ first.rest) in
+      let below : length first.prefix < length prefix = omega (arith, size) in (
+        λ t. first_contains label prefix first,
+        λ contains. ap (is_before (length prefix)) row ∙ lt-ltb (length first.prefix) (length prefix) below,
       )
   label_again label (inr none) =
-      let row : row_of (marks_of (front ++ labelled label ∷ rest)) label ≡ Some (mark (length front) (instruction_count front)) = first_row label front rest none in (
-        λ t. absurd (true≢false (sym t ∙ (ap (is_before (length front)) row ∙ le-ltb (length front) (length front) (omega arith)))),
-        λ contains. absurd (others_lack label front none contains),
+      let row : row_of (marks_of (prefix ++ labelled label ∷ rest)) label ≡ Some (mark (length prefix) (instruction_count prefix)) = first_row label prefix rest none in (
+        λ t. absurd (true≢false (sym t ∙ (ap (is_before (length prefix)) row ∙ le-ltb (length prefix) (length prefix) (omega arith)))),
+        λ contains. absurd (others_lack label prefix none contains),
       )
 
-  again_decides : (line : Line) → Decides (is_again (marks_of (front ++ line ∷ rest)) (length front) (defined_by line)) (IsDoubled front line)
-  again_decides (Beside (Labelled label)) = label_again label (first_or_none front label)
+  again_decides : (line : Line) → Decides (is_again (marks_of (prefix ++ line ∷ rest)) (length prefix) (defined_by line)) (IsDoubled prefix line)
+  again_decides (Beside (Labelled label)) = label_again label (first_or_none prefix label)
   again_decides (Beside (Catch class from to handler)) = (λ t. true≢false (sym t), λ wrong. absurd wrong)
   again_decides line = (λ t. true≢false (sym t), λ wrong. absurd wrong)
 
@@ -206,32 +206,32 @@ module _ (front : List Line) (rest : List Line) where
 
 -- the line after this prefix is mislabelled
 abbrev pub IsWrong : List Line → List Line → Line → Type 0
-IsWrong body front line = IsDoubled front line ⊎ (AllByRecursion (IsMet body) (uses_of line) → ⊥)
+IsWrong body prefix line = IsDoubled prefix line ⊎ (AllByRecursion (IsMet body) (uses_of line) → ⊥)
 
-line_decides : (front : List Line) (line : Line) (rest : List Line)
-    → Decides (is_mislabelled (marks_of (front ++ line ∷ rest)) (instruction_count (front ++ line ∷ rest)) (length front) line) (IsWrong (front ++ line ∷ rest) front line)
-line_decides front line rest =
-    let body = front ++ line ∷ rest in
+line_decides : (prefix : List Line) (line : Line) (rest : List Line)
+    → Decides (is_mislabelled (marks_of (prefix ++ line ∷ rest)) (instruction_count (prefix ++ line ∷ rest)) (length prefix) line) (IsWrong (prefix ++ line ∷ rest) prefix line)
+line_decides prefix line rest =
+    let body = prefix ++ line ∷ rest in
     let met = list_all (is_met (marks_of body) (instruction_count body)) (uses_of line) in
-    Decides-or (is_again (marks_of body) (length front) (defined_by line)) (not met) (again_decides front rest line) (Decides-not met (uses_decide body (uses_of line)))
+    Decides-or (is_again (marks_of body) (length prefix) (defined_by line)) (not met) (again_decides prefix rest line) (Decides-not met (uses_decide body (uses_of line)))
 
 -- the line after this many of the body is mislabelled
 pub record IsWrongAt (body : List Line) (place : ℕ) : Type 0 where
-  pub front : List Line
+  pub prefix : List Line
   pub line : Line
   pub rest : List Line
-  pub parts : body ≡ front ++ line ∷ rest
-  pub place_is : place ≡ length front
-  pub wrong : IsWrong body front line
+  pub parts : body ≡ prefix ++ line ∷ rest
+  pub place_is : place ≡ length prefix
+  pub wrong : IsWrong body prefix line
 
-split_at : {A : Type 0} (xs : List A) (n : ℕ) (x : A) → slice_get xs n ≡ Some x → (front : List A) × (rest : List A) × (xs ≡ front ++ x ∷ rest) × (n ≡ length front)
+split_at : {A : Type 0} (xs : List A) (n : ℕ) (x : A) → slice_get xs n ≡ Some x → (prefix : List A) × (rest : List A) × (xs ≡ prefix ++ x ∷ rest) × (n ≡ length prefix)
 split_at [] n x e = absurd cc
 split_at (y ∷ xs) zero x e = ([], xs, ap (λ z. z ∷ xs) (some_is y x e), refl)
 split_at (y ∷ xs) (suc n) x e = let s = split_at xs n x e in (y ∷ s.0, s.1, ap (λ ys. y ∷ ys) s.2, ap suc s.3)
 
-get_at : {A : Type 0} (front : List A) (x : A) (rest : List A) → slice_get (front ++ x ∷ rest) (length front) ≡ Some x
+get_at : {A : Type 0} (prefix : List A) (x : A) (rest : List A) → slice_get (prefix ++ x ∷ rest) (length prefix) ≡ Some x
 get_at [] x rest = refl
-get_at (y ∷ front) x rest = get_at front x rest
+get_at (y ∷ prefix) x rest = get_at prefix x rest
 
 module _ (body : List Line) where
   abbrev is_wrong : ℕ → Line → Bool
@@ -243,7 +243,7 @@ module _ (body : List Line) where
       let test : is_mislabelled (marks_of (s.0 ++ line ∷ s.1)) (instruction_count (s.0 ++ line ∷ s.1)) (length s.0) line ≡ true =
       subst (λ b. is_mislabelled (marks_of b) (instruction_count b) (length s.0) line ≡ true) s.2 (subst (λ n. is_wrong n line ≡ true) s.3 t) in
       record {
-        front = s.0;
+        prefix = s.0;
         line = line;
         rest = s.1;
         parts = s.2;
@@ -255,10 +255,10 @@ module _ (body : List Line) where
   is_at : (place : ℕ) → IsWrongAt body place → (line : Line) × (slice_get body place ≡ Some line) × (is_wrong place line ≡ true)
   is_at place w = (
     w.line,
-    subst (λ n. slice_get body n ≡ Some w.line) (sym w.place_is) (ap (λ b. slice_get b (length w.front)) w.parts ∙ get_at w.front w.line w.rest),
+    subst (λ n. slice_get body n ≡ Some w.line) (sym w.place_is) (ap (λ b. slice_get b (length w.prefix)) w.parts ∙ get_at w.prefix w.line w.rest),
     subst (λ n. is_wrong n w.line ≡ true) (sym w.place_is)
-        (subst (λ b. is_mislabelled (marks_of b) (instruction_count b) (length w.front) w.line ≡ true) (sym w.parts)
-        ((line_decides w.front w.line w.rest).1 (subst (λ b. IsWrong b w.front w.line) w.parts w.wrong))),
+        (subst (λ b. is_mislabelled (marks_of b) (instruction_count b) (length w.prefix) w.line ≡ true) (sym w.parts)
+        ((line_decides w.prefix w.line w.rest).1 (subst (λ b. IsWrong b w.prefix w.line) w.parts w.wrong))),
   )
 
 -- ---- the first of them
@@ -348,4 +348,4 @@ none_mislabelled body e n w =
     true≢false (sym at.2 ∙ subst (λ k. is_wrong body k at.0 ≡ false) (from_zero n) (none_found (marks_of body) (instruction_count body) 0 body e n at.0 at.1))
 
 pub wrong_within : (body : List Line) (n : ℕ) → IsWrongAt body n → n < length body
-wrong_within body n w = let size = ap length w.parts ∙ length-append w.front (w.line ∷ w.rest) in omega (arith, size, w.place_is)
+wrong_within body n w = let size = ap length w.parts ∙ length-append w.prefix (w.line ∷ w.rest) in omega (arith, size, w.place_is)

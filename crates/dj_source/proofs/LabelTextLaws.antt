@@ -37,19 +37,19 @@ record IsLeast (P : ℕ → Type 0) (place : ℕ) : Type 0 where
   first : (n : ℕ) → n < place → P n → ⊥
 
 -- what the pass reports
-abbrev IsTold : (ℕ → Type 0) → Option ℕ → Type 0
-IsTold P None = (n : ℕ) → P n → ⊥
-IsTold P (Some place) = IsLeast P place
+abbrev IsReported : (ℕ → Type 0) → Option ℕ → Type 0
+IsReported P None = (n : ℕ) → P n → ⊥
+IsReported P (Some place) = IsLeast P place
 
-told_after : (before : ℕ) (sections : List (List Line)) → IsTold (IsWrongIn before sections) (mislabelled_after before sections)
+reported_after : (before : ℕ) (sections : List (List Line)) → IsReported (IsWrongIn before sections) (mislabelled_after before sections)
 unfolding mislabelled_after
-told_after before [] = λ n w. w
-told_after before (section ∷ sections) = by (mislabelled_in section) refl (mislabelled_after (before + length section) sections) (told_after (before + length section) sections) where
+reported_after before [] = λ n w. w
+reported_after before (section ∷ sections) = by (mislabelled_in section) refl (mislabelled_after (before + length section) sections) (reported_after (before + length section) sections) where
   none_here : mislabelled_in section ≡ None → (n : ℕ) → (IsWrongIn (before + length section) sections n → ⊥) → IsWrongIn before (section ∷ sections) n → ⊥
   none_here e n none (inl (m, f, w)) = none_mislabelled section e m w
   none_here e n none (inr w) = none w
 
-  later : (p : Option ℕ) → mislabelled_in section ≡ None → IsTold (IsWrongIn (before + length section) sections) p → IsTold (IsWrongIn before (section ∷ sections)) p
+  later : (p : Option ℕ) → mislabelled_in section ≡ None → IsReported (IsWrongIn (before + length section) sections) p → IsReported (IsWrongIn before (section ∷ sections)) p
   later None e none = λ n. none_here e n (none n)
   later (Some place) e least = record { is = inr least.is; first = λ n below. none_here e n (least.first n below) }
 
@@ -62,10 +62,10 @@ told_after before (section ∷ sections) = by (mislabelled_in section) refl (mis
         let within = wrong_within section k (mislabelled_is section k e) in
         omega (arith, below, from, within)
 
-  by : (o : Option ℕ) → mislabelled_in section ≡ o → (p : Option ℕ) → IsTold (IsWrongIn (before + length section) sections) p
-      → IsTold (IsWrongIn before (section ∷ sections)) (or_else (option_map (λ n. before + n) o) p)
-  by None e p told = later p e told
-  by (Some k) e p told = here k e
+  by : (o : Option ℕ) → mislabelled_in section ≡ o → (p : Option ℕ) → IsReported (IsWrongIn (before + length section) sections) p
+      → IsReported (IsWrongIn before (section ∷ sections)) (or_else (option_map (λ n. before + n) o) p)
+  by None e p reported = later p e reported
+  by (Some k) e p reported = here k e
 
 -- ---- lines before the methods
 
@@ -73,18 +73,18 @@ told_after before (section ∷ sections) = by (mislabelled_in section) refl (mis
 abbrev IsPlain : Line → Type 0
 IsPlain line = (defined_by line ≡ None) × (uses_of line ≡ [])
 
-not_doubled : (front : List Line) (line : Line) → defined_by line ≡ None → IsDoubled front line → ⊥
-not_doubled front (Beside (Labelled label)) e doubled = absurd cc
-not_doubled front (Beside (Catch class from to handler)) e doubled = doubled
-not_doubled front line e doubled = doubled
+not_doubled : (prefix : List Line) (line : Line) → defined_by line ≡ None → IsDoubled prefix line → ⊥
+not_doubled prefix (Beside (Labelled label)) e doubled = absurd cc
+not_doubled prefix (Beside (Catch class from to handler)) e doubled = doubled
+not_doubled prefix line e doubled = doubled
 
-not_wrong : (body front : List Line) (line : Line) → IsPlain line → IsWrong body front line → ⊥
-not_wrong body front line plain (inl doubled) = not_doubled front line plain.0 doubled
-not_wrong body front line plain (inr unmet) = unmet (subst (AllByRecursion (IsMet body)) (sym plain.1) tt)
+not_wrong : (body prefix : List Line) (line : Line) → IsPlain line → IsWrong body prefix line → ⊥
+not_wrong body prefix line plain (inl doubled) = not_doubled prefix line plain.0 doubled
+not_wrong body prefix line plain (inr unmet) = unmet (subst (AllByRecursion (IsMet body)) (sym plain.1) tt)
 
-at_middle : (P : Line → Type 0) (front : List Line) (line : Line) (rest : List Line) → AllByRecursion P (front ++ line ∷ rest) → P line
+at_middle : (P : Line → Type 0) (prefix : List Line) (line : Line) (rest : List Line) → AllByRecursion P (prefix ++ line ∷ rest) → P line
 at_middle P [] line rest (p, all) = p
-at_middle P (l ∷ front) line rest (p, all) = at_middle P front line rest all
+at_middle P (l ∷ prefix) line rest (p, all) = at_middle P prefix line rest all
 
 plain_fields : (fields : List FieldSource) → AllByRecursion IsPlain (map field_line fields)
 plain_fields [] = tt
@@ -104,7 +104,7 @@ head_plain s = ((refl, refl), plain_tail s.version s.super s.interfaces s.fields
 
 none_in_head : (s : Source) (n : ℕ) → IsWrongAt (head_lines s) n → ⊥
 none_in_head s n w =
-    not_wrong (head_lines s) w.front w.line (at_middle IsPlain w.front w.line w.rest (subst (AllByRecursion IsPlain) w.parts (head_plain s))) w.wrong
+    not_wrong (head_lines s) w.prefix w.line (at_middle IsPlain w.prefix w.line w.rest (subst (AllByRecursion IsPlain) w.parts (head_plain s))) w.wrong
 
 -- ---- the methods of a source
 
@@ -113,35 +113,35 @@ lines_in methods = flat_map method_lines methods
 
 -- the line after this many of a method's
 record IsWrongOf (methods : List MethodSource) (before place : ℕ) : Type 0 where
-  front : List MethodSource
+  prefix : List MethodSource
   method : MethodSource
   rest : List MethodSource
-  parts : methods ≡ front ++ method ∷ rest
+  parts : methods ≡ prefix ++ method ∷ rest
   number : ℕ
-  place_is : place ≡ before + length (lines_in front) + number
+  place_is : place ≡ before + length (lines_in prefix) + number
   wrong : IsWrongAt (method_lines method) number
 
 method_count : (method : MethodSource) (methods : List MethodSource) → length (lines_in (method ∷ methods)) ≡ length (method_lines method) + length (lines_in methods)
 method_count method methods = length-append (method_lines method) (lines_in methods)
 
-in_sections : (before place : ℕ) (front : List MethodSource) (method : MethodSource) (rest : List MethodSource) (number : ℕ) → place ≡ before + length (lines_in front) + number
-    → IsWrongAt (method_lines method) number → IsWrongIn before (map method_lines (front ++ method ∷ rest)) place
+in_sections : (before place : ℕ) (prefix : List MethodSource) (method : MethodSource) (rest : List MethodSource) (number : ℕ) → place ≡ before + length (lines_in prefix) + number
+    → IsWrongAt (method_lines method) number → IsWrongIn before (map method_lines (prefix ++ method ∷ rest)) place
 in_sections before place [] method rest number e w = inl (number, omega (arith, e), w)
-in_sections before place (first ∷ front) method rest number e w =
-    inr (in_sections (before + length (method_lines first)) place front method rest number (omega (arith, e, method_count first front)) w)
+in_sections before place (first ∷ prefix) method rest number e w =
+    inr (in_sections (before + length (method_lines first)) place prefix method rest number (omega (arith, e, method_count first prefix)) w)
 
 of_sections : (before place : ℕ) (methods : List MethodSource) → IsWrongIn before (map method_lines methods) place → IsWrongOf methods before place
 of_sections before place [] w = absurd w
-of_sections before place (method ∷ methods) (inl (n, e, w)) = record { front = []; method = method; rest = methods; parts = refl; number = n; place_is = omega (arith, e); wrong = w }
+of_sections before place (method ∷ methods) (inl (n, e, w)) = record { prefix = []; method = method; rest = methods; parts = refl; number = n; place_is = omega (arith, e); wrong = w }
 of_sections before place (method ∷ methods) (inr w) =
     let o = of_sections (before + length (method_lines method)) place methods w in
     record {
-      front = method ∷ o.front;
+      prefix = method ∷ o.prefix;
       method = o.method;
       rest = o.rest;
       parts = ap (λ ms. method ∷ ms) o.parts;
       number = o.number;
-      place_is = omega (arith, o.place_is, method_count method o.front);
+      place_is = omega (arith, o.place_is, method_count method o.prefix);
       wrong = o.wrong;
     }
 
@@ -150,21 +150,21 @@ module _ (s : Source) where
   to_sections : (place : ℕ) → IsMislabelled s place → IsWrongIn 0 (head_lines s ∷ map method_lines s.methods) place
   to_sections place m =
       let of = m.in_method in
-      let wrong : IsWrongAt (method_lines of.method) (length m.front) =
-      subst (λ body. IsWrongAt body (length m.front)) of.lines_are (record { front = m.front; line = m.line; rest = m.rest; parts = m.parts; place_is = refl; wrong = m.wrong }) in
+      let wrong : IsWrongAt (method_lines of.method) (length m.prefix) =
+      subst (λ body. IsWrongAt body (length m.prefix)) of.lines_are (record { prefix = m.prefix; line = m.line; rest = m.rest; parts = m.parts; place_is = refl; wrong = m.wrong }) in
       inr
       (subst (λ methods. IsWrongIn (0 + length (head_lines s)) (map method_lines methods) place) (sym of.methods)
-      (in_sections (0 + length (head_lines s)) place of.front of.method of.rest (length m.front) (omega (arith, m.place_is, of.before_is)) wrong))
+      (in_sections (0 + length (head_lines s)) place of.prefix of.method of.rest (length m.prefix) (omega (arith, m.place_is, of.before_is)) wrong))
 
   from_sections : (place : ℕ) → IsWrongIn 0 (head_lines s ∷ map method_lines s.methods) place → IsMislabelled s place
   from_sections place (inl (n, e, w)) = absurd (none_in_head s n w)
   from_sections place (inr w) =
       let o = of_sections (0 + length (head_lines s)) place s.methods w in
       record {
-        before = length (head_lines s) + length (lines_in o.front);
+        before = length (head_lines s) + length (lines_in o.prefix);
         body = method_lines o.method;
-        in_method = record { front = o.front; method = o.method; rest = o.rest; methods = o.parts; before_is = refl; lines_are = refl };
-        front = o.wrong.front;
+        in_method = record { prefix = o.prefix; method = o.method; rest = o.rest; methods = o.parts; before_is = refl; lines_are = refl };
+        prefix = o.wrong.prefix;
         line = o.wrong.line;
         rest = o.wrong.rest;
         parts = o.wrong.parts;
@@ -172,33 +172,33 @@ module _ (s : Source) where
         wrong = o.wrong.wrong;
       }
 
-  told_of : (o : Option ℕ) → IsTold (IsWrongIn 0 (head_lines s ∷ map method_lines s.methods)) o → IsTold (IsMislabelled s) o
-  told_of None none = λ n m. none n (to_sections n m)
-  told_of (Some place) least = record { is = from_sections place least.is; first = λ n below m. least.first n below (to_sections n m) }
+  reported_of : (o : Option ℕ) → IsReported (IsWrongIn 0 (head_lines s ∷ map method_lines s.methods)) o → IsReported (IsMislabelled s) o
+  reported_of None none = λ n m. none n (to_sections n m)
+  reported_of (Some place) least = record { is = from_sections place least.is; first = λ n below m. least.first n below (to_sections n m) }
 
-  told : IsTold (IsMislabelled s) (first_mislabelled (lines_of s))
-  told =
-      subst (λ sections. IsTold (IsMislabelled s) (mislabelled_after 0 sections)) (sym (source_sections s))
-      (told_of (mislabelled_after 0 (head_lines s ∷ map method_lines s.methods)) (told_after 0 (head_lines s ∷ map method_lines s.methods)))
+  reported : IsReported (IsMislabelled s) (first_mislabelled (lines_of s))
+  reported =
+      subst (λ sections. IsReported (IsMislabelled s) (mislabelled_after 0 sections)) (sym (source_sections s))
+      (reported_of (mislabelled_after 0 (head_lines s ∷ map method_lines s.methods)) (reported_after 0 (head_lines s ∷ map method_lines s.methods)))
 
 -- the first line of a source that is mislabelled
 pub first_is : (s : Source) (place : ℕ) → first_mislabelled (lines_of s) ≡ Some place → IsMislabelled s place × ((n : ℕ) → n < place → IsMislabelled s n → ⊥)
-first_is s place e = by (first_mislabelled (lines_of s)) (told s) e where
-  by : (o : Option ℕ) → IsTold (IsMislabelled s) o → o ≡ Some place → IsMislabelled s place × ((n : ℕ) → n < place → IsMislabelled s n → ⊥)
+first_is s place e = by (first_mislabelled (lines_of s)) (reported s) e where
+  by : (o : Option ℕ) → IsReported (IsMislabelled s) o → o ≡ Some place → IsMislabelled s place × ((n : ℕ) → n < place → IsMislabelled s n → ⊥)
   by None none e = absurd cc
   by (Some p) least e = subst (λ q. IsMislabelled s q × ((n : ℕ) → n < q → IsMislabelled s n → ⊥)) (some_is p place e) (least.is, least.first)
 
 -- no line is
 pub none_is : (s : Source) → first_mislabelled (lines_of s) ≡ None → (n : ℕ) → IsMislabelled s n → ⊥
-none_is s e = by (first_mislabelled (lines_of s)) (told s) e where
-  by : (o : Option ℕ) → IsTold (IsMislabelled s) o → o ≡ None → (n : ℕ) → IsMislabelled s n → ⊥
+none_is s e = by (first_mislabelled (lines_of s)) (reported s) e where
+  by : (o : Option ℕ) → IsReported (IsMislabelled s) o → o ≡ None → (n : ℕ) → IsMislabelled s n → ⊥
   by None none e = none
   by (Some p) least e = absurd cc
 
 -- such a first line is reported
-pub first_told : (s : Source) (place : ℕ) → IsMislabelled s place → ((n : ℕ) → n < place → IsMislabelled s n → ⊥) → first_mislabelled (lines_of s) ≡ Some place
-first_told s place m none = by (first_mislabelled (lines_of s)) (told s) where
-  by : (o : Option ℕ) → IsTold (IsMislabelled s) o → o ≡ Some place
+pub first_reported : (s : Source) (place : ℕ) → IsMislabelled s place → ((n : ℕ) → n < place → IsMislabelled s n → ⊥) → first_mislabelled (lines_of s) ≡ Some place
+first_reported s place m none = by (first_mislabelled (lines_of s)) (reported s) where
+  by : (o : Option ℕ) → IsReported (IsMislabelled s) o → o ≡ Some place
   by None none_at = absurd (none_at place m)
   by (Some p) least =
       elim (cases_order p place) [
@@ -208,9 +208,9 @@ first_told s place m none = by (first_mislabelled (lines_of s)) (told s) where
       ]
 
 -- and where none is, none is reported
-pub none_told : (s : Source) → ((n : ℕ) → IsMislabelled s n → ⊥) → first_mislabelled (lines_of s) ≡ None
-none_told s none = by (first_mislabelled (lines_of s)) (told s) where
-  by : (o : Option ℕ) → IsTold (IsMislabelled s) o → o ≡ None
+pub none_reported : (s : Source) → ((n : ℕ) → IsMislabelled s n → ⊥) → first_mislabelled (lines_of s) ≡ None
+none_reported s none = by (first_mislabelled (lines_of s)) (reported s) where
+  by : (o : Option ℕ) → IsReported (IsMislabelled s) o → o ≡ None
   by None none_at = refl
   by (Some p) least = absurd (none p least.is)
 
@@ -218,11 +218,11 @@ none_told s none = by (first_mislabelled (lines_of s)) (told s) where
 
 methods_within : (methods : List MethodSource) (before place : ℕ) → IsWrongOf methods before place → place < before + length (lines_in methods)
 methods_within methods before place w =
-    let all = ap (λ ms. length (lines_in ms)) w.parts ∙ lines_more w.front (w.method ∷ w.rest) ∙ ap (λ n. length (lines_in w.front) + n) (method_count w.method w.rest) in
+    let all = ap (λ ms. length (lines_in ms)) w.parts ∙ lines_more w.prefix (w.method ∷ w.rest) ∙ ap (λ n. length (lines_in w.prefix) + n) (method_count w.method w.rest) in
     omega (arith, all, w.place_is, wrong_within (method_lines w.method) w.number w.wrong) where
-      lines_more : (front rest : List MethodSource) → length (lines_in (front ++ rest)) ≡ length (lines_in front) + length (lines_in rest)
+      lines_more : (prefix rest : List MethodSource) → length (lines_in (prefix ++ rest)) ≡ length (lines_in prefix) + length (lines_in rest)
       lines_more [] rest = omega arith
-      lines_more (m ∷ front) rest = omega (arith, method_count m (front ++ rest), method_count m front, lines_more front rest)
+      lines_more (m ∷ prefix) rest = omega (arith, method_count m (prefix ++ rest), method_count m prefix, lines_more prefix rest)
 
 within_lines : (s : Source) (place : ℕ) → IsMislabelled s place → place < length (lines_of s)
 within_lines s place m = by (to_sections s place m) where
@@ -244,25 +244,25 @@ number_of : (text : List ℕ) (s : Source) (place : ℕ) → IsTextOf text s →
 number_of text s place is m = get_within (line_numbers text) place (omega (arith, within_lines s place m, as_many_lines text s is))
 
 -- what is reported of a text's labels
-abbrev pub AreLabelsTold : List ℕ → Source → Option AsmError → Type 0
-AreLabelsTold text s None = (n : ℕ) → IsMislabelled s n → ⊥
-AreLabelsTold text s (Some e) = LabelFault text e
+abbrev pub AreLabelsReported : List ℕ → Source → Option AsmError → Type 0
+AreLabelsReported text s None = (n : ℕ) → IsMislabelled s n → ⊥
+AreLabelsReported text s (Some e) = LabelFault text e
 
-labels_told : (text : List ℕ) (s : Source) → IsTextOf text s → AreLabelsTold text s (labels_fault text (lines_of s))
-labels_told text s is = by (first_mislabelled (lines_of s)) (told s) where
-  by : (o : Option ℕ) → IsTold (IsMislabelled s) o → AreLabelsTold text s (label_error (line_numbers text) o)
+labels_reported : (text : List ℕ) (s : Source) → IsTextOf text s → AreLabelsReported text s (labels_fault text (lines_of s))
+labels_reported text s is = by (first_mislabelled (lines_of s)) (reported s) where
+  by : (o : Option ℕ) → IsReported (IsMislabelled s) o → AreLabelsReported text s (label_error (line_numbers text) o)
   by None none = none
   by (Some place) least = at (number_of text s place is least.is) where
-    at : (line : ℕ) × (slice_get (line_numbers text) place ≡ Some line) → AreLabelsTold text s (label_error (line_numbers text) (Some place))
+    at : (line : ℕ) × (slice_get (line_numbers text) place ≡ Some line) → AreLabelsReported text s (label_error (line_numbers text) (Some place))
     at (line, e) =
-        subst (AreLabelsTold text s) (sym (ap (option_map (λ n. asm_errors.Label n)) e))
-        (record { source = s; is_text = is; place = place; wrong = least.is; first = least.first; line = line; number = e; told = refl })
+        subst (AreLabelsReported text s) (sym (ap (option_map (λ n. asm_errors.Label n)) e))
+        (record { source = s; is_text = is; place = place; wrong = least.is; first = least.first; line = line; number = e; reported = refl })
 
 -- a fault of labels is reported
-fault_told : (text : List ℕ) (e : AsmError) (fault : LabelFault text e) → labels_fault text (lines_of fault.source) ≡ Some e
-fault_told text e fault =
-    ap (label_error (line_numbers text)) (first_told fault.source fault.place fault.wrong fault.first)
-    ∙ (ap (option_map (λ n. asm_errors.Label n)) fault.number ∙ ap (λ f. Some f) (sym fault.told))
+fault_reported : (text : List ℕ) (e : AsmError) (fault : LabelFault text e) → labels_fault text (lines_of fault.source) ≡ Some e
+fault_reported text e fault =
+    ap (label_error (line_numbers text)) (first_reported fault.source fault.place fault.wrong fault.first)
+    ∙ (ap (option_map (λ n. asm_errors.Label n)) fault.number ∙ ap (λ f. Some f) (sym fault.reported))
 
 -- ---- what is known of a text in the first two steps
 
@@ -270,54 +270,54 @@ ok_is : (xs ys : List Line) → ◌≡◌ {A = AreRead} (Ok xs) (Ok ys) → xs �
 ok_is xs ys e = cc
 
 -- where a text was read, what is reported of its labels is right
-pub labels_rightly : (text : List ℕ) (lines : List Line) → text_read text ≡ Ok lines → (s : Source) × (lines ≡ lines_of s) × IsTextOf text s × AreLabelsTold text s (labels_fault text lines)
+pub labels_rightly : (text : List ℕ) (lines : List Line) → text_read text ≡ Ok lines → (s : Source) × (lines ≡ lines_of s) × IsTextOf text s × AreLabelsReported text s (labels_fault text lines)
 labels_rightly text lines e = by (text_read text) (text_read_rightly text) e where
-  by : (r : AreRead) → IsReadRightly text r → r ≡ Ok lines → (s : Source) × (lines ≡ lines_of s) × IsTextOf text s × AreLabelsTold text s (labels_fault text lines)
+  by : (r : AreRead) → IsReadRightly text r → r ≡ Ok lines → (s : Source) × (lines ≡ lines_of s) × IsTextOf text s × AreLabelsReported text s (labels_fault text lines)
   by (Ok found) (s, of, is) e =
       let same : lines ≡ lines_of s = sym (ok_is found lines e) ∙ of in
-      (s, same, is, subst (λ ls. AreLabelsTold text s (labels_fault text ls)) (sym same) (labels_told text s is))
+      (s, same, is, subst (λ ls. AreLabelsReported text s (labels_fault text ls)) (sym same) (labels_reported text s is))
   by (Err x) fault e = absurd cc
 
 -- a fault that they have
 pub label_fault_is : (text : List ℕ) (lines : List Line) (e : AsmError) → text_read text ≡ Ok lines → labels_fault text lines ≡ Some e → LabelFault text e
-label_fault_is text lines e read fault = let r = labels_rightly text lines read in subst (AreLabelsTold text r.0) fault r.3
+label_fault_is text lines e read fault = let r = labels_rightly text lines read in subst (AreLabelsReported text r.0) fault r.3
 
 -- or none
 pub no_label_fault : (text : List ℕ) (lines : List Line) → text_read text ≡ Ok lines → labels_fault text lines ≡ None → (s : Source) × (lines ≡ lines_of s) × IsTextOf text s × ((n : ℕ) → IsMislabelled s n → ⊥)
-no_label_fault text lines read fault = let r = labels_rightly text lines read in (r.0, r.1, r.2, subst (AreLabelsTold text r.0) fault r.3)
+no_label_fault text lines read fault = let r = labels_rightly text lines read in (r.0, r.1, r.2, subst (AreLabelsReported text r.0) fault r.3)
 
 -- a source without such a line, or a fault
-abbrev pub IsTextTold : List ℕ → Option AsmError → Type 0
-IsTextTold text None = (s : Source) × IsTextOf text s × ((n : ℕ) → IsMislabelled s n → ⊥)
-IsTextTold text (Some e) = WordFault text e ⊎ LabelFault text e
+abbrev pub IsTextReported : List ℕ → Option AsmError → Type 0
+IsTextReported text None = (s : Source) × IsTextOf text s × ((n : ℕ) → IsMislabelled s n → ⊥)
+IsTextReported text (Some e) = WordFault text e ⊎ LabelFault text e
 
 -- what is reported of a text is right
-pub text_told : (text : List ℕ) → IsTextTold text (text_fault text)
-text_told text = by (text_read text) (text_read_rightly text) where
-  of_labels : (s : Source) → IsTextOf text s → (o : Option AsmError) → AreLabelsTold text s o → IsTextTold text o
+pub text_reported : (text : List ℕ) → IsTextReported text (text_fault text)
+text_reported text = by (text_read text) (text_read_rightly text) where
+  of_labels : (s : Source) → IsTextOf text s → (o : Option AsmError) → AreLabelsReported text s o → IsTextReported text o
   of_labels s is None none = (s, is, none)
   of_labels s is (Some e) fault = inr fault
 
-  by : (r : AreRead) → IsReadRightly text r → IsTextTold text (read_fault text r)
-  by (Ok lines) (s, e, is) = of_labels s is (labels_fault text lines) (subst (λ ls. AreLabelsTold text s (labels_fault text ls)) (sym e) (labels_told text s is))
+  by : (r : AreRead) → IsReadRightly text r → IsTextReported text (read_fault text r)
+  by (Ok lines) (s, e, is) = of_labels s is (labels_fault text lines) (subst (λ ls. AreLabelsReported text s (labels_fault text ls)) (sym e) (labels_reported text s is))
   by (Err e) fault = inl fault
 
 -- each fault of the words is reported
-pub word_fault_told : (text : List ℕ) (e : AsmError) → WordFault text e → text_fault text ≡ Some e
-word_fault_told text e fault = by (text_read text) (text_read_rightly text) where
+pub word_fault_reported : (text : List ℕ) (e : AsmError) → WordFault text e → text_fault text ≡ Some e
+word_fault_reported text e fault = by (text_read text) (text_read_rightly text) where
   by : (r : AreRead) → IsReadRightly text r → read_fault text r ≡ Some e
   by (Ok lines) (s, f, is) = absurd (no_fault_of_text text s e is fault)
   by (Err f) other = ap (λ g. Some g) (one_word_fault text f e other fault)
 
 -- and each of the labels
-pub label_fault_told : (text : List ℕ) (e : AsmError) → LabelFault text e → text_fault text ≡ Some e
-label_fault_told text e fault = ap (read_fault text) (lines_are_read text fault.source fault.is_text) ∙ fault_told text e fault
+pub label_fault_reported : (text : List ℕ) (e : AsmError) → LabelFault text e → text_fault text ≡ Some e
+label_fault_reported text e fault = ap (read_fault text) (lines_are_read text fault.source fault.is_text) ∙ fault_reported text e fault
 
 -- ---- faults of labels
 
 -- a text has one at most
 pub one_label_fault : (text : List ℕ) (e f : AsmError) → LabelFault text e → LabelFault text f → e ≡ f
-one_label_fault text e f a b = some_is e f (sym (label_fault_told text e a) ∙ label_fault_told text f b)
+one_label_fault text e f a b = some_is e f (sym (label_fault_reported text e a) ∙ label_fault_reported text f b)
 
 -- and none where its words have a fault
 pub no_label_fault_of_words : (text : List ℕ) (e f : AsmError) → WordFault text e → LabelFault text f → ⊥
@@ -329,7 +329,7 @@ no_label_fault_of_source text s e is none fault = none fault.place (subst (λ so
 
 -- a source's text has one, or no line is mislabelled
 pub label_fault_or_none : (text : List ℕ) (s : Source) → IsTextOf text s → ((e : AsmError) × LabelFault text e) ⊎ ((n : ℕ) → IsMislabelled s n → ⊥)
-label_fault_or_none text s is = by (labels_fault text (lines_of s)) (labels_told text s is) where
-  by : (o : Option AsmError) → AreLabelsTold text s o → ((e : AsmError) × LabelFault text e) ⊎ ((n : ℕ) → IsMislabelled s n → ⊥)
+label_fault_or_none text s is = by (labels_fault text (lines_of s)) (labels_reported text s is) where
+  by : (o : Option AsmError) → AreLabelsReported text s o → ((e : AsmError) × LabelFault text e) ⊎ ((n : ℕ) → IsMislabelled s n → ⊥)
   by None none = inr none
   by (Some e) fault = inl (e, fault)

@@ -17,9 +17,9 @@ use Rattle.dj_tokens.specs.WordReading.{tested}
 use Rattle.dj_source.specs.Reading.{◌&◌, word_of}
 use Rattle.dj_source.specs.LineReading.{LineStart, ClassLine, VersionLine, SuperLine, ImplementsLine, FieldLine, AbstractLine, MethodLine, StackLine, LocalsLine, CatchLine, FrameLine, EndLine, LabelLine, OperationLine, start_in, may_begin, line_start, line_after, line, line_end, flags, number, name, label, caught, value, frame, class_name, fits_16, operation}
 use Rattle.dj_source.proofs.Readers.{Lang, Started, IsReader, both, sequence_reads, IsMade, mapped_reads}
-use Rattle.dj_source.proofs.Choices.{after_first, IsChoice, IsTold, choose_reads, kind_started, place}
-use Rattle.dj_source.proofs.WordLaws.{word_told, bits_decide}
-use Rattle.dj_source.proofs.Starts.{start_item, start_word, IsStart, start_word_told}
+use Rattle.dj_source.proofs.Choices.{after_first, IsChoice, IsReported, choose_reads, kind_started, place}
+use Rattle.dj_source.proofs.WordLaws.{word_reported, bits_decide}
+use Rattle.dj_source.proofs.Starts.{start_item, start_word, IsStart, start_word_reported}
 use Rattle.dj_source.proofs.FieldReaders.{all, end_lang, end_reads, flags_lang, flags_reads, label_lang, label_reads, number_lang, number_reads, name_lang, class_name_reads, field_name_reads, method_name_reads, field_desc_reads, method_desc_reads, caught_lang, caught_reads}
 use Rattle.dj_source.proofs.ValueReaders.{value_lang, value_reads}
 use Rattle.dj_source.proofs.FrameReaders.{frames_lang, frame_reads}
@@ -185,20 +185,20 @@ has_start EndLine l s p = subst (HasStart EndLine) (sym p.1) refl
 has_start (LabelLine defined) l s p = subst (HasStart (LabelLine defined)) (sym p.1) refl
 has_start (OperationLine op) l s p = subst (HasStart (OperationLine op)) (sym p.1) (operation_whole op s p.0 p.2).1
 
-start_told : IsTold start_item IsStart (λ token. word_of token >>= start_in)
-start_told = word_told start_item IsStart start_in start_word_told
+start_reported : IsReported start_item IsStart (λ token. word_of token >>= start_in)
+start_reported = word_reported start_item IsStart start_in start_word_reported
 
 line_start_sound : (state : State) (token : Token) (start : LineStart) → line_start state token ≡ Some start → (may_begin state start ≡ true) × IsStart start × Says (start_item start) token
 line_start_sound state token start e =
     let b = bind_some (word_of token >>= start_in) (tested (may_begin state)) start e in
     let c = chose_some (may_begin state b.0) b.0 start b.2 in
-    let s = start_told.sound token b.0 b.1 in
+    let s = start_reported.sound token b.0 b.1 in
     (subst (λ k. may_begin state k ≡ true) c.1 c.0, subst IsStart c.1 s.0, subst (λ k. Says (start_item k) token) c.1 s.1)
 
 line_choice : (state : State) → IsChoice (lines_lang state) (IsLineIn state) start_item (line_start state)
 line_choice state = record {
   sound = λ token start e. (line_start_sound state token start e).2;
-  whole = λ token start l p said. ap (λ o. o >>= tested (may_begin state)) (start_told.whole token start p.1 said) ∙ ap (λ b. cond b (Some start) None) p.0;
+  whole = λ token start l p said. ap (λ o. o >>= tested (may_begin state)) (start_reported.whole token start p.1 said) ∙ ap (λ b. cond b (Some start) None) p.0;
   kind = λ l i. let k = kind_of l i.0 in (k.0, (sym (follows state k.0 l k.2) ∙ i.1, k.1, k.2));
   is = λ start l p. (is_line start l p.1 p.2, follows state start l p.2 ∙ p.0);
   items = λ start l p. has_start start l p.1 p.2;
@@ -284,7 +284,7 @@ module _ (state : State) where
   -- a line of a start that may begin
   some_of : (start : LineStart) → may_begin state start ≡ true → IsStart start → Started (lines_lang state) []
   some_of start t s =
-      let begun : line_start state (Word (start_word start)) ≡ Some start = ap (λ o. o >>= tested (may_begin state)) (start_told.whole (Word (start_word start)) start s refl) ∙ ap (λ b. cond b (Some start) None) t in
+      let begun : line_start state (Word (start_word start)) ≡ Some start = ap (λ o. o >>= tested (may_begin state)) (start_reported.whole (Word (start_word start)) start s refl) ∙ ap (λ b. cond b (Some start) None) t in
       let k = kind_started (lines_lang state) (IsLineIn state) start_item (line_start state) (line_choice state) (place (Word (start_word start))) [] start begun [] (line_each start t s).some in
       record { value = k.value; is = k.is; fits = k.fits; more = place (Word (start_word start)) ∷ k.more; said = k.said }
 

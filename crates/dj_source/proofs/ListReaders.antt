@@ -12,8 +12,8 @@ use Rattle.dj_tokens.specs.WordReading.{number_in}
 use Rattle.dj_source.specs.Reading.{Read, Large, read_map, word_of, is_signed, ◌&◌}
 use Rattle.dj_source.specs.LineReading.{label, line_end, TargetStart, DefaultWord, Target, target_start, default_after, targets_from, targets, MatchStart, DefaultMatch, MatchOf, match_in, match_start, Pairs, matches_from, target_from, pairs_after}
 use Rattle.dj_source.proofs.Readers.{Lang, Started, LargeFrom, ReadFrom, IsReader, both, sequence_reads, IsMade, IsSeenAs, seen_read, mapped_reads}
-use Rattle.dj_source.proofs.Choices.{after_first, HasFirst, IsChoice, IsTold, of_kind, kind_read, none_begun, nothing_left, place}
-use Rattle.dj_source.proofs.WordLaws.{word_told, number_word_told, signed_32}
+use Rattle.dj_source.proofs.Choices.{after_first, HasFirst, IsChoice, IsReported, of_kind, kind_read, none_begun, nothing_left, place}
+use Rattle.dj_source.proofs.WordLaws.{word_reported, number_word_reported, signed_32}
 use Rattle.dj_source.proofs.TypeWords.{mapped_some}
 use Rattle.dj_source.proofs.FieldReaders.{all, label_lang, label_reads, end_lang, end_reads}
 
@@ -152,7 +152,7 @@ match_word_sound word start e = by (bytes_eq (codes "default") word) refl e wher
   by true t e = (tt, subst (λ k. Says (match_item k) (Word word)) (some_is DefaultMatch start e) (ap Word (default_word word t)))
   by false t e =
       let m = mapped_some (λ n. MatchOf n) (number_in word) start e in
-      (tt, subst (λ k. Says (match_item k) (Word word)) m.2 (number_word_told.sound word m.0 m.1).1)
+      (tt, subst (λ k. Says (match_item k) (Word word)) m.2 (number_word_reported.sound word m.0 m.1).1)
 
 -- a number is no default
 number_first : (word : List ℕ) (n : ℤ) → number_in word ≡ Some n → match_in word ≡ Some (MatchOf n)
@@ -165,15 +165,15 @@ number_first word n e = by (bytes_eq (codes "default") word) refl where
 
 match_word_whole : (token : Token) (start : MatchStart) → ⊤ → Says (match_item start) token → (word : List ℕ) × (token ≡ Word word) × (match_in word ≡ Some start)
 match_word_whole token DefaultMatch i e = (codes "default", e, refl)
-match_word_whole token (MatchOf n) i s = let w = number_word_told.whole token n tt s in (w.0, w.1, number_first w.0 n w.2)
+match_word_whole token (MatchOf n) i s = let w = number_word_reported.whole token n tt s in (w.0, w.1, number_first w.0 n w.2)
 
-match_told : IsTold match_item all match_start
-match_told = word_told match_item all match_in (record { sound = match_word_sound; whole = match_word_whole })
+match_reported : IsReported match_item all match_start
+match_reported = word_reported match_item all match_in (record { sound = match_word_sound; whole = match_word_whole })
 
 pairs_choice : IsChoice pairs_lang ArePairs match_item match_start
 pairs_choice = record {
-  sound = λ token k e. (match_told.sound token k e).1;
-  whole = λ token k x p said. match_told.whole token k tt said;
+  sound = λ token k e. (match_reported.sound token k e).1;
+  whole = λ token k x p said. match_reported.whole token k tt said;
   kind = kind;
   is = λ k x p. tt;
   items = items;
@@ -228,7 +228,7 @@ pair_seen n first fit = record { items = λ x i. refl; is = λ x i. (x, refl, tt
 -- a match that doesn't fit
 large_match : (here : Placed) (rest : List Placed) (n : ℤ) → match_start here.token ≡ Some (MatchOf n) → is_signed 31 n ≡ false → LargeFrom pairs_lang (here ∷ rest) (here ∷ rest)
 large_match here rest n e unfit = record {
-  front = [];
+  prefix = [];
   here = here;
   others = rest;
   rest_is = refl;
@@ -238,7 +238,7 @@ large_match here rest n e unfit = record {
     value = ((n, []) ∷ [], []);
     is = tt;
     more = place (Word []) ∷ place (Word (codes "default")) ∷ place (Word []) ∷ place LineEnd ∷ [];
-    said = ((match_told.sound here.token (MatchOf n) e).1, (refl, (refl, (refl, (refl, tt)))));
+    said = ((match_reported.sound here.token (MatchOf n) e).1, (refl, (refl, (refl, (refl, tt)))));
   };
   none = λ x us more after i fits said same.
       let o = of_kind pairs_lang ArePairs match_item match_start pairs_choice here rest (MatchOf n) e x us more after i said same in

@@ -15,7 +15,7 @@ use Rattle.dj_source.specs.Reading.{◌&◌, opcode_of}
 use Rattle.dj_source.specs.LineReading.{line_end, number, slot_fits, increment_fits, slot, increment, may_be_wide, wide_start, wide_after, wide, operation_by, operation}
 use Rattle.dj_source.proofs.Readers.{Lang, Started, IsReader, IsMade, mapped_reads}
 use Rattle.dj_source.proofs.Choices.{after_first, HasFirst, IsChoice, choose_reads, place}
-use Rattle.dj_source.proofs.Starts.{opcode_told}
+use Rattle.dj_source.proofs.Starts.{opcode_reported}
 use Rattle.dj_source.proofs.Opcodes.{below, agree, member_form}
 use Rattle.dj_source.proofs.FieldReaders.{one_number}
 use Rattle.dj_source.proofs.OperationReaders.{slot_of, increment_of, member_of, open_member_of, load_of, load_long_of, slot_lang, increment_lang, field_use_lang, open_use_lang, method_use_lang, load_long_lang, IsLoadBy, IsMemberBy, may_mark, IsWide, IsOperationBy, done_items, operand_lang, Operands, plain_reads, byte_reads, short_reads, load_reads, long_literal_reads, local_reads, increments_reads, jump_reads, member_reads, dynamic_reads, class_reads, array_reads, multi_reads, table_reads, lookup_reads, slot_reads, increment_number_reads}
@@ -36,11 +36,11 @@ wide_sound : (token : Token) (op : ℕ) → wide_start token ≡ Some op → (op
 wide_sound token op e =
     let b = bind_some (opcode_of token) (tested (λ k. may_be_wide (form_of k))) op e in
     let c = chose_some (may_be_wide (form_of b.0)) b.0 op b.2 in
-    let s = opcode_told.sound token b.0 b.1 in
+    let s = opcode_reported.sound token b.0 b.1 in
     (subst (λ k. k < 203) c.1 s.0, subst (λ k. may_be_wide (form_of k) ≡ true) c.1 c.0, subst (λ k. Says (op_item k) token) c.1 s.1)
 
 wide_whole : (token : Token) (op : ℕ) → op < 203 → may_be_wide (form_of op) ≡ true → Says (op_item op) token → wide_start token ≡ Some op
-wide_whole token op l t said = ap (λ o. o >>= tested (λ k. may_be_wide (form_of k))) (opcode_told.whole token op l said) ∙ ap (λ b. cond b (Some op) None) t
+wide_whole token op l t said = ap (λ o. o >>= tested (λ k. may_be_wide (form_of k))) (opcode_reported.whole token op l said) ∙ ap (λ b. cond b (Some op) None) t
 
 slot_form : (op : ℕ) (form : Form) → op < 203 → form_of op ≡ form → may_be_wide form ≡ true → eqb op 132 ≡ false → form ≡ Slot
 slot_form op Slot l e t n = refl

@@ -15,17 +15,17 @@ use Rattle.dj_source.proofs.TypeLists.{stop_map, wrong_any, got_never}
 use Rattle.dj_source.proofs.SwitchLists.{no_word_wrong}
 
 abbrev onto : List (ℤ × Label) → Pairs → Pairs
-onto front x = (front ++ x.0, x.1)
+onto prefix x = (prefix ++ x.0, x.1)
 
-onto_more : (front : List (ℤ × Label)) (pair : ℤ × Label) (read : Read Pairs) → read_map (onto (front ++ pair ∷ [])) read ≡ read_map (onto front) (read_map (λ (x : Pairs). (pair ∷ x.0, x.1)) read)
-onto_more front pair (Got x rest) = ap (λ (ps : List (ℤ × Label)). Got (ps, x.1) rest) (append_assoc front (pair ∷ []) x.0)
-onto_more front pair (Wrong rest) = refl
-onto_more front pair (Large rest) = refl
+onto_more : (prefix : List (ℤ × Label)) (pair : ℤ × Label) (read : Read Pairs) → read_map (onto (prefix ++ pair ∷ [])) read ≡ read_map (onto prefix) (read_map (λ (x : Pairs). (pair ∷ x.0, x.1)) read)
+onto_more prefix pair (Got x rest) = ap (λ (ps : List (ℤ × Label)). Got (ps, x.1) rest) (append_assoc prefix (pair ∷ []) x.0)
+onto_more prefix pair (Wrong rest) = refl
+onto_more prefix pair (Large rest) = refl
 
-onto_default : (front : List (ℤ × Label)) (read : Read Label) → read_map (onto front) (read_map (λ (last : Label). ([], last)) read) ≡ read_map (λ (last : Label). (front, last)) read
-onto_default front (Got last rest) = ap (λ (ps : List (ℤ × Label)). Got (ps, last) rest) (append-nil front)
-onto_default front (Wrong rest) = refl
-onto_default front (Large rest) = refl
+onto_default : (prefix : List (ℤ × Label)) (read : Read Label) → read_map (onto prefix) (read_map (λ (last : Label). ([], last)) read) ≡ read_map (λ (last : Label). (prefix, last)) read
+onto_default prefix (Got last rest) = ap (λ (ps : List (ℤ × Label)). Got (ps, last) rest) (append-nil prefix)
+onto_default prefix (Wrong rest) = refl
+onto_default prefix (Large rest) = refl
 
 abbrev at_word : ℕ → ℕ → Label → Placed
 at_word line column units = record { line = line; column = column; token = Word units }
@@ -104,50 +104,50 @@ none_stops (here ∷ rest) stop none =
 
 -- ---- in the loop
 
-pub pairs_end : (front : List (ℤ × Label)) (tokens rest after : List Placed) (line column : ℕ) (units last : Label) (all : Read Pairs)
+pub pairs_end : (prefix : List (ℤ × Label)) (tokens rest after : List Placed) (line column : ℕ) (units last : Label) (all : Read Pairs)
     → tokens ≡ record { line = line; column = column; token = Word units } ∷ rest → bytes_eq (codes "default") units ≡ true → default_after rest ≡ Got last after
-    → read_map (λ (x : Pairs). (front ++ x.0, x.1)) (pairs_after None tokens) ≡ all → all ≡ Got (front, last) after
-pairs_end front tokens rest after line column units last all here e d inv =
-    sym inv ∙ ap (read_map (onto front)) (at_default tokens rest line column units here e) ∙ onto_default front (default_after rest) ∙ ap (read_map (λ (l : Label). (front, l))) d
+    → read_map (λ (x : Pairs). (prefix ++ x.0, x.1)) (pairs_after None tokens) ≡ all → all ≡ Got (prefix, last) after
+pairs_end prefix tokens rest after line column units last all here e d inv =
+    sym inv ∙ ap (read_map (onto prefix)) (at_default tokens rest line column units here e) ∙ onto_default prefix (default_after rest) ∙ ap (read_map (λ (l : Label). (prefix, l))) d
 
-pub pairs_end_stop : (front : List (ℤ × Label)) (tokens rest : List Placed) (line column : ℕ) (units : Label) (stop : Stop) (all : Read Pairs)
+pub pairs_end_stop : (prefix : List (ℤ × Label)) (tokens rest : List Placed) (line column : ℕ) (units : Label) (stop : Stop) (all : Read Pairs)
     → tokens ≡ record { line = line; column = column; token = Word units } ∷ rest → bytes_eq (codes "default") units ≡ true → Stops stop (default_after rest)
-    → read_map (λ (x : Pairs). (front ++ x.0, x.1)) (pairs_after None tokens) ≡ all → Stops stop all
-pairs_end_stop front tokens rest line column units stop all here e s inv =
-    subst (λ (r : Read Pairs). Stops stop r) (sym (ap (read_map (onto front)) (at_default tokens rest line column units here e) ∙ onto_default front (default_after rest)) ∙ inv)
-    (stop_map (λ (last : Label). (front, last)) stop (default_after rest) s)
+    → read_map (λ (x : Pairs). (prefix ++ x.0, x.1)) (pairs_after None tokens) ≡ all → Stops stop all
+pairs_end_stop prefix tokens rest line column units stop all here e s inv =
+    subst (λ (r : Read Pairs). Stops stop r) (sym (ap (read_map (onto prefix)) (at_default tokens rest line column units here e) ∙ onto_default prefix (default_after rest)) ∙ inv)
+    (stop_map (λ (last : Label). (prefix, last)) stop (default_after rest) s)
 
-pub pairs_stop : (front : List (ℤ × Label)) (tokens : List Placed) (stop : Stop) (all : Read Pairs) → IsNoWord stop tokens
-    → read_map (λ (x : Pairs). (front ++ x.0, x.1)) (pairs_after None tokens) ≡ all → Stops stop all
-pairs_stop front tokens stop all none inv =
-    subst (λ (r : Read Pairs). Stops stop r) inv (stop_map (onto front) stop (pairs_after None tokens) (none_stops tokens stop none))
+pub pairs_stop : (prefix : List (ℤ × Label)) (tokens : List Placed) (stop : Stop) (all : Read Pairs) → IsNoWord stop tokens
+    → read_map (λ (x : Pairs). (prefix ++ x.0, x.1)) (pairs_after None tokens) ≡ all → Stops stop all
+pairs_stop prefix tokens stop all none inv =
+    subst (λ (r : Read Pairs). Stops stop r) inv (stop_map (onto prefix) stop (pairs_after None tokens) (none_stops tokens stop none))
 
-pub pairs_key_stop : (front : List (ℤ × Label)) (tokens rest : List Placed) (line column : ℕ) (units : Label) (stop : Stop) (all : Read Pairs)
+pub pairs_key_stop : (prefix : List (ℤ × Label)) (tokens rest : List Placed) (line column : ℕ) (units : Label) (stop : Stop) (all : Read Pairs)
     → tokens ≡ record { line = line; column = column; token = Word units } ∷ rest → bytes_eq (codes "default") units ≡ false → Stops stop (number (is_signed 31) tokens)
-    → read_map (λ (x : Pairs). (front ++ x.0, x.1)) (pairs_after None tokens) ≡ all → Stops stop all
-pairs_key_stop front tokens rest line column units stop all here e s inv =
+    → read_map (λ (x : Pairs). (prefix ++ x.0, x.1)) (pairs_after None tokens) ≡ all → Stops stop all
+pairs_key_stop prefix tokens rest line column units stop all here e s inv =
     let t : Stops stop (said_by (is_signed 31) (number_in units) (at_word line column units) rest) = subst (λ (ts : List Placed). Stops stop (number (is_signed 31) ts)) here s in
     let u : Stops stop (pairs_after None tokens) = subst (λ (r : Read Pairs). Stops stop r) (sym (at_number tokens rest line column units here e)) (number_stops (number_in units) (at_word line column units) rest stop t) in
-    subst (λ (r : Read Pairs). Stops stop r) inv (stop_map (onto front) stop (pairs_after None tokens) u)
+    subst (λ (r : Read Pairs). Stops stop r) inv (stop_map (onto prefix) stop (pairs_after None tokens) u)
 
 key_got : (tokens rest after : List Placed) (line column : ℕ) (units : Label) (key : ℤ) → tokens ≡ at_word line column units ∷ rest → bytes_eq (codes "default") units ≡ false
     → number (is_signed 31) tokens ≡ Got key after → pairs_after None tokens ≡ pairs_after (Some key) after
 key_got tokens rest after line column units key here e n =
     at_number tokens rest line column units here e ∙ number_got (number_in units) (at_word line column units) rest after key (sym (ap (number (is_signed 31)) here) ∙ n)
 
-pub pairs_target_stop : (front : List (ℤ × Label)) (tokens rest after : List Placed) (line column : ℕ) (units : Label) (key : ℤ) (stop : Stop) (all : Read Pairs)
+pub pairs_target_stop : (prefix : List (ℤ × Label)) (tokens rest after : List Placed) (line column : ℕ) (units : Label) (key : ℤ) (stop : Stop) (all : Read Pairs)
     → tokens ≡ record { line = line; column = column; token = Word units } ∷ rest → bytes_eq (codes "default") units ≡ false → number (is_signed 31) tokens ≡ Got key after → Stops stop (label after)
-    → read_map (λ (x : Pairs). (front ++ x.0, x.1)) (pairs_after None tokens) ≡ all → Stops stop all
-pairs_target_stop front tokens rest after line column units key stop all here e n s inv =
+    → read_map (λ (x : Pairs). (prefix ++ x.0, x.1)) (pairs_after None tokens) ≡ all → Stops stop all
+pairs_target_stop prefix tokens rest after line column units key stop all here e n s inv =
     let u : Stops stop (pairs_after None tokens) = subst (λ (r : Read Pairs). Stops stop r) (sym (key_got tokens rest after line column units key here e n)) (target_stops key after stop s) in
-    subst (λ (r : Read Pairs). Stops stop r) inv (stop_map (onto front) stop (pairs_after None tokens) u)
+    subst (λ (r : Read Pairs). Stops stop r) inv (stop_map (onto prefix) stop (pairs_after None tokens) u)
 
-pub pairs_more : (front : List (ℤ × Label)) (tokens rest after last : List Placed) (line column : ℕ) (units target : Label) (key : ℤ) (all : Read Pairs)
+pub pairs_more : (prefix : List (ℤ × Label)) (tokens rest after last : List Placed) (line column : ℕ) (units target : Label) (key : ℤ) (all : Read Pairs)
     → tokens ≡ record { line = line; column = column; token = Word units } ∷ rest → bytes_eq (codes "default") units ≡ false → number (is_signed 31) tokens ≡ Got key after → label after ≡ Got target last
-    → read_map (λ (x : Pairs). (front ++ x.0, x.1)) (pairs_after None tokens) ≡ all → read_map (λ (x : Pairs). ((front ++ (key, target) ∷ []) ++ x.0, x.1)) (pairs_after None last) ≡ all
-pairs_more front tokens rest after last line column units target key all here e n t inv =
-    onto_more front (key, target) (pairs_after None last)
-    ∙ ap (read_map (onto front)) (sym (target_got key after last target t) ∙ sym (key_got tokens rest after line column units key here e n)) ∙ inv
+    → read_map (λ (x : Pairs). (prefix ++ x.0, x.1)) (pairs_after None tokens) ≡ all → read_map (λ (x : Pairs). ((prefix ++ (key, target) ∷ []) ++ x.0, x.1)) (pairs_after None last) ≡ all
+pairs_more prefix tokens rest after last line column units target key all here e n t inv =
+    onto_more prefix (key, target) (pairs_after None last)
+    ∙ ap (read_map (onto prefix)) (sym (target_got key after last target t) ∙ sym (key_got tokens rest after line column units key here e n)) ∙ inv
 
 -- ---- fewer are left
 

@@ -13,11 +13,11 @@ pub record Lang (A : Type 0) : Type 1 where
   pub is : A → Type 0
   pub fits : A → Type 0
 
-abbrev pub Tells : Item → Placed → Type 0
-Tells item placed = Says item placed.token
+abbrev pub SaysPlaced : Item → Placed → Type 0
+SaysPlaced item placed = Says item placed.token
 
 abbrev pub Said : List Item → List Placed → Type 0
-Said items tokens = AllZip Tells items tokens
+Said items tokens = AllZip SaysPlaced items tokens
 
 -- something that fits begins with these tokens
 pub record Started {A : Type 0} (L : Lang A) (tokens : List Placed) : Type 0 where
@@ -37,13 +37,13 @@ pub record Allowed {A : Type 0} (L : Lang A) (tokens : List Placed) : Type 0 whe
 -- ---- what is read of tokens
 
 pub record GotFrom {A : Type 0} (L : Lang A) (tokens : List Placed) (a : A) (rest : List Placed) : Type 0 where
-  pub front : List Placed
-  pub parts : tokens ≡ front ++ rest
+  pub prefix : List Placed
+  pub parts : tokens ≡ prefix ++ rest
   pub is : L.is a
   pub fits : L.fits a
-  pub said : Said (L.items a) front
+  pub said : Said (L.items a) prefix
   -- whatever follows, nothing else is said
-  pub unique : (b : A) (us more after : List Placed) → L.is b → Said (L.items b) us → us ++ more ≡ front ++ after → (b ≡ a) × (more ≡ after)
+  pub unique : (b : A) (us more after : List Placed) → L.is b → Said (L.items b) us → us ++ more ≡ prefix ++ after → (b ≡ a) × (more ≡ after)
 
 -- with the first of the tokens, if there is one, and any others after it
 abbrev pub and_on : List Placed → List Placed → List Placed
@@ -51,20 +51,20 @@ and_on [] after = []
 and_on (here ∷ rest) after = here ∷ after
 
 pub record WrongFrom {A : Type 0} (L : Lang A) (tokens : List Placed) (rest : List Placed) : Type 0 where
-  pub front : List Placed
-  pub parts : tokens ≡ front ++ rest
-  pub good : Started L front
-  pub none : (b : A) (us more after : List Placed) → L.is b → Said (L.items b) us → us ++ more ≡ front ++ and_on rest after → ⊥
+  pub prefix : List Placed
+  pub parts : tokens ≡ prefix ++ rest
+  pub good : Started L prefix
+  pub none : (b : A) (us more after : List Placed) → L.is b → Said (L.items b) us → us ++ more ≡ prefix ++ and_on rest after → ⊥
 
 pub record LargeFrom {A : Type 0} (L : Lang A) (tokens : List Placed) (rest : List Placed) : Type 0 where
-  pub front : List Placed
+  pub prefix : List Placed
   pub here : Placed
   pub others : List Placed
   pub rest_is : rest ≡ here ∷ others
-  pub parts : tokens ≡ front ++ rest
-  pub good : Started L front
-  pub some : Allowed L (front ++ here ∷ [])
-  pub none : (b : A) (us more after : List Placed) → L.is b → L.fits b → Said (L.items b) us → us ++ more ≡ front ++ here ∷ after → ⊥
+  pub parts : tokens ≡ prefix ++ rest
+  pub good : Started L prefix
+  pub some : Allowed L (prefix ++ here ∷ [])
+  pub none : (b : A) (us more after : List Placed) → L.is b → L.fits b → Said (L.items b) us → us ++ more ≡ prefix ++ here ∷ after → ⊥
 
 abbrev pub ReadFrom : {A : Type 0} → Lang A → List Placed → Read A → Type 0
 ReadFrom L tokens (Got a rest) = GotFrom L tokens a rest
@@ -91,35 +91,35 @@ pub record Split (xs ys : List Item) (tokens : List Placed) : Type 0 where
 pub split : (xs ys : List Item) (tokens : List Placed) → Said (xs ++ ys) tokens → Split xs ys tokens
 split [] ys tokens said = record { first = []; second = tokens; parts = refl; said = tt; also = said }
 split (x ∷ xs) ys [] said = absurd said
-split (x ∷ xs) ys (t ∷ ts) (told, said) =
+split (x ∷ xs) ys (t ∷ ts) (reported, said) =
     let s = split xs ys ts said in
-    record { first = t ∷ s.first; second = s.second; parts = ap (λ l. t ∷ l) s.parts; said = (told, s.said); also = s.also }
+    record { first = t ∷ s.first; second = s.second; parts = ap (λ l. t ∷ l) s.parts; said = (reported, s.said); also = s.also }
 
 pub said_append : (xs ys : List Item) (us vs : List Placed) → Said xs us → Said ys vs → Said (xs ++ ys) (us ++ vs)
 said_append [] ys [] vs said more = more
 said_append [] ys (t ∷ us) vs said more = absurd said
 said_append (x ∷ xs) ys [] vs said more = absurd said
-said_append (x ∷ xs) ys (t ∷ us) vs (told, said) more = (told, said_append xs ys us vs said more)
+said_append (x ∷ xs) ys (t ∷ us) vs (reported, said) more = (reported, said_append xs ys us vs said more)
 
 module _ {A B : Type 0} (L : Lang A) (M : Lang B) where
   -- what is begun can be finished, and something of the second said after it
-  then_started : (front : List Placed) → Started L front → Started M [] → Started (both L M) front
-  then_started front s m = record {
+  then_started : (prefix : List Placed) → Started L prefix → Started M [] → Started (both L M) prefix
+  then_started prefix s m = record {
     value = (s.value, m.value);
     is = (s.is, m.is);
     fits = (s.fits, m.fits);
     more = s.more ++ m.more;
-    said = subst (λ tokens. Said (L.items s.value ++ M.items m.value) tokens) (append_assoc front s.more m.more)
-        (said_append (L.items s.value) (M.items m.value) (front ++ s.more) m.more s.said m.said);
+    said = subst (λ tokens. Said (L.items s.value ++ M.items m.value) tokens) (append_assoc prefix s.more m.more)
+        (said_append (L.items s.value) (M.items m.value) (prefix ++ s.more) m.more s.said m.said);
   }
 
-  then_allowed : (front : List Placed) → Allowed L front → Started M [] → Allowed (both L M) front
-  then_allowed front s m = record {
+  then_allowed : (prefix : List Placed) → Allowed L prefix → Started M [] → Allowed (both L M) prefix
+  then_allowed prefix s m = record {
     value = (s.value, m.value);
     is = (s.is, m.is);
     more = s.more ++ m.more;
-    said = subst (λ tokens. Said (L.items s.value ++ M.items m.value) tokens) (append_assoc front s.more m.more)
-        (said_append (L.items s.value) (M.items m.value) (front ++ s.more) m.more s.said m.said);
+    said = subst (λ tokens. Said (L.items s.value ++ M.items m.value) tokens) (append_assoc prefix s.more m.more)
+        (said_append (L.items s.value) (M.items m.value) (prefix ++ s.more) m.more s.said m.said);
   }
 
 regroup : (xs ys : List Item) (us more whole : List Placed) (s : Split xs ys us) → us ++ more ≡ whole → s.first ++ (s.second ++ more) ≡ whole
@@ -129,66 +129,66 @@ module _ {A B : Type 0} (L : Lang A) (M : Lang B) (m : Started M []) where
   -- after what was got of the first
   module _ (tokens rest : List Placed) (a : A) (g : GotFrom L tokens a rest) where
     -- what was begun after it
-    after_started : (front : List Placed) → Started M front → Started (both L M) (g.front ++ front)
-    after_started front s = record {
+    after_started : (prefix : List Placed) → Started M prefix → Started (both L M) (g.prefix ++ prefix)
+    after_started prefix s = record {
       value = (a, s.value);
       is = (g.is, s.is);
       fits = (g.fits, s.fits);
       more = s.more;
-      said = subst (λ ts. Said (L.items a ++ M.items s.value) ts) (sym (append_assoc g.front front s.more))
-          (said_append (L.items a) (M.items s.value) g.front (front ++ s.more) g.said s.said);
+      said = subst (λ ts. Said (L.items a ++ M.items s.value) ts) (sym (append_assoc g.prefix prefix s.more))
+          (said_append (L.items a) (M.items s.value) g.prefix (prefix ++ s.more) g.said s.said);
     }
 
-    after_allowed : (front : List Placed) → Allowed M front → Allowed (both L M) (g.front ++ front)
-    after_allowed front s = record {
+    after_allowed : (prefix : List Placed) → Allowed M prefix → Allowed (both L M) (g.prefix ++ prefix)
+    after_allowed prefix s = record {
       value = (a, s.value);
       is = (g.is, s.is);
       more = s.more;
-      said = subst (λ ts. Said (L.items a ++ M.items s.value) ts) (sym (append_assoc g.front front s.more))
-          (said_append (L.items a) (M.items s.value) g.front (front ++ s.more) g.said s.said);
+      said = subst (λ ts. Said (L.items a ++ M.items s.value) ts) (sym (append_assoc g.prefix prefix s.more))
+          (said_append (L.items a) (M.items s.value) g.prefix (prefix ++ s.more) g.said s.said);
     }
 
     -- the second of what is said here
-    second_of : (x : A × B) (us more after : List Placed) → L.is x.0 → (s : Split (L.items x.0) (M.items x.1) us) → us ++ more ≡ g.front ++ after → (x.0 ≡ a) × (s.second ++ more ≡ after)
-    second_of x us more after is s e = g.unique x.0 s.first (s.second ++ more) after is s.said (regroup (L.items x.0) (M.items x.1) us more (g.front ++ after) s e)
+    second_of : (x : A × B) (us more after : List Placed) → L.is x.0 → (s : Split (L.items x.0) (M.items x.1) us) → us ++ more ≡ g.prefix ++ after → (x.0 ≡ a) × (s.second ++ more ≡ after)
+    second_of x us more after is s e = g.unique x.0 s.first (s.second ++ more) after is s.said (regroup (L.items x.0) (M.items x.1) us more (g.prefix ++ after) s e)
 
     then_got : (b : B) (others : List Placed) → GotFrom M rest b others → GotFrom (both L M) tokens (a, b) others
     then_got b others h = record {
-      front = g.front ++ h.front;
-      parts = g.parts ∙ (ap (λ ts. g.front ++ ts) h.parts ∙ sym (append_assoc g.front h.front others));
+      prefix = g.prefix ++ h.prefix;
+      parts = g.parts ∙ (ap (λ ts. g.prefix ++ ts) h.parts ∙ sym (append_assoc g.prefix h.prefix others));
       is = (g.is, h.is);
       fits = (g.fits, h.fits);
-      said = said_append (L.items a) (M.items b) g.front h.front g.said h.said;
+      said = said_append (L.items a) (M.items b) g.prefix h.prefix g.said h.said;
       unique = λ x us more after is said e.
           let s = split (L.items x.0) (M.items x.1) us said in
-          let one = second_of x us more (h.front ++ after) is.0 s (e ∙ append_assoc g.front h.front after) in
+          let one = second_of x us more (h.prefix ++ after) is.0 s (e ∙ append_assoc g.prefix h.prefix after) in
           let two = h.unique x.1 s.second more after is.1 s.also one.1 in
           (ap (λ v. (v, x.1)) one.0 ∙ ap (λ v. (a, v)) two.0, two.1);
     }
 
     then_wrong : (others : List Placed) → WrongFrom M rest others → WrongFrom (both L M) tokens others
     then_wrong others w = record {
-      front = g.front ++ w.front;
-      parts = g.parts ∙ (ap (λ ts. g.front ++ ts) w.parts ∙ sym (append_assoc g.front w.front others));
-      good = after_started w.front w.good;
+      prefix = g.prefix ++ w.prefix;
+      parts = g.parts ∙ (ap (λ ts. g.prefix ++ ts) w.parts ∙ sym (append_assoc g.prefix w.prefix others));
+      good = after_started w.prefix w.good;
       none = λ x us more after is said e.
           let s = split (L.items x.0) (M.items x.1) us said in
-          let one = second_of x us more (w.front ++ and_on others after) is.0 s (e ∙ append_assoc g.front w.front (and_on others after)) in
+          let one = second_of x us more (w.prefix ++ and_on others after) is.0 s (e ∙ append_assoc g.prefix w.prefix (and_on others after)) in
           w.none x.1 s.second more after is.1 s.also one.1;
     }
 
     then_large : (others : List Placed) → LargeFrom M rest others → LargeFrom (both L M) tokens others
     then_large others w = record {
-      front = g.front ++ w.front;
+      prefix = g.prefix ++ w.prefix;
       here = w.here;
       others = w.others;
       rest_is = w.rest_is;
-      parts = g.parts ∙ (ap (λ ts. g.front ++ ts) w.parts ∙ sym (append_assoc g.front w.front others));
-      good = after_started w.front w.good;
-      some = subst (Allowed (both L M)) (sym (append_assoc g.front w.front (w.here ∷ []))) (after_allowed (w.front ++ w.here ∷ []) w.some);
+      parts = g.parts ∙ (ap (λ ts. g.prefix ++ ts) w.parts ∙ sym (append_assoc g.prefix w.prefix others));
+      good = after_started w.prefix w.good;
+      some = subst (Allowed (both L M)) (sym (append_assoc g.prefix w.prefix (w.here ∷ []))) (after_allowed (w.prefix ++ w.here ∷ []) w.some);
       none = λ x us more after is fits said e.
           let s = split (L.items x.0) (M.items x.1) us said in
-          let one = second_of x us more (w.front ++ w.here ∷ after) is.0 s (e ∙ append_assoc g.front w.front (w.here ∷ after)) in
+          let one = second_of x us more (w.prefix ++ w.here ∷ after) is.0 s (e ∙ append_assoc g.prefix w.prefix (w.here ∷ after)) in
           w.none x.1 s.second more after is.1 fits.1 s.also one.1;
     }
 
@@ -199,26 +199,26 @@ module _ {A B : Type 0} (L : Lang A) (M : Lang B) (m : Started M []) where
 
   first_wrong : (tokens rest : List Placed) → WrongFrom L tokens rest → WrongFrom (both L M) tokens rest
   first_wrong tokens rest w = record {
-    front = w.front;
+    prefix = w.prefix;
     parts = w.parts;
-    good = then_started L M w.front w.good m;
+    good = then_started L M w.prefix w.good m;
     none = λ x us more after is said e.
         let s = split (L.items x.0) (M.items x.1) us said in
-        w.none x.0 s.first (s.second ++ more) after is.0 s.said (regroup (L.items x.0) (M.items x.1) us more (w.front ++ and_on rest after) s e);
+        w.none x.0 s.first (s.second ++ more) after is.0 s.said (regroup (L.items x.0) (M.items x.1) us more (w.prefix ++ and_on rest after) s e);
   }
 
   first_large : (tokens rest : List Placed) → LargeFrom L tokens rest → LargeFrom (both L M) tokens rest
   first_large tokens rest w = record {
-    front = w.front;
+    prefix = w.prefix;
     here = w.here;
     others = w.others;
     rest_is = w.rest_is;
     parts = w.parts;
-    good = then_started L M w.front w.good m;
-    some = then_allowed L M (w.front ++ w.here ∷ []) w.some m;
+    good = then_started L M w.prefix w.good m;
+    some = then_allowed L M (w.prefix ++ w.here ∷ []) w.some m;
     none = λ x us more after is fits said e.
         let s = split (L.items x.0) (M.items x.1) us said in
-        w.none x.0 s.first (s.second ++ more) after is.0 fits.0 s.said (regroup (L.items x.0) (M.items x.1) us more (w.front ++ w.here ∷ after) s e);
+        w.none x.0 s.first (s.second ++ more) after is.0 fits.0 s.said (regroup (L.items x.0) (M.items x.1) us more (w.prefix ++ w.here ∷ after) s e);
   }
 
 pub in_sequence : {A B : Type 0} (L : Lang A) (M : Lang B) (next : Reader B) → IsReader M next → (tokens : List Placed) (x : Read A) → ReadFrom L tokens x
@@ -259,30 +259,30 @@ module _ {A C : Type 0} (L : Lang A) (N : Lang C) (f : A → C) (seen : IsSeenAs
 
   pub seen_read : (tokens : List Placed) (x : Read A) → ReadFrom L tokens x → ReadFrom N tokens (read_map f x)
   seen_read tokens (Got a rest) g = record {
-    front = g.front;
+    prefix = g.prefix;
     parts = g.parts;
     is = seen.is a g.is;
     fits = seen.fits a g.fits;
-    said = seen_said a g.front g.is g.said;
+    said = seen_said a g.prefix g.is g.said;
     unique = λ c us more after is said e.
         let m = seen.onto c is in
         let one = g.unique m.0 us more after m.2 (made_said c us m said) e in
         (m.1 ∙ ap f one.0, one.1);
   }
   seen_read tokens (Wrong rest) w = record {
-    front = w.front;
+    prefix = w.prefix;
     parts = w.parts;
-    good = seen_started w.front w.good;
+    good = seen_started w.prefix w.good;
     none = λ c us more after is said e. let m = seen.onto c is in w.none m.0 us more after m.2 (made_said c us m said) e;
   }
   seen_read tokens (Large rest) w = record {
-    front = w.front;
+    prefix = w.prefix;
     here = w.here;
     others = w.others;
     rest_is = w.rest_is;
     parts = w.parts;
-    good = seen_started w.front w.good;
-    some = seen_allowed (w.front ++ w.here ∷ []) w.some;
+    good = seen_started w.prefix w.good;
+    some = seen_allowed (w.prefix ++ w.here ∷ []) w.some;
     none = λ c us more after is fits said e.
         let m = seen.onto c is in
         w.none m.0 us more after m.2 (seen.unfit m.0 (subst N.fits m.1 fits)) (made_said c us m said) e;
@@ -303,7 +303,7 @@ got_reads {A} L a none i f only = record { some = record { value = a; is = i; fi
 
   each : (tokens : List Placed) → GotFrom L tokens a tokens
   each tokens = record {
-    front = [];
+    prefix = [];
     parts = refl;
     is = i;
     fits = f;

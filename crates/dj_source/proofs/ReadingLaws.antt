@@ -77,12 +77,12 @@ stops text read old new (asm_errors.Large line) so gives = so.words ∙ ap (with
 -- ---- all lines of a text
 
 -- what their labels say
-told_by : (text : List ℕ) (read : TextLines) (o : Option AsmError) → AreAllRead text read → label_error read.numbers (first_mislabelled read.lines) ≡ o → labels_fault text read.lines ≡ o
-told_by text read o all e = ap (λ numbers. label_error numbers (first_mislabelled read.lines)) all.numbers ∙ e
+reported_by : (text : List ℕ) (read : TextLines) (o : Option AsmError) → AreAllRead text read → label_error read.numbers (first_mislabelled read.lines) ≡ o → labels_fault text read.lines ≡ o
+reported_by text read o all e = ap (λ numbers. label_error numbers (first_mislabelled read.lines)) all.numbers ∙ e
 
 pub lines_of_source : (text : List ℕ) (read : TextLines) → AreAllRead text read → label_error read.numbers (first_mislabelled read.lines) ≡ None → AreLinesOf text read
 lines_of_source text read all e =
-    let s = no_label_fault text read.lines all.words (told_by text read None all e) in
+    let s = no_label_fault text read.lines all.words (reported_by text read None all e) in
     record { source = s.0; is_text = s.2; labelled = s.3; lines_are = s.1; numbers_are = sym all.numbers }
 
 pub few_lines : (text : List ℕ) (read : TextLines) → AreAllRead text read → length text ≤ 4294967294 → length read.lines < 2 ^ 32
@@ -110,4 +110,4 @@ read_fault text (asm_errors.Label line) read = of_words text (asm_errors.Label l
 read_fault text (asm_errors.Large line) read = of_words text (asm_errors.Large line) (word_fault_of text (asm_errors.Large line) read)
 
 pub label_fault : (text : List ℕ) (read : TextLines) (e : AsmError) → AreAllRead text read → label_error read.numbers (first_mislabelled read.lines) ≡ Some e → IsFirstFault text e
-label_fault text read e all told = of_labels text e (label_fault_is text read.lines e all.words (told_by text read (Some e) all told))
+label_fault text read e all reported = of_labels text e (label_fault_is text read.lines e all.words (reported_by text read (Some e) all reported))

@@ -45,10 +45,10 @@ abbrev short : List Line
 short = Beside (Labelled (1 ∷ [])) ∷ Does (Plain 0) ∷ Beside (Labelled (3 ∷ [])) ∷ []
 
 label_a : IsLabelAt short (1 ∷ []) 0
-label_a = record { front = []; rest = Does (Plain 0) ∷ Beside (Labelled (3 ∷ [])) ∷ []; parts = refl; first = tt; number_is = refl }
+label_a = record { prefix = []; rest = Does (Plain 0) ∷ Beside (Labelled (3 ∷ [])) ∷ []; parts = refl; first = tt; number_is = refl }
 
 label_c : IsLabelAt short (3 ∷ []) 1
-label_c = record { front = Beside (Labelled (1 ∷ [])) ∷ Does (Plain 0) ∷ []; rest = []; parts = refl; first = (λ e. absurd cc, (λ e. absurd cc, tt)); number_is = refl }
+label_c = record { prefix = Beside (Labelled (1 ∷ [])) ∷ Does (Plain 0) ∷ []; rest = []; parts = refl; first = (λ e. absurd cc, (λ e. absurd cc, tt)); number_is = refl }
 
 -- from the one to the other is a range, and the first is an instruction
 range_a_c : IsMet short (Range (1 ∷ []) (3 ∷ []))
@@ -58,7 +58,7 @@ target_a : IsMet short (AtInstruction (1 ∷ []))
 target_a = record { number = 0; defined = label_a; instruction = omega arith }
 
 -- no line defines a third label
-no_label_b : (front rest : List Line) → short ≡ front ++ Beside (Labelled (2 ∷ [])) ∷ rest → ⊥
+no_label_b : (prefix rest : List Line) → short ≡ prefix ++ Beside (Labelled (2 ∷ [])) ∷ rest → ⊥
 no_label_b [] rest e = absurd cc
 no_label_b (x ∷ []) rest e = absurd cc
 no_label_b (x ∷ y ∷ []) rest e = absurd cc
@@ -66,10 +66,10 @@ no_label_b (x ∷ y ∷ z ∷ []) rest e = absurd cc
 no_label_b (x ∷ y ∷ z ∷ w ∷ more) rest e = absurd cc
 
 unknown_b : IsMet short (AtInstruction (2 ∷ [])) → ⊥
-unknown_b met = no_label_b met.defined.front met.defined.rest met.defined.parts
+unknown_b met = no_label_b met.defined.prefix met.defined.rest met.defined.parts
 
 -- the second label is the number 1, where no instruction stands
-number_of_c : (front rest : List Line) → short ≡ front ++ Beside (Labelled (3 ∷ [])) ∷ rest → instruction_count front ≡ 1
+number_of_c : (prefix rest : List Line) → short ≡ prefix ++ Beside (Labelled (3 ∷ [])) ∷ rest → instruction_count prefix ≡ 1
 number_of_c [] rest e = absurd cc
 number_of_c (x ∷ []) rest e = absurd cc
 number_of_c (x ∷ y ∷ []) rest e =
@@ -82,6 +82,6 @@ number_of_c (x ∷ y ∷ z ∷ w ∷ more) rest e = absurd cc
 end_c : IsMet short (AtInstruction (3 ∷ [])) → ⊥
 end_c met =
     let is = met.defined.number_is in
-    let one = number_of_c met.defined.front met.defined.rest met.defined.parts in
+    let one = number_of_c met.defined.prefix met.defined.rest met.defined.parts in
     let below = met.instruction in
     omega (arith, is, one, below)

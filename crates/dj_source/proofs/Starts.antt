@@ -11,9 +11,9 @@ use Rattle.dj_tokens.specs.trusted.Mnemonics.{mnemonics, mnemonic}
 use Rattle.dj_tokens.specs.WordReading.{tested, row_of, place_from, before_colon, is_some_label, label_in}
 use Rattle.dj_source.specs.Reading.{opcode_of}
 use Rattle.dj_source.specs.LineReading.{LineStart, ClassLine, VersionLine, SuperLine, ImplementsLine, FieldLine, AbstractLine, MethodLine, StackLine, LocalsLine, CatchLine, FrameLine, EndLine, LabelLine, OperationLine, directives, or_else, start_in}
-use Rattle.dj_source.proofs.WordLaws.{IsWordTold, word_told, row_sound, row_value, apart}
-use Rattle.dj_source.proofs.TypeWords.{mapped_some, some_label_decides, places_told, there}
-use Rattle.dj_source.proofs.Choices.{IsTold}
+use Rattle.dj_source.proofs.WordLaws.{IsWordReported, word_reported, row_sound, row_value, apart}
+use Rattle.dj_source.proofs.TypeWords.{mapped_some, some_label_decides, places_reported, there}
+use Rattle.dj_source.proofs.Choices.{IsReported}
 
 -- ---- labels
 
@@ -51,19 +51,19 @@ mnemonic_count : length mnemonics ≡ 203
 unfolding mnemonics
 mnemonic_count = refl
 
-pub opcode_word_told : IsWordTold (λ op. Exactly (mnemonic op)) (λ op. op < 203) (place_from 0 mnemonics)
-opcode_word_told = record {
+pub opcode_word_reported : IsWordReported (λ op. Exactly (mnemonic op)) (λ op. op < 203) (place_from 0 mnemonics)
+opcode_word_reported = record {
   sound = λ word op e. let s = p.sound word op e in (omega (arith, s.0.1, mnemonic_count), subst (λ i. Word word ≡ Word (unwrap_or (slice_get mnemonics i) [])) (less_none op) s.1);
   whole = λ token op l e. p.whole token op (omega arith, omega (arith, l, mnemonic_count)) (subst (λ i. token ≡ Word (unwrap_or (slice_get mnemonics i) [])) (sym (less_none op)) e);
 } where
   less_none : (op : ℕ) → op - 0 ≡ op
   less_none op = omega arith
 
-  p : IsWordTold (λ i. Exactly (unwrap_or (slice_get mnemonics (i - 0)) [])) (λ i. (0 ≤ i) × (i < 0 + length mnemonics)) (place_from 0 mnemonics)
-  p = places_told 0 mnemonics mnemonics_differ
+  p : IsWordReported (λ i. Exactly (unwrap_or (slice_get mnemonics (i - 0)) [])) (λ i. (0 ≤ i) × (i < 0 + length mnemonics)) (place_from 0 mnemonics)
+  p = places_reported 0 mnemonics mnemonics_differ
 
-pub opcode_told : IsTold (λ op. Exactly (mnemonic op)) (λ op. op < 203) opcode_of
-opcode_told = word_told (λ op. Exactly (mnemonic op)) (λ op. op < 203) (place_from 0 mnemonics) opcode_word_told
+pub opcode_reported : IsReported (λ op. Exactly (mnemonic op)) (λ op. op < 203) opcode_of
+opcode_reported = word_reported (λ op. Exactly (mnemonic op)) (λ op. op < 203) (place_from 0 mnemonics) opcode_word_reported
 
 -- ---- lines
 
@@ -111,7 +111,7 @@ start_sound word start e = by (row_of directives word) refl e where
   operation : option_map OperationLine (place_from 0 mnemonics word) ≡ Some start → IsStart start × (Word word ≡ Word (start_word start))
   operation e =
       let m = mapped_some OperationLine (place_from 0 mnemonics word) start e in
-      subst (λ k. IsStart k × (Word word ≡ Word (start_word k))) m.2 (opcode_word_told.sound word m.0 m.1)
+      subst (λ k. IsStart k × (Word word ≡ Word (start_word k))) m.2 (opcode_word_reported.sound word m.0 m.1)
 
   label : (o : Option (List ℕ)) → label_in word ≡ o → or_else (option_map LabelLine o) (option_map OperationLine (place_from 0 mnemonics word)) ≡ Some start → IsStart start × (Word word ≡ Word (start_word start))
   label (Some l) t e =
@@ -185,9 +185,9 @@ start_whole (OperationLine op) i =
     ∙ (ap (λ o. or_else (option_map LabelLine (o >>= tested is_some_label)) (option_map OperationLine (place_from 0 mnemonics word))) a.1
     ∙ ap (option_map OperationLine) (place_of op i)) where
       place_of : (op : ℕ) → op < 203 → place_from 0 mnemonics (mnemonic op) ≡ Some op
-      place_of op l = from (opcode_word_told.whole (Word (mnemonic op)) op l refl) where
+      place_of op l = from (opcode_word_reported.whole (Word (mnemonic op)) op l refl) where
         from : (word : List ℕ) × (Word (mnemonic op) ≡ Word word) × (place_from 0 mnemonics word ≡ Some op) → place_from 0 mnemonics (mnemonic op) ≡ Some op
         from (word, same, e) = let equal : word ≡ mnemonic op = cc in subst (λ w. place_from 0 mnemonics w ≡ Some op) equal e
 
-pub start_word_told : IsWordTold start_item IsStart start_in
-start_word_told = record { sound = start_sound; whole = λ token start i e. (start_word start, e, start_whole start i) }
+pub start_word_reported : IsWordReported start_item IsStart start_in
+start_word_reported = record { sound = start_sound; whole = λ token start i e. (start_word start, e, start_whole start i) }

@@ -24,13 +24,13 @@ tokens_said : (items : List Item) (tokens : List Placed) → Said items tokens �
 tokens_said [] [] said = tt
 tokens_said [] (t ∷ ts) said = absurd said
 tokens_said (x ∷ items) [] said = absurd said
-tokens_said (x ∷ items) (t ∷ ts) (told, said) = (told, tokens_said items ts said)
+tokens_said (x ∷ items) (t ∷ ts) (reported, said) = (reported, tokens_said items ts said)
 
 said_tokens : (items : List Item) (tokens : List Placed) → AllZip Says items (map token_of tokens) → Said items tokens
 said_tokens [] [] said = tt
 said_tokens [] (t ∷ ts) said = absurd said
 said_tokens (x ∷ items) [] said = absurd said
-said_tokens (x ∷ items) (t ∷ ts) (told, said) = (told, said_tokens items ts said)
+said_tokens (x ∷ items) (t ∷ ts) (reported, said) = (reported, said_tokens items ts said)
 
 map_more : (xs ys : List Placed) → map token_of (xs ++ ys) ≡ map token_of xs ++ map token_of ys
 map_more [] ys = refl
@@ -51,34 +51,34 @@ said_more items tokens more said =
 follows : (s : Source) → IsSource s → (rest_lang AtClass).is (lines_of s)
 follows s is = (is, lines_follow s)
 
-begins_sized : (front : List Placed) → Started (rest_lang AtClass) front → Begins IsSizedSource (map token_of front)
-begins_sized front s = begun (source_of s.value s.is.1) where
-  begun : (source : Source) × (s.value ≡ lines_of source) → Begins IsSizedSource (map token_of front)
+begins_sized : (prefix : List Placed) → Started (rest_lang AtClass) prefix → Begins IsSizedSource (map token_of prefix)
+begins_sized prefix s = begun (source_of s.value s.is.1) where
+  begun : (source : Source) × (s.value ≡ lines_of source) → Begins IsSizedSource (map token_of prefix)
   begun (source, e) = record {
     source = source;
     such = (subst (AllByRecursion IsLine) e s.is.0, subst (AllByRecursion IsSized) e s.fits);
     rest = map token_of s.more;
-    read = subst (λ ls. AllZip Says (flat_map line_items ls) (map token_of front ++ map token_of s.more)) e
-        (subst (λ ts. AllZip Says (flat_map line_items s.value) ts) (map_more front s.more) (tokens_said (flat_map line_items s.value) (front ++ s.more) s.said));
+    read = subst (λ ls. AllZip Says (flat_map line_items ls) (map token_of prefix ++ map token_of s.more)) e
+        (subst (λ ts. AllZip Says (flat_map line_items s.value) ts) (map_more prefix s.more) (tokens_said (flat_map line_items s.value) (prefix ++ s.more) s.said));
   }
 
-begins_any : (front : List Placed) → Allowed (rest_lang AtClass) front → Begins IsSource (map token_of front)
-begins_any front s = begun (source_of s.value s.is.1) where
-  begun : (source : Source) × (s.value ≡ lines_of source) → Begins IsSource (map token_of front)
+begins_any : (prefix : List Placed) → Allowed (rest_lang AtClass) prefix → Begins IsSource (map token_of prefix)
+begins_any prefix s = begun (source_of s.value s.is.1) where
+  begun : (source : Source) × (s.value ≡ lines_of source) → Begins IsSource (map token_of prefix)
   begun (source, e) = record {
     source = source;
     such = subst (AllByRecursion IsLine) e s.is.0;
     rest = map token_of s.more;
-    read = subst (λ ls. AllZip Says (flat_map line_items ls) (map token_of front ++ map token_of s.more)) e
-        (subst (λ ts. AllZip Says (flat_map line_items s.value) ts) (map_more front s.more) (tokens_said (flat_map line_items s.value) (front ++ s.more) s.said));
+    read = subst (λ ls. AllZip Says (flat_map line_items ls) (map token_of prefix ++ map token_of s.more)) e
+        (subst (λ ts. AllZip Says (flat_map line_items s.value) ts) (map_more prefix s.more) (tokens_said (flat_map line_items s.value) (prefix ++ s.more) s.said));
   }
 
 -- the lines of a source that begins with these tokens
-said_on : (source : Source) (front : List Placed) (here : Placed) (rest : List Token) → Reads source (map token_of (front ++ here ∷ []) ++ rest)
-    → Said (flat_map line_items (lines_of source)) (front ++ here ∷ map place rest)
-said_on source front here rest read =
-    subst (λ ts. Said (flat_map line_items (lines_of source)) ts) (append_assoc front (here ∷ []) (map place rest))
-    (said_more (flat_map line_items (lines_of source)) (front ++ here ∷ []) rest read)
+said_on : (source : Source) (prefix : List Placed) (here : Placed) (rest : List Token) → Reads source (map token_of (prefix ++ here ∷ []) ++ rest)
+    → Said (flat_map line_items (lines_of source)) (prefix ++ here ∷ map place rest)
+said_on source prefix here rest read =
+    subst (λ ts. Said (flat_map line_items (lines_of source)) ts) (append_assoc prefix (here ∷ []) (map place rest))
+    (said_more (flat_map line_items (lines_of source)) (prefix ++ here ∷ []) rest read)
 
 -- ---- a text
 
@@ -88,33 +88,33 @@ IsReadRightly text (Ok lines) = (s : Source) × (lines ≡ lines_of s) × IsText
 IsReadRightly text (Err e) = WordFault text e
 
 module _ (text : List ℕ) where
-  at : (front : List Placed) (here : Placed) → Stops AtClass (tokens_of text) front here → IsAt text front here
-  at front here s = record { rest = s.others; parts = s.parts; good = begins_sized front s.good }
+  at : (prefix : List Placed) (here : Placed) → Stops AtClass (tokens_of text) prefix here → IsAt text prefix here
+  at prefix here s = record { rest = s.others; parts = s.parts; good = begins_sized prefix s.good }
 
   misplaced : (e : AsmError) → IsWrong AtClass (tokens_of text) e → IsMisplaced text e
   misplaced e w = record {
-    front = w.front;
+    prefix = w.prefix;
     here = w.here;
-    at = at w.front w.here w.stops;
-    none = λ b. w.none (lines_of b.source) (map place b.rest) (follows b.source b.such) (said_on b.source w.front w.here b.rest b.read);
-    told = w.told;
+    at = at w.prefix w.here w.stops;
+    none = λ b. w.none (lines_of b.source) (map place b.rest) (follows b.source b.such) (said_on b.source w.prefix w.here b.rest b.read);
+    reported = w.reported;
   }
 
   too_large : (e : AsmError) → IsLarge AtClass (tokens_of text) e → IsLargeNumber text e
   too_large e w = record {
-    front = w.front;
+    prefix = w.prefix;
     here = w.here;
-    at = at w.front w.here w.stops;
-    some = begins_any (w.front ++ w.here ∷ []) w.some;
-    none = λ b. w.none (lines_of b.source) (map place b.rest) (follows b.source b.such.0) b.such.1 (said_on b.source w.front w.here b.rest b.read);
-    told = w.told;
+    at = at w.prefix w.here w.stops;
+    some = begins_any (w.prefix ++ w.here ∷ []) w.some;
+    none = λ b. w.none (lines_of b.source) (map place b.rest) (follows b.source b.such.0) b.such.1 (said_on b.source w.prefix w.here b.rest b.read);
+    reported = w.reported;
   }
 
   unfinished : (e : AsmError) → IsShort (end_line text) AtClass (tokens_of text) e → IsUnfinished text e
   unfinished e w = record {
     good = begins_sized (tokens_of text) w.good;
     none = λ s is. w.none (lines_of s) (follows s is.allowed.0) (said_tokens (flat_map line_items (lines_of s)) (tokens_of text) is.read);
-    told = w.told;
+    reported = w.reported;
   }
 
   of_text : (found : List Line) → AreLines AtClass (tokens_of text) found → (s : Source) × (found ≡ lines_of s) × IsTextOf text s

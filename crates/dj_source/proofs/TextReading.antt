@@ -31,7 +31,7 @@ pub placed_said : (items : List Item) (tokens : List Token) → AllZip Says item
 placed_said [] [] said = tt
 placed_said [] (t ∷ ts) said = absurd said
 placed_said (x ∷ items) [] said = absurd said
-placed_said (x ∷ items) (t ∷ ts) (told, said) = (told, placed_said items ts said)
+placed_said (x ∷ items) (t ∷ ts) (reported, said) = (reported, placed_said items ts said)
 
 closing_started : (state : State) → Started (rest_lang state) []
 closing_started state = record {
@@ -44,30 +44,30 @@ closing_started state = record {
 
 -- ---- faults
 
-pub record Stops (state : State) (tokens : List Placed) (front : List Placed) (here : Placed) : Type 0 where
+pub record Stops (state : State) (tokens : List Placed) (prefix : List Placed) (here : Placed) : Type 0 where
   pub others : List Placed
-  pub parts : tokens ≡ front ++ here ∷ others
-  pub good : Started (rest_lang state) front
+  pub parts : tokens ≡ prefix ++ here ∷ others
+  pub good : Started (rest_lang state) prefix
 
 pub record IsWrong (state : State) (tokens : List Placed) (e : AsmError) : Type 0 where
-  pub front : List Placed
+  pub prefix : List Placed
   pub here : Placed
-  pub stops : Stops state tokens front here
-  pub none : (lines : List Line) (more : List Placed) → (rest_lang state).is lines → Said (flat_map line_items lines) (front ++ here ∷ more) → ⊥
-  pub told : e ≡ asm_errors.Syntax here.line here.column
+  pub stops : Stops state tokens prefix here
+  pub none : (lines : List Line) (more : List Placed) → (rest_lang state).is lines → Said (flat_map line_items lines) (prefix ++ here ∷ more) → ⊥
+  pub reported : e ≡ asm_errors.Syntax here.line here.column
 
 pub record IsLarge (state : State) (tokens : List Placed) (e : AsmError) : Type 0 where
-  pub front : List Placed
+  pub prefix : List Placed
   pub here : Placed
-  pub stops : Stops state tokens front here
-  pub some : Allowed (rest_lang state) (front ++ here ∷ [])
-  pub none : (lines : List Line) (more : List Placed) → (rest_lang state).is lines → AllByRecursion IsSized lines → Said (flat_map line_items lines) (front ++ here ∷ more) → ⊥
-  pub told : e ≡ asm_errors.Large here.line
+  pub stops : Stops state tokens prefix here
+  pub some : Allowed (rest_lang state) (prefix ++ here ∷ [])
+  pub none : (lines : List Line) (more : List Placed) → (rest_lang state).is lines → AllByRecursion IsSized lines → Said (flat_map line_items lines) (prefix ++ here ∷ more) → ⊥
+  pub reported : e ≡ asm_errors.Large here.line
 
 pub record IsShort (end : ℕ) (state : State) (tokens : List Placed) (e : AsmError) : Type 0 where
   pub good : Started (rest_lang state) tokens
   pub none : (lines : List Line) → (rest_lang state).is lines → Said (flat_map line_items lines) tokens → ⊥
-  pub told : e ≡ missing end
+  pub reported : e ≡ missing end
 
 pub record AreLines (state : State) (tokens : List Placed) (lines : List Line) : Type 0 where
   pub is : (rest_lang state).is lines
@@ -138,10 +138,10 @@ record First (state : State) (lines : List Line) (tokens : List Placed) : Type 0
   pub lines_are : lines ≡ first ∷ others
   pub allowed : (lines_lang state).is first
   pub are : AllByRecursion IsLine others
-  pub front : List Placed
+  pub prefix : List Placed
   pub rest : List Placed
-  pub parts : tokens ≡ front ++ rest
-  pub said : Said (line_items first) front
+  pub parts : tokens ≡ prefix ++ rest
+  pub said : Said (line_items first) prefix
   pub also : Said (flat_map line_items others) rest
 
 first_of : (state : State) (lines : List Line) (tokens : List Placed) → (Said [] tokens → ⊥) → (rest_lang state).is lines → Said (flat_map line_items lines) tokens → First state lines tokens
@@ -154,36 +154,36 @@ first_of state (l ∷ ls) tokens some is said =
       lines_are = refl;
       allowed = (is.0.0, goes_on state l ls is.1);
       are = is.0.1;
-      front = s.first;
+      prefix = s.first;
       rest = s.second;
       parts = s.parts;
       said = s.said;
       also = s.also;
     }
 
-not_nil : (front : List Placed) (here : Placed) (more : List Placed) → Said [] (front ++ here ∷ more) → ⊥
+not_nil : (prefix : List Placed) (here : Placed) (more : List Placed) → Said [] (prefix ++ here ∷ more) → ⊥
 not_nil [] here more said = said
-not_nil (f ∷ front) here more said = said
+not_nil (f ∷ prefix) here more said = said
 
-not_nil_front : (front : List Placed) (here : Placed) (more : List Placed) → Said [] ((front ++ here ∷ []) ++ more) → ⊥
-not_nil_front [] here more said = said
-not_nil_front (f ∷ front) here more said = said
+not_nil_prefix : (prefix : List Placed) (here : Placed) (more : List Placed) → Said [] ((prefix ++ here ∷ []) ++ more) → ⊥
+not_nil_prefix [] here more said = said
+not_nil_prefix (f ∷ prefix) here more said = said
 
 module _ (end : ℕ) (state : State) (row tokens : List Placed) (is_row : IsRow row) where
   row_some : (more : List Placed) → Said [] (row ++ more) → ⊥
-  row_some more said = not_nil_front is_row.body is_row.last more (subst (λ ts. Said [] (ts ++ more)) is_row.parts said)
+  row_some more said = not_nil_prefix is_row.body is_row.last more (subst (λ ts. Said [] (ts ++ more)) is_row.parts said)
 
   -- ---- a line that was read
 
   module _ (l : Line) (rest : List Placed) (g : GotFrom (lines_lang state) row l rest) (next : State) (is_next : after state l ≡ Some next) where
     nothing_after : rest ≡ []
     nothing_after =
-        let s = last_said (items_of l) g.front g.said in
+        let s = last_said (items_of l) g.prefix g.said in
         let whole : row ≡ s.0 ++ s.1 ∷ rest = g.parts ∙ (ap (λ ts. ts ++ rest) s.2 ∙ append_assoc s.0 (s.1 ∷ []) rest) in
         at_end is_row.body is_row.last s.0 s.1 rest is_row.plain s.3 (sym whole ∙ is_row.parts)
 
-    row_is : row ≡ g.front
-    row_is = g.parts ∙ (ap (λ ts. g.front ++ ts) nothing_after ∙ append-nil g.front)
+    row_is : row ≡ g.prefix
+    row_is = g.parts ∙ (ap (λ ts. g.prefix ++ ts) nothing_after ∙ append-nil g.prefix)
 
     row_said : Said (line_items l) row
     row_said = subst (λ ts. Said (line_items l) ts) (sym row_is) g.said
@@ -198,7 +198,7 @@ module _ (end : ℕ) (state : State) (row tokens : List Placed) (is_row : IsRow 
     peel : (lines : List Line) (more : List Placed) → (rest_lang state).is lines → Said (flat_map line_items lines) (row ++ more) → Peeled lines more
     peel lines more is said =
         let f = first_of state lines (row ++ more) (row_some more) is said in
-        let u = g.unique f.first f.front f.rest more f.allowed f.said (sym f.parts ∙ ap (λ ts. ts ++ more) row_is) in
+        let u = g.unique f.first f.prefix f.rest more f.allowed f.said (sym f.parts ∙ ap (λ ts. ts ++ more) row_is) in
         record {
           others = f.others;
           lines_are = f.lines_are ∙ ap (λ k. k ∷ f.others) u.0;
@@ -228,11 +228,11 @@ module _ (end : ℕ) (state : State) (row tokens : List Placed) (is_row : IsRow 
           (said_append (line_items l) (flat_map line_items s.value) row (more ++ s.more) row_said s.said);
     }
 
-    row_stops : (front : List Placed) (here : Placed) → Stops next tokens front here → Stops state (row ++ tokens) (row ++ front) here
-    row_stops front here s = record {
+    row_stops : (prefix : List Placed) (here : Placed) → Stops next tokens prefix here → Stops state (row ++ tokens) (row ++ prefix) here
+    row_stops prefix here s = record {
       others = s.others;
-      parts = ap (λ ts. row ++ ts) s.parts ∙ sym (append_assoc row front (here ∷ s.others));
-      good = row_started front s.good;
+      parts = ap (λ ts. row ++ ts) s.parts ∙ sym (append_assoc row prefix (here ∷ s.others));
+      good = row_started prefix s.good;
     }
 
     got_lines : (lines : List Line) → AreLines next tokens lines → AreLines state (row ++ tokens) (l ∷ lines)
@@ -245,32 +245,32 @@ module _ (end : ℕ) (state : State) (row tokens : List Placed) (is_row : IsRow 
 
     got_wrong : (e : AsmError) → IsWrong next tokens e → IsWrong state (row ++ tokens) e
     got_wrong e w = record {
-      front = row ++ w.front;
+      prefix = row ++ w.prefix;
       here = w.here;
-      stops = row_stops w.front w.here w.stops;
+      stops = row_stops w.prefix w.here w.stops;
       none = λ lines more is said.
-          let p = peel lines (w.front ++ w.here ∷ more) is (subst (λ ts. Said (flat_map line_items lines) ts) (append_assoc row w.front (w.here ∷ more)) said) in
+          let p = peel lines (w.prefix ++ w.here ∷ more) is (subst (λ ts. Said (flat_map line_items lines) ts) (append_assoc row w.prefix (w.here ∷ more)) said) in
           w.none p.others more p.is p.said;
-      told = w.told;
+      reported = w.reported;
     }
 
     got_large : (e : AsmError) → IsLarge next tokens e → IsLarge state (row ++ tokens) e
     got_large e w = record {
-      front = row ++ w.front;
+      prefix = row ++ w.prefix;
       here = w.here;
-      stops = row_stops w.front w.here w.stops;
-      some = subst (λ ts. Allowed (rest_lang state) ts) (sym (append_assoc row w.front (w.here ∷ []))) (row_allowed (w.front ++ w.here ∷ []) w.some);
+      stops = row_stops w.prefix w.here w.stops;
+      some = subst (λ ts. Allowed (rest_lang state) ts) (sym (append_assoc row w.prefix (w.here ∷ []))) (row_allowed (w.prefix ++ w.here ∷ []) w.some);
       none = λ lines more is sized said.
-          let p = peel lines (w.front ++ w.here ∷ more) is (subst (λ ts. Said (flat_map line_items lines) ts) (append_assoc row w.front (w.here ∷ more)) said) in
+          let p = peel lines (w.prefix ++ w.here ∷ more) is (subst (λ ts. Said (flat_map line_items lines) ts) (append_assoc row w.prefix (w.here ∷ more)) said) in
           w.none p.others more p.is (subst (λ ls. AllByRecursion IsSized ls) p.lines_are sized).1 p.said;
-      told = w.told;
+      reported = w.reported;
     }
 
     got_short : (e : AsmError) → IsShort end next tokens e → IsShort end state (row ++ tokens) e
     got_short e w = record {
       good = row_started tokens w.good;
       none = λ lines is said. let p = peel lines tokens is said in w.none p.others p.is p.said;
-      told = w.told;
+      reported = w.reported;
     }
 
     got_step : (r : AreRead) → IsRead end next tokens r → IsRead end state (row ++ tokens) (with_line l r)
@@ -284,38 +284,38 @@ module _ (end : ℕ) (state : State) (row tokens : List Placed) (is_row : IsRow 
   -- a line's tokens are never all read without it
   no_wrong_end : WrongFrom (lines_lang state) row [] → ⊥
   no_wrong_end w =
-      let front_is : w.front ≡ is_row.body ++ is_row.last ∷ [] = sym (append-nil w.front) ∙ (sym w.parts ∙ is_row.parts) in
-      let whole : w.front ++ w.good.more ≡ is_row.body ++ is_row.last ∷ w.good.more = ap (λ ts. ts ++ w.good.more) front_is ∙ append_assoc is_row.body (is_row.last ∷ []) w.good.more in
+      let prefix_is : w.prefix ≡ is_row.body ++ is_row.last ∷ [] = sym (append-nil w.prefix) ∙ (sym w.parts ∙ is_row.parts) in
+      let whole : w.prefix ++ w.good.more ≡ is_row.body ++ is_row.last ∷ w.good.more = ap (λ ts. ts ++ w.good.more) prefix_is ∙ append_assoc is_row.body (is_row.last ∷ []) w.good.more in
       let over = line_is_over w.good.value is_row.body is_row.last w.good.more (subst (λ ts. Said (line_items w.good.value) ts) whole w.good.said) is_row.ended in
-      let said : Said (line_items w.good.value) w.front = subst (λ ts. Said (line_items w.good.value) ts) (ap (λ ts. w.front ++ ts) over ∙ append-nil w.front) w.good.said in
-      w.none w.good.value w.front [] [] w.good.is said refl
+      let said : Said (line_items w.good.value) w.prefix = subst (λ ts. Said (line_items w.good.value) ts) (ap (λ ts. w.prefix ++ ts) over ∙ append-nil w.prefix) w.good.said in
+      w.none w.good.value w.prefix [] [] w.good.is said refl
 
   wrong_step : (rest : List Placed) → WrongFrom (lines_lang state) row rest → IsWrong state (row ++ tokens) (wrong_at end rest)
   wrong_step [] w = absurd (no_wrong_end w)
   wrong_step (here ∷ others) w = record {
-    front = w.front;
+    prefix = w.prefix;
     here = here;
-    stops = record { others = others ++ tokens; parts = ap (λ ts. ts ++ tokens) w.parts ∙ append_assoc w.front (here ∷ others) tokens; good = line_started state w.front w.good };
+    stops = record { others = others ++ tokens; parts = ap (λ ts. ts ++ tokens) w.parts ∙ append_assoc w.prefix (here ∷ others) tokens; good = line_started state w.prefix w.good };
     none = λ lines more is said.
-        let f = first_of state lines (w.front ++ here ∷ more) (not_nil w.front here more) is said in
-        w.none f.first f.front f.rest more f.allowed f.said (sym f.parts);
-    told = refl;
+        let f = first_of state lines (w.prefix ++ here ∷ more) (not_nil w.prefix here more) is said in
+        w.none f.first f.prefix f.rest more f.allowed f.said (sym f.parts);
+    reported = refl;
   }
 
   large_step : (rest : List Placed) → LargeFrom (lines_lang state) row rest → IsLarge state (row ++ tokens) (large_at end rest)
   large_step rest w = record {
-    front = w.front;
+    prefix = w.prefix;
     here = w.here;
     stops = record {
       others = w.others ++ tokens;
-      parts = ap (λ ts. ts ++ tokens) w.parts ∙ (ap (λ ts. (w.front ++ ts) ++ tokens) w.rest_is ∙ append_assoc w.front (w.here ∷ w.others) tokens);
-      good = line_started state w.front w.good;
+      parts = ap (λ ts. ts ++ tokens) w.parts ∙ (ap (λ ts. (w.prefix ++ ts) ++ tokens) w.rest_is ∙ append_assoc w.prefix (w.here ∷ w.others) tokens);
+      good = line_started state w.prefix w.good;
     };
-    some = line_allowed state (w.front ++ w.here ∷ []) w.some;
+    some = line_allowed state (w.prefix ++ w.here ∷ []) w.some;
     none = λ lines more is sized said.
-        let f = first_of state lines (w.front ++ w.here ∷ more) (not_nil w.front w.here more) is said in
-        w.none f.first f.front f.rest more f.allowed (subst (λ ls. AllByRecursion IsSized ls) f.lines_are sized).0 f.said (sym f.parts);
-    told = ap (large_at end) w.rest_is;
+        let f = first_of state lines (w.prefix ++ w.here ∷ more) (not_nil w.prefix w.here more) is said in
+        w.none f.first f.prefix f.rest more f.allowed (subst (λ ls. AllByRecursion IsSized ls) f.lines_are sized).0 f.said (sym f.parts);
+    reported = ap (large_at end) w.rest_is;
   }
 
   pub row_step : (k : Option State → AreRead) → ((next : State) → IsRead end next tokens (k (Some next))) → (x : Read Line) → ReadFrom (lines_lang state) row x
@@ -342,7 +342,7 @@ no_rows end state true e = record { is = (tt, e); fits = tt; said = tt; unique =
 no_rows end state false e = inr (inr (record {
   good = closing_started state;
   none = λ lines is said. true≢false (sym (subst (λ ls. is_final (run (Some state) ls) ≡ true) (no_lines state lines said) is.1) ∙ e);
-  told = refl;
+  reported = refl;
 }))
 
 pub rows_read : (end : ℕ) (state : State) (rows : List (List Placed)) → AllByRecursion IsRowOrNone rows → IsRead end state (joined rows) (lines_read end (Some state) rows)

@@ -12,10 +12,10 @@ use Rattle.dj_source.specs.LineReading.{line_end, frame_type, types_from, types_
 use Rattle.dj_source.specs.StartViews.{AfterEnd}
 use Rattle.dj_source.specs.Stops.{Stops}
 
-pub front_more : {A : Type 0} (front : List A) (a : A) (read : Read (List A)) → read_map (λ more. (front ++ a ∷ []) ++ more) read ≡ read_map (λ more. front ++ more) (read_map (λ more. a ∷ more) read)
-front_more front a (Got more rest) = ap (λ (xs : List _). Got xs rest) (append_assoc front (a ∷ []) more)
-front_more front a (Wrong rest) = refl
-front_more front a (Large rest) = refl
+pub prefix_more : {A : Type 0} (prefix : List A) (a : A) (read : Read (List A)) → read_map (λ more. (prefix ++ a ∷ []) ++ more) read ≡ read_map (λ more. prefix ++ more) (read_map (λ more. a ∷ more) read)
+prefix_more prefix a (Got more rest) = ap (λ (xs : List _). Got xs rest) (append_assoc prefix (a ∷ []) more)
+prefix_more prefix a (Wrong rest) = refl
+prefix_more prefix a (Large rest) = refl
 
 pub stop_map : {A B : Type 0} (f : A → B) (stop : Stop) (read : Read A) → Stops stop read → Stops stop (read_map f read)
 stop_map f stops.Memory read s = tt
@@ -99,40 +99,40 @@ until_no_type ends (here ∷ more) stop after s =
     subst (λ (t : Bool). Stops stop (types_from t (type_of here.token) here more (types_until ends more))) (sym (not_ended ends here more after))
     (no_type_then (type_of here.token) here more (types_until ends more) stop s)
 
-pub until_end : (ends : Token → Bool) (front : List FrameType) (tokens rest : List Placed) (all : Read (List FrameType)) → AfterEnd ends tokens (Some rest)
-    → read_map (λ more. front ++ more) (types_until ends tokens) ≡ all → all ≡ Got front rest
-until_end ends front tokens rest all after inv =
-    sym inv ∙ ap (read_map (λ more. front ++ more)) (until_none ends tokens rest after) ∙ ap (λ (ts : List FrameType). Got ts rest) (append-nil front)
+pub until_end : (ends : Token → Bool) (prefix : List FrameType) (tokens rest : List Placed) (all : Read (List FrameType)) → AfterEnd ends tokens (Some rest)
+    → read_map (λ more. prefix ++ more) (types_until ends tokens) ≡ all → all ≡ Got prefix rest
+until_end ends prefix tokens rest all after inv =
+    sym inv ∙ ap (read_map (λ more. prefix ++ more)) (until_none ends tokens rest after) ∙ ap (λ (ts : List FrameType). Got ts rest) (append-nil prefix)
 
-pub until_more : (ends : Token → Bool) (front : List FrameType) (ty : FrameType) (tokens rest : List Placed) (all : Read (List FrameType)) → AfterEnd ends tokens None → frame_type tokens ≡ Got ty rest
-    → read_map (λ more. front ++ more) (types_until ends tokens) ≡ all → read_map (λ more. (front ++ ty ∷ []) ++ more) (types_until ends rest) ≡ all
-until_more ends front ty tokens rest all after e inv =
-    front_more front ty (types_until ends rest) ∙ ap (read_map (λ more. front ++ more)) (sym (until_one ends tokens rest ty after e)) ∙ inv
+pub until_more : (ends : Token → Bool) (prefix : List FrameType) (ty : FrameType) (tokens rest : List Placed) (all : Read (List FrameType)) → AfterEnd ends tokens None → frame_type tokens ≡ Got ty rest
+    → read_map (λ more. prefix ++ more) (types_until ends tokens) ≡ all → read_map (λ more. (prefix ++ ty ∷ []) ++ more) (types_until ends rest) ≡ all
+until_more ends prefix ty tokens rest all after e inv =
+    prefix_more prefix ty (types_until ends rest) ∙ ap (read_map (λ more. prefix ++ more)) (sym (until_one ends tokens rest ty after e)) ∙ inv
 
-pub until_stop : (ends : Token → Bool) (front : List FrameType) (tokens : List Placed) (stop : Stop) (all : Read (List FrameType)) → AfterEnd ends tokens None → Stops stop (frame_type tokens)
-    → read_map (λ more. front ++ more) (types_until ends tokens) ≡ all → Stops stop all
-until_stop ends front tokens stop all after s inv =
-    subst (λ (r : Read (List FrameType)). Stops stop r) inv (stop_map (λ more. front ++ more) stop (types_until ends tokens) (until_no_type ends tokens stop after s))
+pub until_stop : (ends : Token → Bool) (prefix : List FrameType) (tokens : List Placed) (stop : Stop) (all : Read (List FrameType)) → AfterEnd ends tokens None → Stops stop (frame_type tokens)
+    → read_map (λ more. prefix ++ more) (types_until ends tokens) ≡ all → Stops stop all
+until_stop ends prefix tokens stop all after s inv =
+    subst (λ (r : Read (List FrameType)). Stops stop r) inv (stop_map (λ more. prefix ++ more) stop (types_until ends tokens) (until_no_type ends tokens stop after s))
 
 -- ---- to the line's end
 
-pub up_to_none : (front : List FrameType) (tokens rest : List Placed) → line_end tokens ≡ Got tt rest → read_map (λ more. front ++ more) (types_up_to 0 tokens) ≡ Got front rest
+pub up_to_none : (prefix : List FrameType) (tokens rest : List Placed) → line_end tokens ≡ Got tt rest → read_map (λ more. prefix ++ more) (types_up_to 0 tokens) ≡ Got prefix rest
 unfolding types_up_to
-up_to_none front tokens rest e =
-    ap (λ (r : Read ⊤). read_map (λ more. front ++ more) (read_map (λ (x : ⊤). []) r)) e ∙ ap (λ (ts : List FrameType). Got ts rest) (append-nil front)
+up_to_none prefix tokens rest e =
+    ap (λ (r : Read ⊤). read_map (λ more. prefix ++ more) (read_map (λ (x : ⊤). []) r)) e ∙ ap (λ (ts : List FrameType). Got ts rest) (append-nil prefix)
 
-pub up_to_none_stop : (front : List FrameType) (tokens : List Placed) (stop : Stop) → Stops stop (line_end tokens) → Stops stop (read_map (λ more. front ++ more) (types_up_to 0 tokens))
+pub up_to_none_stop : (prefix : List FrameType) (tokens : List Placed) (stop : Stop) → Stops stop (line_end tokens) → Stops stop (read_map (λ more. prefix ++ more) (types_up_to 0 tokens))
 unfolding types_up_to
-up_to_none_stop front tokens stop s =
-    stop_map (λ (more : List FrameType). front ++ more) stop (read_map (λ (x : ⊤). []) (line_end tokens)) (stop_map (λ (x : ⊤). []) stop (line_end tokens) s)
+up_to_none_stop prefix tokens stop s =
+    stop_map (λ (more : List FrameType). prefix ++ more) stop (read_map (λ (x : ⊤). []) (line_end tokens)) (stop_map (λ (x : ⊤). []) stop (line_end tokens) s)
 
-pub up_to_end : (n : ℕ) (front : List FrameType) (tokens rest : List Placed) → AfterEnd is_end tokens (Some rest) → read_map (λ more. front ++ more) (types_up_to (suc n) tokens) ≡ Got front rest
+pub up_to_end : (n : ℕ) (prefix : List FrameType) (tokens rest : List Placed) → AfterEnd is_end tokens (Some rest) → read_map (λ more. prefix ++ more) (types_up_to (suc n) tokens) ≡ Got prefix rest
 unfolding types_up_to
-up_to_end n front [] rest after = absurd (cc)
-up_to_end n front (here ∷ more) rest after =
+up_to_end n prefix [] rest after = absurd (cc)
+up_to_end n prefix (here ∷ more) rest after =
     let p = is_ended is_end here more rest after in
-    ap (λ (t : Bool). read_map (λ types. front ++ types) (types_from t (type_of here.token) here more (types_up_to n more))) p.0
-    ∙ ap (λ (ts : List FrameType). Got ts more) (append-nil front) ∙ ap (λ (ts : List Placed). Got front ts) p.1
+    ap (λ (t : Bool). read_map (λ types. prefix ++ types) (types_from t (type_of here.token) here more (types_up_to n more))) p.0
+    ∙ ap (λ (ts : List FrameType). Got ts more) (append-nil prefix) ∙ ap (λ (ts : List Placed). Got prefix ts) p.1
 
 up_to_one : (n : ℕ) (tokens rest : List Placed) (ty : FrameType) → AfterEnd is_end tokens None → frame_type tokens ≡ Got ty rest
     → types_up_to (suc n) tokens ≡ read_map (λ more. ty ∷ more) (types_up_to n rest)
@@ -144,10 +144,10 @@ up_to_one n (here ∷ more) rest ty after e =
     ∙ ap (λ (o : Option FrameType). types_from false o here more (types_up_to n more)) p.0
     ∙ ap (λ (ts : List Placed). read_map (λ more. ty ∷ more) (types_up_to n ts)) p.1
 
-pub up_to_more : (n : ℕ) (front : List FrameType) (ty : FrameType) (tokens rest : List Placed) → AfterEnd is_end tokens None → frame_type tokens ≡ Got ty rest
-    → read_map (λ more. (front ++ ty ∷ []) ++ more) (types_up_to n rest) ≡ read_map (λ more. front ++ more) (types_up_to (suc n) tokens)
-up_to_more n front ty tokens rest after e =
-    front_more front ty (types_up_to n rest) ∙ ap (read_map (λ more. front ++ more)) (sym (up_to_one n tokens rest ty after e))
+pub up_to_more : (n : ℕ) (prefix : List FrameType) (ty : FrameType) (tokens rest : List Placed) → AfterEnd is_end tokens None → frame_type tokens ≡ Got ty rest
+    → read_map (λ more. (prefix ++ ty ∷ []) ++ more) (types_up_to n rest) ≡ read_map (λ more. prefix ++ more) (types_up_to (suc n) tokens)
+up_to_more n prefix ty tokens rest after e =
+    prefix_more prefix ty (types_up_to n rest) ∙ ap (read_map (λ more. prefix ++ more)) (sym (up_to_one n tokens rest ty after e))
 
 up_to_no_type : (n : ℕ) (tokens : List Placed) (stop : Stop) → AfterEnd is_end tokens None → Stops stop (frame_type tokens) → Stops stop (types_up_to (suc n) tokens)
 unfolding types_up_to
@@ -156,9 +156,9 @@ up_to_no_type n (here ∷ more) stop after s =
     subst (λ (t : Bool). Stops stop (types_from t (type_of here.token) here more (types_up_to n more))) (sym (not_ended is_end here more after))
     (no_type_then (type_of here.token) here more (types_up_to n more) stop s)
 
-pub up_to_stop : (n : ℕ) (front : List FrameType) (tokens : List Placed) (stop : Stop) → AfterEnd is_end tokens None → Stops stop (frame_type tokens)
-    → Stops stop (read_map (λ more. front ++ more) (types_up_to (suc n) tokens))
-up_to_stop n front tokens stop after s = stop_map (λ (more : List FrameType). front ++ more) stop (types_up_to (suc n) tokens) (up_to_no_type n tokens stop after s)
+pub up_to_stop : (n : ℕ) (prefix : List FrameType) (tokens : List Placed) (stop : Stop) → AfterEnd is_end tokens None → Stops stop (frame_type tokens)
+    → Stops stop (read_map (λ more. prefix ++ more) (types_up_to (suc n) tokens))
+up_to_stop n prefix tokens stop after s = stop_map (λ (more : List FrameType). prefix ++ more) stop (types_up_to (suc n) tokens) (up_to_no_type n tokens stop after s)
 
 -- ---- in turn
 

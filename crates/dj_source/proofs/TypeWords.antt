@@ -15,8 +15,8 @@ use Rattle.dj_tokens.specs.trusted.Mnemonics.{base_words, base_word}
 use Rattle.dj_source.specs.trusted.Lines.{FrameType, Simple, Object, New, IsFrameType, IsSimpleType, type_item, catch_item}
 use Rattle.dj_tokens.specs.WordReading.{tested, place_from, is_some_label, class_text_test}
 use Rattle.dj_source.specs.Reading.{is_simple_type, long_type, type_in, type_of, caught_in, caught_of, base_of}
-use Rattle.dj_source.proofs.Choices.{IsTold}
-use Rattle.dj_source.proofs.WordLaws.{IsWordTold, word_told, place_sound, place_whole, apart, class_text_decides}
+use Rattle.dj_source.proofs.Choices.{IsReported}
+use Rattle.dj_source.proofs.WordLaws.{IsWordReported, word_reported, place_sound, place_whole, apart, class_text_decides}
 
 -- ---- options
 
@@ -32,8 +32,8 @@ there (w ∷ ws) zero l = refl
 there (w ∷ ws) (suc k) l = there ws k (omega (arith, l))
 
 module _ (n : ℕ) (words : List (List ℕ)) (differ : apart words ≡ true) where
-  pub places_told : IsWordTold (λ i. Exactly (unwrap_or (slice_get words (i - n)) [])) (λ i. (n ≤ i) × (i < n + length words)) (place_from n words)
-  places_told = record { sound = sound; whole = whole } where
+  pub places_reported : IsWordReported (λ i. Exactly (unwrap_or (slice_get words (i - n)) [])) (λ i. (n ≤ i) × (i < n + length words)) (place_from n words)
+  places_reported = record { sound = sound; whole = whole } where
     sound : (word : List ℕ) (i : ℕ) → place_from n words word ≡ Some i → ((n ≤ i) × (i < n + length words)) × (Word word ≡ Word (unwrap_or (slice_get words (i - n)) []))
     sound word i e =
         let p = place_sound n words word i e in
@@ -49,16 +49,16 @@ module _ (n : ℕ) (words : List (List ℕ)) (differ : apart words ≡ true) whe
         let word = unwrap_or (slice_get words (i - n)) [] in
         (word, e, place_whole n words (i - n) word differ (there words (i - n) within) ∙ ap (λ k. Some k) at)
 
-base_word_told : IsWordTold (λ base. Exactly (base_word base)) IsArrayType (place_from 4 base_words)
-base_word_told = record {
+base_word_reported : IsWordReported (λ base. Exactly (base_word base)) IsArrayType (place_from 4 base_words)
+base_word_reported = record {
   sound = λ word i e. let s = p.sound word i e in ((s.0.0, omega (arith, s.0.1)), s.1);
   whole = λ token i l e. p.whole token i (l.0, omega (arith, l.1)) e;
 } where
-  p : IsWordTold (λ i. Exactly (unwrap_or (slice_get base_words (i - 4)) [])) (λ i. (4 ≤ i) × (i < 4 + length base_words)) (place_from 4 base_words)
-  p = places_told 4 base_words refl
+  p : IsWordReported (λ i. Exactly (unwrap_or (slice_get base_words (i - 4)) [])) (λ i. (4 ≤ i) × (i < 4 + length base_words)) (place_from 4 base_words)
+  p = places_reported 4 base_words refl
 
-pub base_told : IsTold (λ base. Exactly (base_word base)) IsArrayType base_of
-base_told = word_told (λ base. Exactly (base_word base)) IsArrayType (place_from 4 base_words) base_word_told
+pub base_reported : IsReported (λ base. Exactly (base_word base)) IsArrayType base_of
+base_reported = word_reported (λ base. Exactly (base_word base)) IsArrayType (place_from 4 base_words) base_word_reported
 
 -- ---- labels that aren't empty
 
@@ -124,8 +124,8 @@ type_whole token (Object name) i s = (
 )
 type_whole token (New label) i e = (codes "new:" ++ label, e, ap (λ t. option_map New (cond t (Some label) None)) ((some_label_decides label).1 i))
 
-pub type_told : IsTold type_item IsFrameType type_of
-type_told = word_told type_item IsFrameType type_in (record { sound = type_sound; whole = type_whole })
+pub type_reported : IsReported type_item IsFrameType type_of
+type_reported = word_reported type_item IsFrameType type_in (record { sound = type_sound; whole = type_whole })
 
 -- ---- classes that are caught
 
@@ -183,5 +183,5 @@ caught_whole token (Some name) i s = (s.units, s.word, by (bytes_eq (codes "any"
       ap (λ b. option_map (λ n. Some n) (cond b (Some (units_text s.units)) None)) ((class_text_decides (units_text s.units)).1 (subst IsClassText s.value i.0))
       ∙ ap (λ n. Some (Some n)) (sym s.value)
 
-pub caught_told : IsTold catch_item IsCaught caught_of
-caught_told = word_told catch_item IsCaught caught_in (record { sound = caught_sound; whole = caught_whole })
+pub caught_reported : IsReported catch_item IsCaught caught_of
+caught_reported = word_reported catch_item IsCaught caught_in (record { sound = caught_sound; whole = caught_whole })

@@ -12,8 +12,8 @@ use Rattle.dj_tokens.specs.WordReading.{row_of, class_text_test}
 use Rattle.dj_source.specs.Reading.{is_signed, ◌&◌}
 use Rattle.dj_source.specs.LineReading.{line_end, number, string, name, ValueStart, NoValue, IntWord, LongWord, StringWord, value_start, value_after, value, LiteralStart, IntLiteralWord, StringLiteralWord, ClassLiteralWord, literal_start, literal_after, literal, interface_start, interface_after, interface_end}
 use Rattle.dj_source.proofs.Readers.{Lang, Started, IsReader, both, sequence_reads, IsMade, mapped_reads, got_reads}
-use Rattle.dj_source.proofs.Choices.{after_first, HasFirst, IsChoice, IsTold, choose_reads, place}
-use Rattle.dj_source.proofs.WordLaws.{row_sound, row_value, rows_told, signed_32, signed_64}
+use Rattle.dj_source.proofs.Choices.{after_first, HasFirst, IsChoice, IsReported, choose_reads, place}
+use Rattle.dj_source.proofs.WordLaws.{row_sound, row_value, rows_reported, signed_32, signed_64}
 use Rattle.dj_source.proofs.FieldReaders.{all, end_lang, end_reads, number_lang, number_reads, string_lang, string_reads, name_lang, class_text_reads}
 
 -- what a value's start has that has a word
@@ -165,11 +165,11 @@ literal_row IntLiteralWord = refl
 literal_row StringLiteralWord = refl
 literal_row ClassLiteralWord = refl
 
-literal_told : IsTold literal_first all literal_start
-literal_told = rows_told literal_word literal_rows (refl, (refl, (refl, tt))) literal_row
+literal_reported : IsReported literal_first all literal_start
+literal_reported = rows_reported literal_word literal_rows (refl, (refl, (refl, tt))) literal_row
 
 literals_choice : IsChoice literal_lang IsLiteralOf literal_first literal_start
-literals_choice = record { sound = λ token k e. (literal_told.sound token k e).1; whole = λ token k l p said. literal_told.whole token k tt said; kind = kind; is = is; items = items } where
+literals_choice = record { sound = λ token k e. (literal_reported.sound token k e).1; whole = λ token k l p said. literal_reported.whole token k tt said; kind = kind; is = is; items = items } where
   kind : (l : Literal) → IsLiteralName l → (k : LiteralStart) × IsLiteralOf k l
   kind (IntLiteral n) i = (IntLiteralWord, ((n, tt), refl, (tt, tt)))
   kind (StringLiteral units) i = (StringLiteralWord, ((units, tt), refl, (tt, tt)))

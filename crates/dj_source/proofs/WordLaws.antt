@@ -19,27 +19,27 @@ use Rattle.dj_source.specs.trusted.Items.{Item, Exactly, Flags, Number, Text, En
 use Rattle.dj_source.specs.trusted.Lines.{FitsBits, called}
 use Rattle.dj_tokens.specs.WordReading.{tested, row_of, place_from, is_numeral, number_in, class_text_test}
 use Rattle.dj_source.specs.Reading.{word_of, string_of, end_of, exactly, flags_of, number_of, is_between, is_signed, name_of}
-use Rattle.dj_source.proofs.Choices.{IsTold}
+use Rattle.dj_source.proofs.Choices.{IsReported}
 
 -- ---- words
 
 -- a test on words answers what they say
-pub record IsWordTold {A : Type 0} (item : A → Item) (is : A → Type 0) (says : List ℕ → Option A) : Type 0 where
+pub record IsWordReported {A : Type 0} (item : A → Item) (is : A → Type 0) (says : List ℕ → Option A) : Type 0 where
   pub sound : (word : List ℕ) (a : A) → says word ≡ Some a → is a × Says (item a) (Word word)
   pub whole : (token : Token) (a : A) → is a → Says (item a) token → (word : List ℕ) × (token ≡ Word word) × (says word ≡ Some a)
 
-module _ {A : Type 0} (item : A → Item) (is : A → Type 0) (says : List ℕ → Option A) (told : IsWordTold item is says) where
+module _ {A : Type 0} (item : A → Item) (is : A → Type 0) (says : List ℕ → Option A) (reported : IsWordReported item is says) where
   word_sound : (token : Token) (a : A) → (word_of token >>= says) ≡ Some a → is a × Says (item a) token
-  word_sound (Word word) a e = told.sound word a e
+  word_sound (Word word) a e = reported.sound word a e
   word_sound (Quoted units) a e = absurd cc
   word_sound Bad a e = absurd cc
   word_sound LineEnd a e = absurd cc
 
   word_whole : (token : Token) (a : A) → is a → Says (item a) token → (word_of token >>= says) ≡ Some a
-  word_whole token a i said = let w = told.whole token a i said in subst (λ t. (word_of t >>= says) ≡ Some a) (sym w.1) w.2
+  word_whole token a i said = let w = reported.whole token a i said in subst (λ t. (word_of t >>= says) ≡ Some a) (sym w.1) w.2
 
-  pub word_told : IsTold item is (λ token. word_of token >>= says)
-  word_told = record { sound = word_sound; whole = word_whole }
+  pub word_reported : IsReported item is (λ token. word_of token >>= says)
+  word_reported = record { sound = word_sound; whole = word_whole }
 
 -- ---- tables
 
@@ -100,8 +100,8 @@ place_whole n (w ∷ ws) (suc i) word all e =
 
 -- ---- tokens without a test
 
-pub end_told : IsTold (λ (x : ⊤). Ended) (λ x. ⊤) end_of
-end_told = record { sound = sound; whole = whole } where
+pub end_reported : IsReported (λ (x : ⊤). Ended) (λ x. ⊤) end_of
+end_reported = record { sound = sound; whole = whole } where
   sound : (token : Token) (x : ⊤) → end_of token ≡ Some x → ⊤ × (token ≡ LineEnd)
   sound LineEnd x e = (tt, refl)
   sound (Word word) x e = absurd cc
@@ -111,8 +111,8 @@ end_told = record { sound = sound; whole = whole } where
   whole : (token : Token) (x : ⊤) → ⊤ → token ≡ LineEnd → end_of token ≡ Some x
   whole token x i e = ap end_of e
 
-pub string_told : IsTold Text (λ units. ⊤) string_of
-string_told = record { sound = sound; whole = λ token units i e. ap string_of e } where
+pub string_reported : IsReported Text (λ units. ⊤) string_of
+string_reported = record { sound = sound; whole = λ token units i e. ap string_of e } where
   sound : (token : Token) (units : List ℕ) → string_of token ≡ Some units → ⊤ × (token ≡ Quoted units)
   sound LineEnd x e = absurd cc
   sound (Word word) x e = absurd cc
@@ -120,22 +120,22 @@ string_told = record { sound = sound; whole = λ token units i e. ap string_of e
   sound Bad x e = absurd cc
 
 -- any word that passes, as itself
-pub label_told : IsTold Exactly (λ units. ⊤) word_of
-label_told = record { sound = sound; whole = λ token units i e. ap word_of e } where
+pub label_reported : IsReported Exactly (λ units. ⊤) word_of
+label_reported = record { sound = sound; whole = λ token units i e. ap word_of e } where
   sound : (token : Token) (units : List ℕ) → word_of token ≡ Some units → ⊤ × (token ≡ Word units)
   sound LineEnd x e = absurd cc
   sound (Word word) x e = (tt, ap Word (some_is word x e))
   sound (Quoted units) x e = absurd cc
   sound Bad x e = absurd cc
 
-exactly_word_told : (word : List ℕ) → IsWordTold (λ (x : ⊤). Exactly word) (λ x. ⊤) (row_of ((word, tt) ∷ []))
-exactly_word_told word = record {
+exactly_word_reported : (word : List ℕ) → IsWordReported (λ (x : ⊤). Exactly word) (λ x. ⊤) (row_of ((word, tt) ∷ []))
+exactly_word_reported word = record {
   sound = λ w x e. (tt, ap Word (row_sound (λ (k : ⊤). word) ((word, tt) ∷ []) w x (refl, tt) e));
   whole = λ token x i e. (word, e, ap (λ b. cond b (Some tt) None) ((bytes_eq-Decides word word).1 refl));
 }
 
-pub exactly_told : (word : List ℕ) → IsTold (λ (x : ⊤). Exactly word) (λ x. ⊤) (exactly word)
-exactly_told word = word_told (λ (x : ⊤). Exactly word) (λ x. ⊤) (row_of ((word, tt) ∷ [])) (exactly_word_told word)
+pub exactly_reported : (word : List ℕ) → IsReported (λ (x : ⊤). Exactly word) (λ x. ⊤) (exactly word)
+exactly_reported word = word_reported (λ (x : ⊤). Exactly word) (λ x. ⊤) (row_of ((word, tt) ∷ [])) (exactly_word_reported word)
 
 -- ---- numbers
 
@@ -147,8 +147,8 @@ pub numeral_decides : (radix : ℕ) (digits : List ℕ) → Decides (is_numeral 
 numeral_decides radix digits =
     Decides-and (nat_le 1 (length digits)) (list_all (λ b. is_digit b radix) digits) ((λ e. leb-true 1 (length digits) e), (λ l. le-leb 1 (length digits) l)) (digits_decide radix digits)
 
-flags_word_told : IsWordTold Flags (λ n. ⊤) (λ word. cond (is_numeral 16 word && nat_le (length word) 4) (Some (digits_value 16 word)) None)
-flags_word_told = record { sound = sound; whole = whole } where
+flags_word_reported : IsWordReported Flags (λ n. ⊤) (λ word. cond (is_numeral 16 word && nat_le (length word) 4) (Some (digits_value 16 word)) None)
+flags_word_reported = record { sound = sound; whole = whole } where
   both : (word : List ℕ) → Decides (is_numeral 16 word && nat_le (length word) 4) (IsNumeral 16 word × (length word ≤ 4))
   both word = Decides-and (is_numeral 16 word) (nat_le (length word) 4) (numeral_decides 16 word) ((λ e. leb-true (length word) 4 e), (λ l. le-leb (length word) 4 l))
 
@@ -161,16 +161,16 @@ flags_word_told = record { sound = sound; whole = whole } where
   whole : (token : Token) (n : ℕ) → ⊤ → SaysFlags n token → (word : List ℕ) × (token ≡ Word word) × (cond (is_numeral 16 word && nat_le (length word) 4) (Some (digits_value 16 word)) None ≡ Some n)
   whole token n i s = (s.digits, s.word, ap (λ b. cond b (Some (digits_value 16 s.digits)) None) ((both s.digits).1 (s.numeral, s.few)) ∙ ap (λ v. Some v) (sym s.value))
 
-pub flags_told : IsTold Flags (λ n. ⊤) flags_of
-flags_told = word_told Flags (λ n. ⊤) (λ word. cond (is_numeral 16 word && nat_le (length word) 4) (Some (digits_value 16 word)) None) flags_word_told
+pub flags_reported : IsReported Flags (λ n. ⊤) flags_of
+flags_reported = word_reported Flags (λ n. ⊤) (λ word. cond (is_numeral 16 word && nat_le (length word) 4) (Some (digits_value 16 word)) None) flags_word_reported
 
 no_minus : (c : ℕ) (cs : List ℕ) → IsNumeral 10 (c ∷ cs) → eqb c 45 ≡ false
 no_minus c cs n = ne_eqb c 45 (λ e. not_digit (subst (λ (b : ℕ). digit_value b < 10) e n.1.0)) where
   not_digit : digit_value 45 < 10 → ⊥
   not_digit l = omega (arith, l)
 
-pub number_word_told : IsWordTold Number (λ z. ⊤) number_in
-number_word_told = record { sound = sound; whole = whole } where
+pub number_word_reported : IsWordReported Number (λ z. ⊤) number_in
+number_word_reported = record { sound = sound; whole = whole } where
   sound : (word : List ℕ) (z : ℤ) → number_in word ≡ Some z → ⊤ × (SaysPlainNumber z (Word word) ⊎ SaysMinusNumber z (Word word))
   sound [] z e = absurd cc
   sound (b ∷ bs) z e = by (eqb b 45) refl e where
@@ -195,8 +195,8 @@ number_word_told = record { sound = sound; whole = whole } where
   whole token z i (inr s) =
       (45 ∷ s.digits, s.word, ap (λ t. cond t (Some (neg_ℤ (pos (digits_value 10 s.digits)))) None) ((numeral_decides 10 s.digits).1 s.numeral) ∙ ap (λ v. Some v) (sym s.value))
 
-pub number_told : IsTold Number (λ z. ⊤) number_of
-number_told = word_told Number (λ z. ⊤) number_in number_word_told
+pub number_reported : IsReported Number (λ z. ⊤) number_of
+number_reported = word_reported Number (λ z. ⊤) number_in number_word_reported
 
 -- ---- sizes
 
@@ -243,8 +243,8 @@ signed_64 (negsuc n) = ((λ t. record { sfits = ltb-true n (2 ^ 63) t }), (λ f.
 -- ---- names
 
 module _ (test : List ℕ → Bool) (is : List ℕ → Type 0) (decides : (text : List ℕ) → (test text ≡ true) ↔ is text) where
-  name_word_told : IsWordTold called is (λ word. tested test (units_text word))
-  name_word_told = record { sound = sound; whole = whole } where
+  name_word_reported : IsWordReported called is (λ word. tested test (units_text word))
+  name_word_reported = record { sound = sound; whole = whole } where
     sound : (word text : List ℕ) → tested test (units_text word) ≡ Some text → is text × SaysCalled [] text (Word word)
     sound word text e =
         let c = chose_some (test (units_text word)) (units_text word) text e in
@@ -254,8 +254,8 @@ module _ (test : List ℕ → Bool) (is : List ℕ → Type 0) (decides : (text 
     whole token text i s =
         (s.units, s.word, ap (λ b. cond b (Some (units_text s.units)) None) ((decides (units_text s.units)).1 (subst is s.value i)) ∙ ap (λ v. Some v) (sym s.value))
 
-  pub name_told : IsTold called is (name_of test)
-  name_told = word_told called is (λ word. tested test (units_text word)) name_word_told
+  pub name_reported : IsReported called is (name_of test)
+  name_reported = word_reported called is (λ word. tested test (units_text word)) name_word_reported
 
 pub class_text_decides : (text : List ℕ) → (class_text_test text ≡ true) ↔ IsClassText text
 class_text_decides text = Decides-or (class_name_test text) (array_descriptor_test text) (class_name_test-decides text) (array_descriptor_test-decides text)
@@ -263,8 +263,8 @@ class_text_decides text = Decides-or (class_name_test text) (array_descriptor_te
 -- ---- words of a table
 
 module _ {K : Type 0} (spelled : K → List ℕ) (rows : List (List ℕ × K)) (are : AllByRecursion (λ (row : List ℕ × K). row.0 ≡ spelled row.1) rows) (each : (k : K) → row_of rows (spelled k) ≡ Some k) where
-  pub row_word_told : IsWordTold (λ k. Exactly (spelled k)) (λ k. ⊤) (row_of rows)
-  row_word_told = record { sound = λ word k e. (tt, ap Word (row_sound spelled rows word k are e)); whole = λ token k i e. (spelled k, e, each k) }
+  pub row_word_reported : IsWordReported (λ k. Exactly (spelled k)) (λ k. ⊤) (row_of rows)
+  row_word_reported = record { sound = λ word k e. (tt, ap Word (row_sound spelled rows word k are e)); whole = λ token k i e. (spelled k, e, each k) }
 
-  pub rows_told : IsTold (λ k. Exactly (spelled k)) (λ k. ⊤) (λ token. word_of token >>= row_of rows)
-  rows_told = word_told (λ k. Exactly (spelled k)) (λ k. ⊤) (row_of rows) row_word_told
+  pub rows_reported : IsReported (λ k. Exactly (spelled k)) (λ k. ⊤) (λ token. word_of token >>= row_of rows)
+  rows_reported = word_reported (λ k. Exactly (spelled k)) (λ k. ⊤) (row_of rows) row_word_reported

@@ -10,13 +10,13 @@ bottom_up : (top : Frame) (below : List Frame) → reverse (frames_view (Some to
 bottom_up top below =
     reverse_onto (reverse (map frame_view below)) (frame_view top) [] ∙ ap (λ frames. frames ++ frame_view top ∷ []) (reverse-reverse (map frame_view below))
 
-in_front : (below : List Frame) (rest : List StackFrame) (f : ℕ) (d : Frame) → f < length below → slice_get (map frame_view below ++ rest) f ≡ Some (frame_view (get_or below f d))
-in_front [] rest f d within = absurd (omega (arith, within))
-in_front (y ∷ below) rest zero d within = refl
-in_front (y ∷ below) rest (suc f) d within = in_front below rest f d (omega (arith, within))
+in_prefix : (below : List Frame) (rest : List StackFrame) (f : ℕ) (d : Frame) → f < length below → slice_get (map frame_view below ++ rest) f ≡ Some (frame_view (get_or below f d))
+in_prefix [] rest f d within = absurd (omega (arith, within))
+in_prefix (y ∷ below) rest zero d within = refl
+in_prefix (y ∷ below) rest (suc f) d within = in_prefix below rest f d (omega (arith, within))
 
 pub found_below : (top : Frame) (below : List Frame) (f : ℕ) (d : Frame) → f < length below → frame_at (frames_view (Some top) below) f ≡ Some (frame_view (get_or below f d))
-found_below top below f d within = ap (λ frames. slice_get frames f) (bottom_up top below) ∙ in_front below (frame_view top ∷ []) f d within
+found_below top below f d within = ap (λ frames. slice_get frames f) (bottom_up top below) ∙ in_prefix below (frame_view top ∷ []) f d within
 
 at_end : (below : List Frame) (top : StackFrame) (f : ℕ) → (f < length below → ⊥) → IsSome (slice_get (map frame_view below ++ top ∷ []) f) → slice_get (map frame_view below ++ top ∷ []) f ≡ Some top
 at_end [] top zero past some = refl

@@ -15,7 +15,7 @@ use Rattle.dj_declared.specs.Files.{bare_class}
 use Rattle.dj_classes.specs.Tables.{name_at, name_of}
 use Rattle.dj_linking.specs.Linked.{Linked, class_name}
 use Rattle.dj_types.specs.Typed.{types_of, is_known_of, AreArrays}
-use Rattle.dj_types.proofs.Told.{types_among, type_among, type_of_class, known_at}
+use Rattle.dj_types.proofs.Reported.{types_among, type_among, type_of_class, known_at}
 use Rattle.dj_members.specs.Numbering.{among_above}
 use Rattle.dj_image.specs.Imaged.{Imaged, program_of, typed_of}
 use Rattle.dj_image.specs.Numbering.{AreSettled}
@@ -85,16 +85,16 @@ module _ (imaged : Imaged) where
       none_above (program_of imaged) name most_classes ty.dims ty.of (some_dims (program_of imaged) imaged.arrays settled.arrays there.0 ty there.1)
 
   -- no array has fields, and none declares any
-  pub array_told : AreSettled (typed_of imaged) → (class declaring : ℕ) → class < length (types_of (typed_of imaged))
+  pub array_reported : AreSettled (typed_of imaged) → (class declaring : ℕ) → class < length (types_of (typed_of imaged))
       → length (program_of imaged) ≤ class ⊎ length (program_of imaged) ≤ declaring → false ≡ holds imaged declaring class
-  array_told settled class declaring less (inl past) = sym (array_holds settled (name_at (program_of imaged) declaring) class past less)
-  array_told settled class declaring less (inr past) =
+  array_reported settled class declaring less (inl past) = sym (array_holds settled (name_at (program_of imaged) declaring) class past less)
+  array_reported settled class declaring less (inr past) =
       ap (λ (c : Option Class). has_named imaged (option_map name_of c) class) (sym (slice_get_past (program_of imaged) declaring past))
 
-  pub class_told : (class declaring : ℕ) (linked : Linked) → linked ≡ record { program = map bare_class (program_of imaged); prefix = imaged.prefix }
+  pub class_reported : (class declaring : ℕ) (linked : Linked) → linked ≡ record { program = map bare_class (program_of imaged); prefix = imaged.prefix }
       → class < length (program_of imaged) → declaring < length (program_of imaged)
       → is_among (chain linked.program (class_name linked.program class)) (class_name linked.program declaring) ≡ holds imaged declaring class
-  class_told class declaring linked is known declared =
+  class_reported class declaring linked is known declared =
       let program : Program = program_of imaged in
       ap (λ (l : Linked). is_among (chain l.program (class_name l.program class)) (class_name l.program declaring)) is
       ∙ (among_bare program class declaring

@@ -22,8 +22,8 @@ use Rattle.dj_image.specs.Imaged.{Imaged, program_of}
 use Rattle.dj_activations.specs.Activations.{declared_at, frames_seen}
 use Rattle.dj_initialising.specs.declared.prepare.Prepared.{Prepared}
 use Rattle.dj_initialising.specs.declared.prepare.Prepared.TheVariants as prepared
-use Rattle.dj_initialising.specs.Preparing.{prepared_told, with_parts}
-use Rattle.dj_turning.specs.Answers.{Over, told_of}
+use Rattle.dj_initialising.specs.Preparing.{prepared_reported, with_parts}
+use Rattle.dj_turning.specs.Answers.{Over, reported_of}
 use Rattle.dj_turning.specs.Running.{IsKept, Kept, Running, state_of}
 use Rattle.dj_step.specs.declared.answers.StartError.{StartError}
 use Rattle.dj_step.specs.declared.answers.StartError.TheVariants as starts
@@ -52,7 +52,7 @@ module _ (imaged : Imaged) (entry : ℕ) (input : List ℕ) (limit : ℕ) (limit
       ∙ ap (λ (seen : List (Frame Declared)). record (first answers) { frames = seen }) stands.seen
 
   begun_so : (answers : List HostAnswer) → begin program imaged.prefix (record { limit = Some limit; counting = counting }) m input answers
-      ≡ begun (prepared_told how (with_parts imaged r.parts (first answers)))
+      ≡ begun (prepared_reported how (with_parts imaged r.parts (first answers)))
   unfolding begin
   begun_so answers =
       let terms : Terms = record { limit = Some limit; counting = counting } in
@@ -63,15 +63,15 @@ module _ (imaged : Imaged) (entry : ℕ) (input : List ℕ) (limit : ℕ) (limit
       ∙ ap begun (begins.did.prepares.effect terms (first answers) (ap Some (sym holds.limited)))))
 
   pub too_deep : how ≡ prepared.TooDeep → EndsAtStart imaged m input limits limit (start_outcome starts.TooDeep)
-  too_deep is answers = ap told_of (begun_so answers ∙ ap (λ (p : Prepared). begun (prepared_told p (with_parts imaged r.parts (first answers)))) is)
+  too_deep is answers = ap reported_of (begun_so answers ∙ ap (λ (p : Prepared). begun (prepared_reported p (with_parts imaged r.parts (first answers)))) is)
 
   pub heap_full : (used size : ℕ) → how ≡ prepared.HeapFull used size → EndsAtStart imaged m input limits limit (start_outcome (starts.Full used size))
-  heap_full used size is answers = ap told_of (begun_so answers ∙ ap (λ (p : Prepared). begun (prepared_told p (with_parts imaged r.parts (first answers)))) is)
+  heap_full used size is answers = ap reported_of (begun_so answers ∙ ap (λ (p : Prepared). begun (prepared_reported p (with_parts imaged r.parts (first answers)))) is)
 
   abbrev now : Machined
   now = record { image = imaged; limit = limit; counting = counting; state = state_of imaged [] r; outcome = None; failed = false }
 
-  goes : (p : Prepared) → GoesOn p → (s : State) → begun (prepared_told p s) ≡ Went s
+  goes : (p : Prepared) → GoesOn p → (s : State) → begun (prepared_reported p s) ≡ Went s
   goes prepared.Ready on s = refl
   goes prepared.Waits on s = refl
   goes prepared.TooDeep on s = absurd on
@@ -116,7 +116,7 @@ unfolding begin
 input_refused imaged m input most limit starts.Memory refuses = tt
 input_refused imaged m input most limit starts.TooDeep refuses = absurd refuses
 input_refused imaged m input most limit (starts.Full used size) refuses = λ answers.
-    ap (λ (past : Bool). told_of (if past then Ended (outcomes.HeapFull 0 (object_size (input_array input))) (start_state (program_of imaged) m empty_heap answers)
+    ap (λ (past : Bool). reported_of (if past then Ended (outcomes.HeapFull 0 (object_size (input_array input))) (start_state (program_of imaged) m empty_heap answers)
     else begun (initialise (program_of imaged) imaged.prefix (record { limit = Some limit; counting = counting_for imaged.prefix most }) m.class (start_state (program_of imaged) m (input_heap input) answers))))
     (lt-ltb limit (object_size (input_array input)) refuses.2)
     ∙ (ap (λ (n : ℕ). Over (outcomes.HeapFull n (object_size (input_array input))) new_account answers) (sym refuses.0)

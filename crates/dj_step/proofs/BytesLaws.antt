@@ -56,9 +56,9 @@ bytes_there imaged numbered none =
     (append_at (map name_of (program_of imaged)) (map type_text imaged.arrays) found.0 place refl
     ∙ (slice_get-map type_text imaged.arrays found.0 ∙ ap (option_map type_text) found.1))
 
-place_told : (texts : List Name) (text : Name) (k : ℕ) → place_of_text texts text ≡ Some k → slice_get texts k ≡ Some text
-place_told [] text k e = absurd (none-some k e)
-place_told (x ∷ texts) text k e = by (same_name x text) refl (place_of_text texts text) (place_told texts text) k e where
+place_reported : (texts : List Name) (text : Name) (k : ℕ) → place_of_text texts text ≡ Some k → slice_get texts k ≡ Some text
+place_reported [] text k e = absurd (none-some k e)
+place_reported (x ∷ texts) text k e = by (same_name x text) refl (place_of_text texts text) (place_reported texts text) k e where
   by : (b : Bool) → same_name x text ≡ b → (n : Option ℕ) → ((j : ℕ) → n ≡ Some j → slice_get texts j ≡ Some text)
       → (k : ℕ) → (if b then Some 0 else option_map suc n) ≡ Some k → slice_get (x ∷ texts) k ≡ Some text
   by true same n later zero f = ap Some (names_from_same x text same)
@@ -117,7 +117,7 @@ of_bytes (suc zero) of e = ap (λ (x : Of). record { dims = 1; of = x }) (of_byt
 of_bytes (suc (suc n)) of e = let inner : 91 ∷ (replicate n 91 ++ of_text of) ≡ 66 ∷ [] = rest_is (91 ∷ (replicate n 91 ++ of_text of)) (66 ∷ []) e in let f : 91 ≡ 66 = ap first inner in absurd (omega (arith, f))
 
 pub bytes_type : (imaged : Imaged) (class : ℕ) → AreSettled (typed_of imaged) → Some class ≡ text_number (typed_of imaged) (codes "[B") → slice_get (types_of (typed_of imaged)) class ≡ Some bytes
-bytes_type imaged class settled e = elim (typed_by (program_of imaged) imaged.arrays class (codes "[B") (place_told (texts_of (typed_of imaged)) (codes "[B") class (sym e))) [
+bytes_type imaged class settled e = elim (typed_by (program_of imaged) imaged.arrays class (codes "[B") (place_reported (texts_of (typed_of imaged)) (codes "[B") class (sym e))) [
   | inl is ↦
       let within = slice_get_within (types_of (typed_of imaged)) class (class_type (codes "[B")) is in
       let at : numbered.type_at (types_of (typed_of imaged)) class ≡ class_type (codes "[B") = ap (λ (o : Option Ty). unwrap_or o (class_type [])) is in

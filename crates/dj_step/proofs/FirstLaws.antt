@@ -5,7 +5,7 @@ use Rattle.std.specs.Option.{option_map}
 use Rattle.std.proofs.lemmas.List.{length-map}
 use Rattle.std.proofs.lemmas.Option.{slice_get_within, none-some}
 use Rattle.dj_names.specs.declared.descriptor.Ty.{Ty}
-use Rattle.dj_names.specs.declared.lists.NoMemory.{NoMemory}
+use Rattle.dj_bytes.specs.declared.memory.NoMemory.{NoMemory}
 use Rattle.dj_names.specs.declared.run.Thresholds.{Thresholds}
 use Rattle.dj_names.specs.trusted.Types.{Name}
 use Rattle.dj_model.specs.trusted.Types.{Prefix, Declared}
@@ -38,9 +38,9 @@ use Rattle.dj_step.specs.Running.{BeginsRun, IsCounter, IsFirst, PreparesEntry}
 
 -- ---- who counts
 
-pub counter_told : (imaged : Imaged) (linked : Linked) (base : BaseNames) (limits : Thresholds) (counter : Option Counter) → linked ≡ record { program = map bare_class (program_of imaged); prefix = imaged.prefix }
+pub counter_reported : (imaged : Imaged) (linked : Linked) (base : BaseNames) (limits : Thresholds) (counter : Option Counter) → linked ≡ record { program = map bare_class (program_of imaged); prefix = imaged.prefix }
     → prefix_of base ≡ linked.prefix → IsCounter (prefix_of base) limits counter → IsCounter imaged.prefix limits counter
-counter_told imaged linked base limits counter is own told = subst (λ (prefix : Prefix). IsCounter prefix limits counter) (own ∙ ap (λ (l : Linked). l.prefix) is) told
+counter_reported imaged linked base limits counter is own reported = subst (λ (prefix : Prefix). IsCounter prefix limits counter) (own ∙ ap (λ (l : Linked). l.prefix) is) reported
 
 -- ---- what is there at first
 
@@ -94,14 +94,14 @@ class_there program class name e = by (slice_get program class) refl e where
   by None is f = absurd (none-some name f)
   by (Some c) is f = slice_get_within program class c is
 
-pub class_within : (imaged : Imaged) (n : ℕ) (told : MemberOf) → IsMethodThere (typed_of imaged) n told → told.class < length (program_of imaged)
-class_within imaged n told is = class_there (program_of imaged) told.class is.found.class is.class
+pub class_within : (imaged : Imaged) (n : ℕ) (reported : MemberOf) → IsMethodThere (typed_of imaged) n reported → reported.class < length (program_of imaged)
+class_within imaged n reported is = class_there (program_of imaged) reported.class is.found.class is.class
 
-pub entry_prepared : (imaged : Imaged) (n : ℕ) (told : MemberOf) (before after : Parts) (result : Result Prepared NoMemory) → IsMethodThere (typed_of imaged) n told
-    → IfOk result (λ how. Prepares imaged told.class before after how) → IfOk result (λ how. PreparesEntry imaged n before after how)
-entry_prepared imaged n told before after (Err e) is prepares = tt
-entry_prepared imaged n told before after (Ok how) is prepares = record {
-  class = told.class;
+pub entry_prepared : (imaged : Imaged) (n : ℕ) (reported : MemberOf) (before after : Parts) (result : Result Prepared NoMemory) → IsMethodThere (typed_of imaged) n reported
+    → IfOk result (λ how. Prepares imaged reported.class before after how) → IfOk result (λ how. PreparesEntry imaged n before after how)
+entry_prepared imaged n reported before after (Err e) is prepares = tt
+entry_prepared imaged n reported before after (Ok how) is prepares = record {
+  class = reported.class;
   named = ap (λ (o : Option Name). unwrap_or o []) is.class ∙ sym (ap (λ (d : Declared). d.class) (declared_there (program_of imaged) n is.found is.there));
   prepares = prepares;
 }

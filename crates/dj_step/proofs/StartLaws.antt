@@ -19,7 +19,7 @@ use Rattle.dj_types.specs.Members.{all_methods}
 use Rattle.dj_types.proofs.Starts.{some_there}
 use Rattle.dj_image.specs.Imaged.{Imaged, program_of}
 use Rattle.dj_activations.specs.Activations.{declared_at, frames_seen, AreActivations}
-use Rattle.dj_activations.specs.Told.{IsCodeOf}
+use Rattle.dj_activations.specs.Reported.{IsCodeOf}
 use Rattle.dj_activations.proofs.Numbers.{method_of_number}
 use Rattle.dj_step.specs.Running.{HoldsEntry}
 
@@ -49,13 +49,13 @@ module _ (imaged : Imaged) (n : ℕ) (sound : IsSound (program_of imaged) imaged
       let some : 0 < entry.code.max_locals = omega (arith, count) in
       subst (λ (c : Code). 0 < c.max_locals) (sym is) some
 
-  module _ (code : MethodCode) (told : IsCodeOf imaged n code) where
-    code_same : code_in told.pool (parts_of code) ≡ entry.code
-    code_same = same_Some (code_in told.pool (parts_of code)) entry.code (sym told.is ∙ own_code)
+  module _ (code : MethodCode) (reported : IsCodeOf imaged n code) where
+    code_same : code_in reported.pool (parts_of code) ≡ entry.code
+    code_same = same_Some (code_in reported.pool (parts_of code)) entry.code (sym reported.is ∙ own_code)
 
     pub entry_room : 0 < code.max_locals
     unfolding code_in
-    entry_room = room_of (code_in told.pool (parts_of code)) code_same
+    entry_room = room_of (code_in reported.pool (parts_of code)) code_same
 
     locals_are : (k : ℕ) → k ≡ entry.code.max_locals → 0 < k → locals_for (code_of program m) (values.Ref 1 ∷ []) ≡ set (replicate k None) 0 (Some (values.Ref 1))
     locals_are zero is some = absurd (omega (arith, some))

@@ -1,2 +1,2 @@
 -- What an answer of the model says, for the crates above.
-pub use Rattle.dj_turning.specs.Answers.{Told, On, Over, Nowhere, told_of}
+pub use Rattle.dj_turning.specs.Answers.{Reported, On, Over, Nowhere, reported_of}

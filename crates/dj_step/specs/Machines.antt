@@ -10,7 +10,7 @@ use Rattle.dj_model.specs.trusted.State.{Terms, Counting, Uncounted, Accounted, 
 use Rattle.dj_model.specs.trusted.Step.{Went, step}
 use Rattle.dj_model.specs.trusted.Runs.{begin}
 use Rattle.dj_image.specs.Imaged.{Imaged, program_of}
-use Rattle.dj_turning.specs.Answers.{Told, On, Over, told_of}
+use Rattle.dj_turning.specs.Answers.{Reported, On, Over, reported_of}
 use Rattle.dj_step.specs.declared.answers.StepAnswer.{StepAnswer}
 use Rattle.dj_step.specs.declared.answers.StepAnswer.TheVariants as steps
 use Rattle.dj_step.specs.declared.answers.StartError.{StartError}
@@ -45,13 +45,13 @@ counting_for (byte ∷ prefix) most = Accounted most
 -- ---- answers of the model
 
 -- the run goes on in this state, or it has ended with this outcome
-abbrev pub on_or_over : Option Outcome → State → Told
+abbrev pub on_or_over : Option Outcome → State → Reported
 on_or_over None s = On s
 on_or_over (Some outcome) s = Over outcome s.account s.answers
 
 -- the state of the machine as an answer of the model, with these answers of the host left
-abbrev pub machine_told : List HostAnswer → Machined → Told
-machine_told answers m = on_or_over m.outcome (state_with answers m)
+abbrev pub machine_reported : List HostAnswer → Machined → Reported
+machine_reported answers m = on_or_over m.outcome (state_with answers m)
 
 -- ---- the start
 
@@ -73,7 +73,7 @@ start_outcome starts.TooDeep = Some outcomes.TooDeep
 abbrev pub EndsAtStart : Imaged → Declared → List ℕ → Thresholds → ℕ → Option Outcome → Type 0
 EndsAtStart imaged entry input most limit None = ⊤
 EndsAtStart imaged entry input most limit (Some outcome) = (answers : List HostAnswer)
-    → told_of (begin (program_of imaged) imaged.prefix (record { limit = Some limit; counting = counting_for imaged.prefix most }) entry input answers)
+    → reported_of (begin (program_of imaged) imaged.prefix (record { limit = Some limit; counting = counting_for imaged.prefix most }) entry input answers)
     ≡ Over outcome new_account answers
 
 -- ---- a step
@@ -105,7 +105,7 @@ pub record Stays (old new : Machined) (gave : List HostAnswer) : Type 0 where
 -- where what the host gave comes first among the answers, whatever the others are, the machine's step is the model's; nothing is said where there was no memory
 abbrev pub Goes : Machined → Machined → List HostAnswer → Type 0
 Goes old new gave = new.failed ≡ false → (rest : List HostAnswer)
-    → told_of (step (program_of old.image) old.image.prefix (terms_of old) (state_with (gave ++ rest) old)) ≡ machine_told rest new
+    → reported_of (step (program_of old.image) old.image.prefix (terms_of old) (state_with (gave ++ rest) old)) ≡ machine_reported rest new
 
 pub record Steps (old new : Machined) (gave : List HostAnswer) (answer : StepAnswer) : Type 0 where
   pub answers : answer ≡ step_answer new

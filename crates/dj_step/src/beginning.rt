@@ -82,7 +82,7 @@ fn no_flags(alloc: Global, image: &Image) -> Result<Initialised, NoMemory>
 }
 
 // Who counts charges: the accounter, where the classes are rewritten.
-#[tactic(auto, using(crate::proofs::FirstLaws::counter_told))]
+#[tactic(auto, using(crate::proofs::FirstLaws::counter_reported))]
 fn counter(image: &Image, limits: Thresholds) -> Option<Accounter>
     requires { AreLow limits }
     ensures { IsCounter image.now.prefix limits result }

@@ -88,14 +88,14 @@ found_bytes arrays r contents bytes found is =
     (here ∙ ap Some (sym same), ap (λ (b : Vec ℤ). b.items) same ∙ hit.2)
 
 -- an element of an array of the heap is another
-pub stored_heap : (arrays : List (Vec ℤ)) (r : ℕ) (told contents : List ℤ) (bytes new : Vec ℤ) (index z : ℤ)
-    → array_at (heap_of arrays).objects r ≡ IsArray (codes "[B") elements.Byte told → IsSome (element_at told index)
+pub stored_heap : (arrays : List (Vec ℤ)) (r : ℕ) (reported contents : List ℤ) (bytes new : Vec ℤ) (index z : ℤ)
+    → array_at (heap_of arrays).objects r ≡ IsArray (codes "[B") elements.Byte reported → IsSome (element_at reported index)
     → array_at (heap_of arrays).objects r ≡ IsArray (codes "[B") elements.Byte contents
     → bytes ≡ get_or arrays (r - 1) bytes → new.items ≡ set bytes.items (unsigned_abs index) z
     → heap_of (set arrays (r - 1) new) ≡ with_object (heap_of arrays) r (byte_array (with_element contents index z))
-stored_heap arrays r told contents bytes new index z known some found is items =
+stored_heap arrays r reported contents bytes new index z known some found is items =
     let hit = found_bytes arrays r contents bytes found is in
-    let one : told ≡ contents = same_contents told contents (sym known ∙ found) in
+    let one : reported ≡ contents = same_contents reported contents (sym known ∙ found) in
     let there : IsSome (element_at contents index) = subst (λ (xs : List ℤ). IsSome (element_at xs index)) one some in
     let size : length new.items ≡ length bytes.items = ap (λ (xs : List ℤ). length xs) items ∙ length-set bytes.items (unsigned_abs index) z in
     let element : new.items ≡ with_element contents index z =

@@ -74,12 +74,12 @@ memory_is : (e : OpError) → IsErrOf (refused e) errors.Memory → e ≡ errors
 memory_is e h = cc
 
 -- where another instruction stands, no straight one does
-pub other_tells : (code : List ℕ) (at : ℕ) (instr : Instr) (next : ℕ) → Stands code at instr next → (IsStraight instr → ⊥) → IsNoneAt code at
-other_tells code at instr next s other i n t = other (subst IsStraight (one_at code at n next i instr t.stands s).0 t.straight)
+pub other_says : (code : List ℕ) (at : ℕ) (instr : Instr) (next : ℕ) → Stands code at instr next → (IsStraight instr → ⊥) → IsNoneAt code at
+other_says code at instr next s other i n t = other (subst IsStraight (one_at code at n next i instr t.stands s).0 t.straight)
 
 -- where the reader refuses for another reason than memory, nothing stands
-pub refusal_tells : (code : List ℕ) (at : ℕ) (e : OpError) → (e ≡ errors.Memory → ⊥) → ((instr : Instr) (next : ℕ) → Stands code at instr next → Yields (Err e) (Ok (instr, next))) → IsNoneAt code at
-refusal_tells code at e other all instr next s =
+pub refusal_says : (code : List ℕ) (at : ℕ) (e : OpError) → (e ≡ errors.Memory → ⊥) → ((instr : Instr) (next : ℕ) → Stands code at instr next → Yields (Err e) (Ok (instr, next))) → IsNoneAt code at
+refusal_says code at e other all instr next s =
     elim (all instr next s.stands) [
       | inl same ↦ absurd cc
       | inr memory ↦ other (memory_is e memory)

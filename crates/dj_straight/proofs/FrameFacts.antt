@@ -10,7 +10,7 @@ use Rattle.dj_straight.specs.Instructions.{throws, asks_program, is_straight}
 use Rattle.dj_straight.specs.trusted.StackMaps.{VerificationType, Top, Integer, Float, Double, Long, Null, UninitializedThis, Object, Uninitialized, FrameForm, Same, Stack1, Chop, Append, Full, StackMapFrame}
 use Rattle.std.specs.Prelude.{⊤}
 use Rattle.dj_straight.specs.trusted.FrameKinds.{Signature, Kinds, kind_slots, depth, Of, NoEntry, entry_of, entries_of, stack_of, Entries, form_entries, padded, fitting, Placed, Read, Faulty, NoMap, frames_after, frames_of, parameter_entries, placed_at}
-use Rattle.dj_straight.specs.trusted.Shape.{same_result, after, LocalsFlow, FlowsInto, FlowsTo, FlowsToEach, TellsOr, StateBefore, IsHandlerFrame, LocalsFlowTo, Holds}
+use Rattle.dj_straight.specs.trusted.Shape.{same_result, after, LocalsFlow, FlowsInto, FlowsTo, FlowsToEach, IsFrameOr, StateBefore, IsHandlerFrame, LocalsFlowTo, Holds}
 use Rattle.dj_names.specs.declared.run.Raised.TheVariants as raises
 use Rattle.dj_straight.specs.trusted.Effects.{StraightPart, Flow, Next, To, Raise, Throw, Back, Broken, Full as HeapFull, effect}
 use Rattle.dj_straight.specs.Sound.{LocalsHave, HasKinds, LeavesKinds, IsSoundFlow, HasSoundEffect}
@@ -48,27 +48,27 @@ operands_have_kinds = refl
 abbrev three_entries : List (Option Kind)
 three_entries = Some kinds.Ref ∷ Some kinds.Long ∷ None ∷ []
 
-abbrev told : List (Option Kind) → List (Option Kind) → Option Entries
-told locals stack = Some (record { locals = locals; stack = stack })
+abbrev reported : List (Option Kind) → List (Option Kind) → Option Entries
+reported locals stack = Some (record { locals = locals; stack = stack })
 
 short_forms : map (form_entries two_nops three_entries) (Same ∷ Stack1 Integer ∷ Stack1 Long ∷ Stack1 Top ∷ Stack1 Float ∷ [])
-    ≡ told three_entries [] ∷ told three_entries (Some kinds.Int ∷ []) ∷ told three_entries (Some kinds.Long ∷ []) ∷ told three_entries (None ∷ []) ∷ None ∷ []
+    ≡ reported three_entries [] ∷ reported three_entries (Some kinds.Int ∷ []) ∷ reported three_entries (Some kinds.Long ∷ []) ∷ reported three_entries (None ∷ []) ∷ None ∷ []
 short_forms = refl
 
 -- the last ones go, a long as one
 chopped : map (form_entries two_nops three_entries) (Chop 0 ∷ Chop 1 ∷ Chop 2 ∷ Chop 3 ∷ Chop 4 ∷ [])
-    ≡ told three_entries [] ∷ told (Some kinds.Ref ∷ Some kinds.Long ∷ []) [] ∷ told (Some kinds.Ref ∷ []) [] ∷ told [] [] ∷ None ∷ []
+    ≡ reported three_entries [] ∷ reported (Some kinds.Ref ∷ Some kinds.Long ∷ []) [] ∷ reported (Some kinds.Ref ∷ []) [] ∷ reported [] [] ∷ None ∷ []
 chopped = refl
 
 chopped_none : form_entries two_nops [] (Chop 1) ≡ None
 chopped_none = refl
 
 appended : map (form_entries two_nops three_entries) (Append (Integer ∷ Null ∷ []) ∷ Append (Integer ∷ Float ∷ []) ∷ [])
-    ≡ told (Some kinds.Ref ∷ Some kinds.Long ∷ None ∷ Some kinds.Int ∷ Some kinds.Ref ∷ []) [] ∷ None ∷ []
+    ≡ reported (Some kinds.Ref ∷ Some kinds.Long ∷ None ∷ Some kinds.Int ∷ Some kinds.Ref ∷ []) [] ∷ None ∷ []
 appended = refl
 
 full : map (form_entries two_nops three_entries) (Full (Integer ∷ Top ∷ []) (Null ∷ Long ∷ []) ∷ Full [] [] ∷ Full (Float ∷ []) [] ∷ Full [] (Double ∷ []) ∷ [])
-    ≡ told (Some kinds.Int ∷ None ∷ []) (Some kinds.Ref ∷ Some kinds.Long ∷ []) ∷ told [] [] ∷ None ∷ None ∷ []
+    ≡ reported (Some kinds.Int ∷ None ∷ []) (Some kinds.Ref ∷ Some kinds.Long ∷ []) ∷ reported [] [] ∷ None ∷ None ∷ []
 full = refl
 
 -- ---- slots
@@ -407,16 +407,16 @@ two_at_handler : IsHandlerFrame (Some (kinds_of [] (kinds.Ref ∷ kinds.Ref ∷ 
 two_at_handler h = let e : kinds.Ref ∷ kinds.Ref ∷ [] ≡ kinds.Ref ∷ [] = h in absurd cc
 
 -- a frame declares the kinds, whatever else would hold
-tells : TellsOr (Some (kinds_of [] [])) (kinds_of [] []) ⊥
-tells = refl
+says : IsFrameOr (Some (kinds_of [] [])) (kinds_of [] []) ⊥
+says = refl
 
-tells_other : TellsOr (Some (kinds_of [] [])) (kinds_of [] (kinds.Int ∷ [])) ⊤ → ⊥
-tells_other h = let e : kinds.Int ∷ [] ≡ [] = ap (λ (k : Kinds). k.stack) h in absurd cc
+says_other : IsFrameOr (Some (kinds_of [] [])) (kinds_of [] (kinds.Int ∷ [])) ⊤ → ⊥
+says_other h = let e : kinds.Int ∷ [] ≡ [] = ap (λ (k : Kinds). k.stack) h in absurd cc
 
-otherwise : TellsOr None (kinds_of [] []) ⊤
+otherwise : IsFrameOr None (kinds_of [] []) ⊤
 otherwise = tt
 
-not_otherwise : TellsOr None (kinds_of [] []) ⊥ → ⊥
+not_otherwise : IsFrameOr None (kinds_of [] []) ⊥ → ⊥
 not_otherwise h = h
 
 -- ---- instructions, one of each

@@ -24,7 +24,7 @@ use Rattle.dj_straight.specs.trusted.Effects.{StraightPart, Flow, Next, To, Rais
 use Rattle.dj_straight.specs.trusted.Step.{result_outcome, bytes_in}
 use Rattle.dj_straight.specs.declared.program.Action.{Action}
 use Rattle.dj_straight.specs.declared.program.Action.TheVariants as actions
-use Rattle.dj_straight.specs.declared.machine.Ending.{Ending}
+use Rattle.dj_straight.specs.declared.machine.StraightEnding.{StraightEnding}
 use Rattle.dj_straight.specs.declared.machine.turns.Advance.TheVariants as ways
 use Rattle.dj_straight.specs.Methods.{action_view}
 use Rattle.dj_straight.specs.Machines.{straight_effect}
@@ -355,7 +355,7 @@ flow_no_link q (Full used size) outcome after end link = end
 flow_no_link q Broken outcome after end link = after
 flow_no_link q (Back _) outcome after end link = after
 
-pub end_linked : (most : Thresholds) (costs : Costs) (a : Action) (p next : StraightPart) (e : Ending) → PushesNull (action_view a) → IsLinked p
+pub end_linked : (most : Thresholds) (costs : Costs) (a : Action) (p next : StraightPart) (e : StraightEnding) → PushesNull (action_view a) → IsLinked p
     → TurnsDo most costs (action_view a) p next (ways.End e) → e.outcome ≡ outcomes.Link → ⊥
 end_linked most costs a p next e null linked (inl done) link =
     flow_no_link done.2.1 done.2.2 e.outcome (effect_linked a p done.2.1 done.2.2 null linked done.2.3) done.2.4 link

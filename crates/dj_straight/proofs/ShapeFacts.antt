@@ -15,7 +15,7 @@ use Rattle.dj_straight.proofs.FrameFacts.{code_with, any_object, kinds_of, at, p
 -- ---- instructions that hold, and that don't
 
 -- the kinds before an instruction, the instruction, and what it leaves
-record Told (signature : Signature) (code : Code) (placed : List Placed) (number : ℕ) (k : Kinds) (i : Instruction) (left : Kinds) : Type 0 where
+record Reported (signature : Signature) (code : Code) (placed : List Placed) (number : ℕ) (k : Kinds) (i : Instruction) (left : Kinds) : Type 0 where
   state : StateBefore signature code placed number k
   at : slice_get code.instructions number ≡ Some i
   found : after signature code i k ≡ Some left
@@ -53,7 +53,7 @@ module _ (signature : Signature) (code : Code) (placed : List Placed) where
   FirstFlows = FlowsTo (first_kinds signature code) (placed_at placed 0)
 
   -- an instruction that isn't the last
-  goes_on_with : (number : ℕ) (k : Kinds) (i : Instruction) (left : Kinds) → Told signature code placed number k i left → Handled code placed number k
+  goes_on_with : (number : ℕ) (k : Kinds) (i : Instruction) (left : Kinds) → Reported signature code placed number k i left → Handled code placed number k
       → FirstFlows → suc number < length code.instructions → FlowsTo left (placed_at placed (suc number)) → Holds signature code placed number
   goes_on_with number k i left t handled first more flows = record {
     before = k;
@@ -71,7 +71,7 @@ module _ (signature : Signature) (code : Code) (placed : List Placed) where
   }
 
   -- an instruction after which the run doesn't go on
-  ended_with : (number : ℕ) (k : Kinds) (i : Instruction) (left : Kinds) → Told signature code placed number k i left → Handled code placed number k
+  ended_with : (number : ℕ) (k : Kinds) (i : Instruction) (left : Kinds) → Reported signature code placed number k i left → Handled code placed number k
       → FirstFlows → IsTrue (ends i) → Holds signature code placed number
   ended_with number k i left t handled first ended = record {
     before = k;
@@ -89,7 +89,7 @@ module _ (signature : Signature) (code : Code) (placed : List Placed) where
   }
 
   -- what is known of an instruction that holds
-  are : (number : ℕ) (k : Kinds) (i : Instruction) (left : Kinds) → Told signature code placed number k i left → (h : Holds signature code placed number)
+  are : (number : ℕ) (k : Kinds) (i : Instruction) (left : Kinds) → Reported signature code placed number k i left → (h : Holds signature code placed number)
       → (h.before ≡ k) × (h.instruction ≡ i) × (h.left ≡ left)
   are number k i left t h =
       let before : h.before ≡ k = one_state signature code placed number h.before k h.state t.state in
@@ -111,7 +111,7 @@ module _ (signature : Signature) (code : Code) (placed : List Placed) where
       absurd cc
 
   -- what it leaves doesn't flow into the frame after it
-  refused : (number : ℕ) (k : Kinds) (i : Instruction) (left : Kinds) → Told signature code placed number k i left → IsFalse (ends i)
+  refused : (number : ℕ) (k : Kinds) (i : Instruction) (left : Kinds) → Reported signature code placed number k i left → IsFalse (ends i)
       → (FlowsTo left (placed_at placed (suc number)) → ⊥) → Holds signature code placed number → ⊥
   refused number k i left t goes_on refuse h =
       let known = are number k i left t h in
@@ -144,7 +144,7 @@ module _ (signature : Signature) (code : Code) (placed : List Placed) where
   no_handler r contains refuse h = refuse (h.handles r contains refl)
 
   -- it stands in the range of a handler that it has not the local variables of
-  not_handled : (number : ℕ) (k : Kinds) (i : Instruction) (left : Kinds) → Told signature code placed number k i left → (r : Range) → Contains code.ranges r
+  not_handled : (number : ℕ) (k : Kinds) (i : Instruction) (left : Kinds) → Reported signature code placed number k i left → (r : Range) → Contains code.ranges r
       → r.start ≤ number → number < r.end → (LocalsFlowTo k (placed_at placed r.handler) → ⊥) → Holds signature code placed number → ⊥
   not_handled number k i left t r contains low high refuse h =
       refuse (subst (λ (k : Kinds). LocalsFlowTo k (placed_at placed r.handler)) (are number k i left t h).0 (h.handled r contains low high))
@@ -196,25 +196,25 @@ abbrev push_null : Instruction
 push_null = Push (values.Ref 0)
 
 abbrev Says : Code → List Placed → ℕ → Kinds → Instruction → Kinds → Type 0
-Says code p number k i left = Told reference_in code p number k i left
+Says code p number k i left = Reported reference_in code p number k i left
 
 -- the instruction after it, where that has no frame
-then_told : {code : Code} {p : List Placed} {number : ℕ} {k left after_it : Kinds} {i j : Instruction} → Says code p number k i left → IsFalse (ends i)
+then_reported : {code : Code} {p : List Placed} {number : ℕ} {k left after_it : Kinds} {i j : Instruction} → Says code p number k i left → IsFalse (ends i)
     → placed_at p (suc number) ≡ None → slice_get code.instructions (suc number) ≡ Some j → after reference_in code j left ≡ Some after_it
     → Says code p (suc number) left j after_it
-then_told t goes_on none at found = record { state = rw none (_, _, t.state, t.at, goes_on, t.found); at = at; found = found }
+then_reported t goes_on none at found = record { state = rw none (_, _, t.state, t.at, goes_on, t.found); at = at; found = found }
 
 module _ (code : Code) (p : List Placed) where
   abbrev At : ℕ → Type 0
   At number = Holds reference_in code p number
 
   -- an instruction that isn't the last
-  next : (number : ℕ) (k : Kinds) (i : Instruction) (left : Kinds) → Told reference_in code p number k i left → code.ranges ≡ []
+  next : (number : ℕ) (k : Kinds) (i : Instruction) (left : Kinds) → Reported reference_in code p number k i left → code.ranges ≡ []
       → FlowsTo (first_kinds reference_in code) (placed_at p 0) → suc number < length code.instructions → FlowsTo left (placed_at p (suc number)) → At number
   next number k i left t none first more flows = goes_on_with reference_in code p number k i left t (no_ranges code p number k none) first more flows
 
   -- a return
-  end : (number : ℕ) (k left : Kinds) → Told reference_in code p number k (Return None) left → code.ranges ≡ []
+  end : (number : ℕ) (k left : Kinds) → Reported reference_in code p number k (Return None) left → code.ranges ≡ []
       → FlowsTo (first_kinds reference_in code) (placed_at p 0) → At number
   end number k left t none first = ended_with reference_in code p number k (Return None) left t (no_ranges code p number k none) first refl
 
@@ -249,7 +249,7 @@ abbrev at_two : List Placed
 at_two = placed 2 with_int [] ∷ []
 
 abbrev Agrees : ℕ → Kinds → Instruction → Kinds → Type 0
-Agrees number k i left = Told reference_in agrees at_two number k i left
+Agrees number k i left = Reported reference_in agrees at_two number k i left
 
 agrees_0 : Agrees 0 (kinds_of alone []) push_int (kinds_of alone (kinds.Int ∷ []))
 unfolding after
@@ -294,25 +294,25 @@ unfolding after frames_after
 operand_left_fault =
     let p : List Placed = placed 2 alone [] ∷ [] in
     let t0 : Says operand_left p 0 (kinds_of alone []) push_int (kinds_of alone (kinds.Int ∷ [])) = record { state = refl; at = refl; found = refl } in
-    let t1 : Says operand_left p 1 (kinds_of alone (kinds.Int ∷ [])) Nop (kinds_of alone (kinds.Int ∷ [])) = then_told t0 refl refl refl refl in
+    let t1 : Says operand_left p 1 (kinds_of alone (kinds.Int ∷ [])) Nop (kinds_of alone (kinds.Int ∷ [])) = then_reported t0 refl refl refl refl in
     fault_at reference_in operand_left p 1 (omega arith) refl (omega arith) (first_1 operand_left p (next operand_left p 0 _ _ _ t0 refl tt (omega arith) tt))
     (refused reference_in operand_left p 1 _ _ _ t1 refl (λ h. let e : kinds.Int ∷ [] ≡ [] = h.1 in absurd cc))
 
 -- and where it is
-abbrev operand_told : Code
-operand_told = code_with (push_int ∷ Nop ∷ Return None ∷ []) [] (at 2 (Stack1 Integer) ∷ [])
+abbrev operand_reported : Code
+operand_reported = code_with (push_int ∷ Nop ∷ Return None ∷ []) [] (at 2 (Stack1 Integer) ∷ [])
 
-operand_told_shape : HasShape reference_in operand_told
+operand_reported_shape : HasShape reference_in operand_reported
 unfolding after frames_after
-operand_told_shape =
+operand_reported_shape =
     let p : List Placed = placed 2 alone (kinds.Int ∷ []) ∷ [] in
-    let t0 : Says operand_told p 0 (kinds_of alone []) push_int (kinds_of alone (kinds.Int ∷ [])) = record { state = refl; at = refl; found = refl } in
-    let t1 : Says operand_told p 1 (kinds_of alone (kinds.Int ∷ [])) Nop (kinds_of alone (kinds.Int ∷ [])) = then_told t0 refl refl refl refl in
-    let t2 : Says operand_told p 2 (kinds_of alone (kinds.Int ∷ [])) (Return None) (kinds_of alone (kinds.Int ∷ [])) = record { state = refl; at = refl; found = refl } in
-    has_shape reference_in operand_told p (omega arith) refl (first_3 operand_told p
-    (next operand_told p 0 _ _ _ t0 refl tt (omega arith) tt)
-    (next operand_told p 1 _ _ _ t1 refl tt (omega arith) ((refl, tt), refl))
-    (end operand_told p 2 _ _ t2 refl tt))
+    let t0 : Says operand_reported p 0 (kinds_of alone []) push_int (kinds_of alone (kinds.Int ∷ [])) = record { state = refl; at = refl; found = refl } in
+    let t1 : Says operand_reported p 1 (kinds_of alone (kinds.Int ∷ [])) Nop (kinds_of alone (kinds.Int ∷ [])) = then_reported t0 refl refl refl refl in
+    let t2 : Says operand_reported p 2 (kinds_of alone (kinds.Int ∷ [])) (Return None) (kinds_of alone (kinds.Int ∷ [])) = record { state = refl; at = refl; found = refl } in
+    has_shape reference_in operand_reported p (omega arith) refl (first_3 operand_reported p
+    (next operand_reported p 0 _ _ _ t0 refl tt (omega arith) tt)
+    (next operand_reported p 1 _ _ _ t1 refl tt (omega arith) ((refl, tt), refl))
+    (end operand_reported p 2 _ _ t2 refl tt))
 
 -- and where it is of another kind
 abbrev operand_other : Code
@@ -323,7 +323,7 @@ unfolding after frames_after
 operand_other_fault =
     let p : List Placed = placed 2 alone (kinds.Ref ∷ []) ∷ [] in
     let t0 : Says operand_other p 0 (kinds_of alone []) push_int (kinds_of alone (kinds.Int ∷ [])) = record { state = refl; at = refl; found = refl } in
-    let t1 : Says operand_other p 1 (kinds_of alone (kinds.Int ∷ [])) Nop (kinds_of alone (kinds.Int ∷ [])) = then_told t0 refl refl refl refl in
+    let t1 : Says operand_other p 1 (kinds_of alone (kinds.Int ∷ [])) Nop (kinds_of alone (kinds.Int ∷ [])) = then_reported t0 refl refl refl refl in
     fault_at reference_in operand_other p 1 (omega arith) refl (omega arith) (first_1 operand_other p (next operand_other p 0 _ _ _ t0 refl tt (omega arith) tt))
     (refused reference_in operand_other p 1 _ _ _ t1 refl (λ h. let e : kinds.Int ∷ [] ≡ kinds.Ref ∷ [] = h.1 in absurd cc))
 
@@ -336,7 +336,7 @@ unfolding after frames_after
 operands_turned_shape =
     let p : List Placed = placed 2 alone (kinds.Ref ∷ kinds.Int ∷ []) ∷ [] in
     let t0 : Says operands_turned p 0 (kinds_of alone []) push_int (kinds_of alone (kinds.Int ∷ [])) = record { state = refl; at = refl; found = refl } in
-    let t1 : Says operands_turned p 1 (kinds_of alone (kinds.Int ∷ [])) push_null (kinds_of alone (kinds.Ref ∷ kinds.Int ∷ [])) = then_told t0 refl refl refl refl in
+    let t1 : Says operands_turned p 1 (kinds_of alone (kinds.Int ∷ [])) push_null (kinds_of alone (kinds.Ref ∷ kinds.Int ∷ [])) = then_reported t0 refl refl refl refl in
     let t2 : Says operands_turned p 2 (kinds_of alone (kinds.Ref ∷ kinds.Int ∷ [])) (Return None) (kinds_of alone (kinds.Ref ∷ kinds.Int ∷ [])) = record { state = refl; at = refl; found = refl } in
     has_shape reference_in operands_turned p (omega arith) refl (first_3 operands_turned p
     (next operands_turned p 0 _ _ _ t0 refl tt (omega arith) tt)
@@ -352,7 +352,7 @@ unfolding after frames_after
 local_lacks_fault =
     let p : List Placed = placed 2 with_int [] ∷ [] in
     let t0 : Says local_lacks p 0 (kinds_of alone []) push_int (kinds_of alone (kinds.Int ∷ [])) = record { state = refl; at = refl; found = refl } in
-    let t1 : Says local_lacks p 1 (kinds_of alone (kinds.Int ∷ [])) (Move Pop) (kinds_of alone []) = then_told t0 refl refl refl refl in
+    let t1 : Says local_lacks p 1 (kinds_of alone (kinds.Int ∷ [])) (Move Pop) (kinds_of alone []) = then_reported t0 refl refl refl refl in
     fault_at reference_in local_lacks p 1 (omega arith) refl (omega arith) (first_1 local_lacks p (next local_lacks p 0 _ _ _ t0 refl tt (omega arith) tt))
     (refused reference_in local_lacks p 1 _ _ _ t1 refl (λ h. let e : None ≡ Some kinds.Int = h.0.1.0 in absurd cc))
 
@@ -365,7 +365,7 @@ unfolding after frames_after
 local_other_fault =
     let p : List Placed = placed 2 with_int [] ∷ [] in
     let t0 : Says local_other p 0 (kinds_of alone []) push_null (kinds_of alone (kinds.Ref ∷ [])) = record { state = refl; at = refl; found = refl } in
-    let t1 : Says local_other p 1 (kinds_of alone (kinds.Ref ∷ [])) (Store kinds.Ref 1) (kinds_of (Some kinds.Ref ∷ Some kinds.Ref ∷ None ∷ []) []) = then_told t0 refl refl refl refl in
+    let t1 : Says local_other p 1 (kinds_of alone (kinds.Ref ∷ [])) (Store kinds.Ref 1) (kinds_of (Some kinds.Ref ∷ Some kinds.Ref ∷ None ∷ []) []) = then_reported t0 refl refl refl refl in
     fault_at reference_in local_other p 1 (omega arith) refl (omega arith) (first_1 local_other p (next local_other p 0 _ _ _ t0 refl tt (omega arith) tt))
     (refused reference_in local_other p 1 _ _ _ t1 refl (λ h. let e : Some kinds.Ref ≡ Some kinds.Int = h.0.1.0 in absurd cc))
 
@@ -378,9 +378,9 @@ unfolding after frames_after
 forgets_shape =
     let p : List Placed = placed 2 alone [] ∷ [] in
     let t0 : Says forgets p 0 (kinds_of alone []) push_int (kinds_of alone (kinds.Int ∷ [])) = record { state = refl; at = refl; found = refl } in
-    let t1 : Says forgets p 1 (kinds_of alone (kinds.Int ∷ [])) (Store kinds.Int 1) (kinds_of with_int []) = then_told t0 refl refl refl refl in
+    let t1 : Says forgets p 1 (kinds_of alone (kinds.Int ∷ [])) (Store kinds.Int 1) (kinds_of with_int []) = then_reported t0 refl refl refl refl in
     let t2 : Says forgets p 2 (kinds_of alone []) Nop (kinds_of alone []) = record { state = refl; at = refl; found = refl } in
-    let t3 : Says forgets p 3 (kinds_of alone []) (Return None) (kinds_of alone []) = then_told t2 refl refl refl refl in
+    let t3 : Says forgets p 3 (kinds_of alone []) (Return None) (kinds_of alone []) = then_reported t2 refl refl refl refl in
     has_shape reference_in forgets p (omega arith) refl (first_4 forgets p
     (next forgets p 0 _ _ _ t0 refl tt (omega arith) tt)
     (next forgets p 1 _ _ _ t1 refl tt (omega arith) ((refl, tt), refl))
@@ -396,7 +396,7 @@ unfolding after frames_after
 forgotten_fault =
     let p : List Placed = placed 2 alone [] ∷ [] in
     let t0 : Says forgotten p 0 (kinds_of alone []) push_int (kinds_of alone (kinds.Int ∷ [])) = record { state = refl; at = refl; found = refl } in
-    let t1 : Says forgotten p 1 (kinds_of alone (kinds.Int ∷ [])) (Store kinds.Int 1) (kinds_of with_int []) = then_told t0 refl refl refl refl in
+    let t1 : Says forgotten p 1 (kinds_of alone (kinds.Int ∷ [])) (Store kinds.Int 1) (kinds_of with_int []) = then_reported t0 refl refl refl refl in
     let t2 : Says forgotten p 2 (kinds_of alone []) Nop (kinds_of alone []) = record { state = refl; at = refl; found = refl } in
     fault_at reference_in forgotten p 3 (omega arith) refl (omega arith) (first_3 forgotten p
     (next forgotten p 0 _ _ _ t0 refl tt (omega arith) tt)
@@ -554,9 +554,9 @@ unfolding after frames_after
 fit_shape =
     let p : List Placed = [] in
     let locals : List (Option Kind) = Some kinds.Long ∷ None ∷ Some kinds.Int ∷ [] in
-    let t0 : Told three_slots returns_first p 0 (kinds_of locals []) (Load kinds.Long 0) (kinds_of locals (kinds.Long ∷ [])) =
+    let t0 : Reported three_slots returns_first p 0 (kinds_of locals []) (Load kinds.Long 0) (kinds_of locals (kinds.Long ∷ [])) =
     record { state = refl; at = refl; found = refl } in
-    let t1 : Told three_slots returns_first p 1 (kinds_of locals (kinds.Long ∷ [])) (Return (Some kinds.Long)) (kinds_of locals []) =
+    let t1 : Reported three_slots returns_first p 1 (kinds_of locals (kinds.Long ∷ [])) (Return (Some kinds.Long)) (kinds_of locals []) =
     record { state = (_, _, t0.state, t0.at, refl, t0.found); at = refl; found = refl } in
     let h0 = goes_on_with three_slots returns_first p 0 _ _ _ t0 (no_ranges returns_first p 0 _ refl) tt (omega arith) tt in
     let h1 = ended_with three_slots returns_first p 1 _ _ _ t1 (no_ranges returns_first p 1 _ refl) tt refl in
@@ -673,23 +673,23 @@ module _ (start end : ℕ) where
 
   guarded_1 : Guarded 1 (kinds_of alone (kinds.Int ∷ [])) (Store kinds.Int 1) (kinds_of with_int [])
   unfolding after
-  guarded_1 = then_told guarded_0 refl refl refl refl
+  guarded_1 = then_reported guarded_0 refl refl refl refl
 
   guarded_2 : Guarded 2 (kinds_of with_int []) Nop (kinds_of with_int [])
   unfolding after
-  guarded_2 = then_told guarded_1 refl refl refl refl
+  guarded_2 = then_reported guarded_1 refl refl refl refl
 
   guarded_3 : Guarded 3 (kinds_of with_int []) push_null (kinds_of with_int (kinds.Ref ∷ []))
   unfolding after
-  guarded_3 = then_told guarded_2 refl refl refl refl
+  guarded_3 = then_reported guarded_2 refl refl refl refl
 
   guarded_4 : Guarded 4 (kinds_of with_int (kinds.Ref ∷ [])) (Store kinds.Ref 1) (kinds_of with_two [])
   unfolding after
-  guarded_4 = then_told guarded_3 refl refl refl refl
+  guarded_4 = then_reported guarded_3 refl refl refl refl
 
   guarded_5 : Guarded 5 (kinds_of with_two []) (Return None) (kinds_of with_two [])
   unfolding after
-  guarded_5 = then_told guarded_4 refl refl refl refl
+  guarded_5 = then_reported guarded_4 refl refl refl refl
 
   guarded_6 : Guarded 6 (kinds_of with_int (kinds.Ref ∷ [])) (Return None) (kinds_of with_int (kinds.Ref ∷ []))
   unfolding after

@@ -5,7 +5,7 @@ use Rattle.dj_names.specs.declared.descriptor.Kind.{Kind}
 use Rattle.dj_straight.specs.trusted.Program.{Code}
 use Rattle.dj_straight.specs.trusted.StackMaps.{StackMapFrame}
 use Rattle.dj_straight.specs.trusted.FrameKinds.{Signature, Kinds, kind_slots, Entries, stack_of, form_entries, fitting, Placed, Frames, Read, Faulty, NoMap, with_fitting, with_frame, parameter_entries, frames_after, frames_in, frames_of, placed_at}
-use Rattle.dj_straight.specs.trusted.Shape.{ParametersFit, after, TellsOr, StateBefore, Holds, IsFirstFault, IsFrameOrFault, IsNumberedFault, IsShapeFault}
+use Rattle.dj_straight.specs.trusted.Shape.{ParametersFit, after, IsFrameOr, StateBefore, Holds, IsFirstFault, IsFrameOrFault, IsNumberedFault, IsShapeFault}
 use Rattle.dj_straight.specs.Shape.{HasShape, AllHold}
 
 -- an empty stack map has no kinds
@@ -32,14 +32,14 @@ pub is_fault : (signature : Signature) (code : Code) (n : ℕ) → code.frames �
 is_fault signature code n e fit fault =
     is_numbered signature code n [] e (inr (fit, subst (λ frames. IsFrameOrFault signature code frames n) (sym (no_frames signature code e)) fault))
 
-tells_one : (told : Option Kinds) (a b : Kinds) (x y : Type 0) → TellsOr told a x → TellsOr told b y → (x → y → a ≡ b) → a ≡ b
-tells_one None a b x y p q same = same p q
-tells_one (Some k) a b x y p q same = p ∙ sym q
+says_one : (reported : Option Kinds) (a b : Kinds) (x y : Type 0) → IsFrameOr reported a x → IsFrameOr reported b y → (x → y → a ≡ b) → a ≡ b
+says_one None a b x y p q same = same p q
+says_one (Some k) a b x y p q same = p ∙ sym q
 
 pub one_state : (signature : Signature) (code : Code) (placed : List Placed) (n : ℕ) (a b : Kinds) → StateBefore signature code placed n a
     → StateBefore signature code placed n b → a ≡ b
-one_state signature code placed zero a b x y = tells_one (placed_at placed zero) a b _ _ x y (λ p q. p ∙ sym q)
-one_state signature code placed (suc n) a b x y = tells_one (placed_at placed (suc n)) a b _ _ x y (λ p q.
+one_state signature code placed zero a b x y = says_one (placed_at placed zero) a b _ _ x y (λ p q. p ∙ sym q)
+one_state signature code placed (suc n) a b x y = says_one (placed_at placed (suc n)) a b _ _ x y (λ p q.
     let before : p.0 ≡ q.0 = one_state signature code placed n p.0 q.0 p.2 q.2 in
     let instructions : Some p.1 ≡ Some q.1 = sym p.3 ∙ q.3 in
     let instruction : p.1 ≡ q.1 = cc in

@@ -19,8 +19,8 @@ returns = record {
   popped = (10, refl);
   other_slot = (8, refl);
   int_slot = (18, refl);
-  told_slot = (18, refl);
-  told_reference = (8, refl);
+  reported_slot = (18, refl);
+  reported_reference = (8, refl);
 }
 
 ints : WorkedInts

@@ -26,6 +26,6 @@ array_is base true h = array_straight base (eqb-true base 8 h)
 array_is base false h = array_other base (eqb-false base 8 h)
 
 -- newarray is straight where it makes an array of bytes
-pub array_tells : (base : ℕ) (instr : Instr) → instr ≡ instrs.Array base → MatchBool (nat_eq base 8) (IsStraight instr) (IsStraight instr → ⊥)
-array_tells base instr e =
+pub array_says : (base : ℕ) (instr : Instr) → instr ≡ instrs.Array base → MatchBool (nat_eq base 8) (IsStraight instr) (IsStraight instr → ⊥)
+array_says base instr e =
     subst (λ (i : Instr). MatchBool (nat_eq base 8) (IsStraight i) (IsStraight i → ⊥)) (sym e) (array_is base (nat_eq base 8) refl)

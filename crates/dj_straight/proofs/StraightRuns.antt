@@ -26,7 +26,7 @@ use Rattle.dj_straight.proofs.Turns.{Stands, turns_more, turns_next, turns_raise
 use Rattle.dj_straight.proofs.Sound.{sound_effect}
 use Rattle.dj_straight.proofs.Programs.{same_effect, same_amounts}
 use Rattle.dj_straight.proofs.Shapes.{one_state}
-use Rattle.dj_straight.specs.declared.machine.Ending.{Ending}
+use Rattle.dj_straight.specs.declared.machine.StraightEnding.{StraightEnding}
 use Rattle.dj_straight.specs.declared.machine.turns.Advance.TheVariants as ways
 use Rattle.dj_straight.specs.declared.program.Action.{Action}
 use Rattle.dj_straight.specs.trusted.Methods.{straight_signature}
@@ -198,7 +198,7 @@ module _ (code : Code) (input : List ℕ) (most : Thresholds) (number : ℕ) (i 
       turns_broken program most (state_at program entry input number p costs) (frame_at entry number p) code i (stands program entry plain) now (its_payment program _ payment) q (its_effect program _ e)
       ∙ ap (λ (o : Outcome). Ends o now) (sym end)
 
-  pub runs_to : (next : StraightPart) (e : Ending) → TurnsDo most costs i p next (ways.End e)
+  pub runs_to : (next : StraightPart) (e : StraightEnding) → TurnsDo most costs i p next (ways.End e)
       → (program : Program) (entry : MethodName) → IsPlainEntry program entry code → RunsTo program entry input most e.outcome e.costs
   runs_to next e (inl done) program entry plain =
       let payment : paid most costs (straight_amounts i p.operands) ≡ model.Paid e.costs = done.1 ∙ ap model.Paid (sym done.2.0) in
@@ -241,6 +241,6 @@ straight_flow heap (Raise raised) outcome end = rw end tt
 straight_flow heap (Back result) outcome end = rw end (straight_result heap result)
 straight_flow heap Broken outcome end = rw end tt
 
-pub straight_end : (most : Thresholds) (costs : Costs) (i : Instruction) (p next : StraightPart) (e : Ending) → TurnsDo most costs i p next (ways.End e) → IsStraightEnd e.outcome
+pub straight_end : (most : Thresholds) (costs : Costs) (i : Instruction) (p next : StraightPart) (e : StraightEnding) → TurnsDo most costs i p next (ways.End e) → IsStraightEnd e.outcome
 straight_end most costs i p next e (inl done) = straight_flow done.2.1.heap done.2.2 e.outcome done.2.4
 straight_end most costs i p next e (inr stopped) = rw stopped.1 tt

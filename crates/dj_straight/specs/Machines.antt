@@ -8,7 +8,7 @@ use Rattle.dj_straight.specs.trusted.Effects as model
 use Rattle.dj_straight.specs.trusted.Effects.{Terms, StraightPart, Effect, effect, goes}
 use Rattle.dj_straight.specs.declared.machine.heap.Found.{Found}
 use Rattle.dj_straight.specs.declared.machine.heap.Found.TheVariants as founds
-use Rattle.dj_straight.specs.declared.machine.parts.Machine.{Machine}
+use Rattle.dj_straight.specs.declared.machine.parts.StraightMachine.{StraightMachine}
 use Rattle.dj_straight.specs.declared.machine.parts.Progress.{Progress}
 use Rattle.dj_straight.specs.declared.machine.parts.Progress.TheVariants as ways
 
@@ -21,7 +21,7 @@ abbrev pub IsShort : Found → Type 0
 IsShort (founds.Bytes bytes) = length bytes.now < 2 ^ 31
 IsShort _ = ⊤
 
-abbrev pub machine_view : Machine → StraightPart
+abbrev pub machine_view : StraightMachine → StraightPart
 machine_view m = record { locals = m.locals.items; operands = m.operands; heap = m.heap; statics = []; literals = [] }
 
 -- without a limit on the heap
@@ -33,13 +33,13 @@ abbrev pub straight_effect : Instruction → StraightPart → Option Effect
 straight_effect i p = effect [] straight_terms i p
 
 -- the effect of an instruction that goes on in this way, from the first part to the second
-abbrev pub told : StraightPart → StraightPart → Progress → Option Effect
-told before after ways.Next = Some (goes after model.Next)
-told before after (ways.Raises raised) = Some (goes before (model.Raise raised))
-told before after (ways.Returns reference) = Some (goes after (model.Back (Some (values.Ref reference))))
-told before after ways.Broken = Some (goes before model.Broken)
-told before after ways.IllFormed = None
+abbrev pub reported : StraightPart → StraightPart → Progress → Option Effect
+reported before after ways.Next = Some (goes after model.Next)
+reported before after (ways.Raises raised) = Some (goes before (model.Raise raised))
+reported before after (ways.Returns reference) = Some (goes after (model.Back (Some (values.Ref reference))))
+reported before after ways.Broken = Some (goes before model.Broken)
+reported before after ways.IllFormed = None
 
 -- the instruction has this effect
 abbrev pub Does : Instruction → StraightPart → StraightPart → Progress → Type 0
-Does i before after way = straight_effect i before ≡ told before after way
+Does i before after way = straight_effect i before ≡ reported before after way

@@ -123,9 +123,9 @@ pub record WorkedReturns : Type 0 where
   -- bipush 7, istore_2, iload_2
   pub int_slot : Pushes (instrs.Push 16 (pos 7) ∷ op 61 ∷ op 28 ∷ []) [] 7
   -- bipush 7, istore 2, iload 2
-  pub told_slot : Pushes (instrs.Push 16 (pos 7) ∷ instrs.Local 54 2 false ∷ instrs.Local 21 2 false ∷ []) [] 7
+  pub reported_slot : Pushes (instrs.Push 16 (pos 7) ∷ instrs.Local 54 2 false ∷ instrs.Local 21 2 false ∷ []) [] 7
   -- aload 0, astore 2, aload 2, areturn
-  pub told_reference : Returns (instrs.Local 25 0 false ∷ instrs.Local 58 2 false ∷ instrs.Local 25 2 false ∷ op 176 ∷ []) (9 ∷ []) (9 ∷ []) 0
+  pub reported_reference : Returns (instrs.Local 25 0 false ∷ instrs.Local 58 2 false ∷ instrs.Local 25 2 false ∷ op 176 ∷ []) (9 ∷ []) (9 ∷ []) 0
 
 -- ints
 pub record WorkedInts : Type 0 where

@@ -14,7 +14,7 @@ pub use laws::{
     no_fault_with_shape, one_end, one_shape_fault, same_in_every_program, shape_or_fault,
     sound_effect, straight_code_ends, worked_runs,
 };
-pub use machine::{Ending, run_method};
+pub use machine::{StraightEnding, run_method};
 pub use program::{Action, DESCRIPTOR, IntOperation, StraightClass, StraightMethod};
 pub use shape::shape_fault;
 pub use straight::{StraightSet, straight_set};

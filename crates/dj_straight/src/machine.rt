@@ -26,7 +26,7 @@ use turns::Advance;
 
 /// How a run went.
 #[derive(Drop)]
-pub struct Ending {
+pub struct StraightEnding {
     pub outcome: Outcome,
     pub costs: Costs,
 }
@@ -44,7 +44,7 @@ pub fn run_method(
     method: &StraightMethod,
     input: &[u8],
     thresholds: Thresholds,
-) -> Result<Ending, RulesError>
+) -> Result<StraightEnding, RulesError>
     requires some { 0 < length method.now.actions.items }
     requires shape { HasShape straight_signature (code_view method.now) }
     requires input { length input.now ≤ 1048576 }

@@ -17,8 +17,8 @@ use Rattle.dj_asm.specs.trusted.Large.{is_interface, is_field, is_method, is_cat
 -- ---- ranges are counted over a method
 
 -- those before the line in its method
-one_past : (s : Source) (place : ℕ) (body front : List Line) (line : Line) → IsMethodLine s place body front line → is_catch line ≡ true → 65535 ≤ count_by is_catch front → IsPastCatches s place
-one_past s place body front line at such many = record { body = body; front = front; line = line; at = at; too_many = record { such = such; many = many } }
+one_past : (s : Source) (place : ℕ) (body prefix : List Line) (line : Line) → IsMethodLine s place body prefix line → is_catch line ≡ true → 65535 ≤ count_by is_catch prefix → IsPastCatches s place
+one_past s place body prefix line at such many = record { body = body; prefix = prefix; line = line; at = at; too_many = record { such = such; many = many } }
 
 count_append : (xs ys : List Line) → count_by is_catch (xs ++ ys) ≡ count_by is_catch xs + count_by is_catch ys
 count_append xs ys = sum_by-append (λ l. cond (is_catch l) 1 0) xs ys
@@ -36,12 +36,12 @@ few_in_each s few place past =
     let in_method = at.in_method in
     let among : Contains s.methods in_method.method =
     subst (λ l. Contains l in_method.method) (sym in_method.methods)
-    (Contains-append_right in_method.front (in_method.method ∷ in_method.rest) in_method.method (in_here in_method.method in_method.rest)) in
+    (Contains-append_right in_method.prefix (in_method.method ∷ in_method.rest) in_method.method (in_here in_method.method in_method.rest)) in
     let within : count_by is_catch (method_lines in_method.method) ≤ 65535 = each_in IsFew s.methods in_method.method few among in
-    let parts : method_lines in_method.method ≡ past.front ++ past.line ∷ at.rest = sym in_method.lines_are ∙ at.parts in
-    let all : count_by is_catch (past.front ++ past.line ∷ at.rest) ≤ 65535 = subst (λ l. count_by is_catch l ≤ 65535) parts within in
+    let parts : method_lines in_method.method ≡ past.prefix ++ past.line ∷ at.rest = sym in_method.lines_are ∙ at.parts in
+    let all : count_by is_catch (past.prefix ++ past.line ∷ at.rest) ≤ 65535 = subst (λ l. count_by is_catch l ≤ 65535) parts within in
     let many = past.too_many.many in
-    omega (arith, all, many, count_append past.front (past.line ∷ at.rest), count_one past.line at.rest past.too_many.such)
+    omega (arith, all, many, count_append past.prefix (past.line ∷ at.rest), count_one past.line at.rest past.too_many.such)
 
 abbrev row : Aside
 row = Catch None (codes "L") (codes "L") (codes "L")
@@ -106,12 +106,12 @@ most_types types size frame = by (subst HasLongLists (sym (ap frame_of frame.at)
 abbrev least : Source
 least = record { flags = 33; name = codes "A"; version = None; super = codes "A"; interfaces = []; fields = []; methods = [] }
 
-no_methods : (front : List MethodSource) (method : MethodSource) (rest : List MethodSource) → [] ≡ front ++ method ∷ rest → ⊥
+no_methods : (prefix : List MethodSource) (method : MethodSource) (rest : List MethodSource) → [] ≡ prefix ++ method ∷ rest → ⊥
 no_methods [] method rest e = absurd cc
-no_methods (first ∷ front) method rest e = absurd cc
+no_methods (first ∷ prefix) method rest e = absurd cc
 
 no_method_lines : (before : ℕ) (body : List Line) → AreMethodLines least before body → ⊥
-no_method_lines before body are = no_methods are.front are.method are.rest are.methods
+no_method_lines before body are = no_methods are.prefix are.method are.rest are.methods
 
 index_text : index_in least (Utf8 (codes "A")) ≡ 1
 unfolding methods_needs each_once index_of

@@ -71,10 +71,10 @@ body = Beside (Labelled label) ∷ Does (Jump 167 label) ∷ Beside (Labelled la
 
 -- it stands where the first defines it
 at_first : IsLabelAt body label 0
-at_first = record { front = []; rest = Does (Jump 167 label) ∷ Beside (Labelled label) ∷ []; parts = refl; first = tt; number_is = refl }
+at_first = record { prefix = []; rest = Does (Jump 167 label) ∷ Beside (Labelled label) ∷ []; parts = refl; first = tt; number_is = refl }
 
 -- and not where the last does
-first_alone : (front rest : List Line) → body ≡ front ++ Beside (Labelled label) ∷ rest → AllByRecursion (λ line. line ≢ Beside (Labelled label)) front → instruction_count front ≡ 0
+first_alone : (prefix rest : List Line) → body ≡ prefix ++ Beside (Labelled label) ∷ rest → AllByRecursion (λ line. line ≢ Beside (Labelled label)) prefix → instruction_count prefix ≡ 0
 first_alone [] rest e none = refl
 first_alone (line ∷ lines) rest e none = absurd (none.0 (sym (head_is e))) where
   head_of : List Line → Line
@@ -86,7 +86,7 @@ first_alone (line ∷ lines) rest e none = absurd (none.0 (sym (head_is e))) whe
 
 not_at_last : IsLabelAt body label 1 → ⊥
 not_at_last at =
-    let none = first_alone at.front at.rest at.parts at.first in
+    let none = first_alone at.prefix at.rest at.parts at.first in
     let is = at.number_is in
     omega (arith, none, is)
 

@@ -41,7 +41,7 @@ not_all : (c : ℕ) (tail : List ℕ) → digit c ≡ false → list_all digit (
 not_all c tail n e = both_ways (digit c) n (and_parts (digit c) (list_all digit tail) e).0
 
 -- so none reaches over it
-no_longer : (b c : ℕ) (front tail : List ℕ) → Stops c → begins_escape (b ∷ front ++ c ∷ tail) ≡ true → begins_escape (b ∷ front) ≡ true
+no_longer : (b c : ℕ) (prefix tail : List ℕ) → Stops c → begins_escape (b ∷ prefix ++ c ∷ tail) ≡ true → begins_escape (b ∷ prefix) ≡ true
 no_longer b c [] tail s e = let p = escape_parts (b ∷ c ∷ tail) e in absurd (both_ways (c == 117) s.other p.second)
 no_longer b c (u ∷ []) tail s e = let p = escape_parts (b ∷ u ∷ c ∷ tail) e in absurd (not_all c (take 3 tail) s.no_digit p.digits)
 no_longer b c (u ∷ d ∷ []) tail s e =
@@ -56,41 +56,41 @@ no_longer b c (u ∷ d ∷ f ∷ g ∷ []) tail s e =
     let q = and_parts (digit d) (list_all digit (f ∷ g ∷ c ∷ [])) p.digits in
     let r = and_parts (digit f) (list_all digit (g ∷ c ∷ [])) q.1 in
     absurd (not_all c [] s.no_digit (and_parts (digit g) (list_all digit (c ∷ [])) r.1).1)
-no_longer b c (u ∷ d ∷ f ∷ g ∷ h ∷ front) tail s e =
-    let p = escape_parts (b ∷ u ∷ d ∷ f ∷ g ∷ h ∷ front ++ c ∷ tail) e in
-    escape_from (b ∷ u ∷ d ∷ f ∷ g ∷ h ∷ front) (ap (λ (n : ℕ). n == 92) p.first) p.second (omega arith) p.digits
+no_longer b c (u ∷ d ∷ f ∷ g ∷ h ∷ prefix) tail s e =
+    let p = escape_parts (b ∷ u ∷ d ∷ f ∷ g ∷ h ∷ prefix ++ c ∷ tail) e in
+    escape_from (b ∷ u ∷ d ∷ f ∷ g ∷ h ∷ prefix) (ap (λ (n : ℕ). n == 92) p.first) p.second (omega arith) p.digits
 
 -- and one that stands before it stays
-still : (b c : ℕ) (front tail : List ℕ) → begins_escape (b ∷ front) ≡ true
-    → (begins_escape (b ∷ front ++ c ∷ tail) ≡ true) × (escaped_unit (b ∷ front ++ c ∷ tail) ≡ escaped_unit (b ∷ front)) × (5 ≤ length front)
+still : (b c : ℕ) (prefix tail : List ℕ) → begins_escape (b ∷ prefix) ≡ true
+    → (begins_escape (b ∷ prefix ++ c ∷ tail) ≡ true) × (escaped_unit (b ∷ prefix ++ c ∷ tail) ≡ escaped_unit (b ∷ prefix)) × (5 ≤ length prefix)
 still b c [] tail e = let p = escape_parts (b ∷ []) e in let l : 6 ≤ length (b ∷ []) = p.long in absurd (omega arith)
 still b c (u ∷ []) tail e = let p = escape_parts (b ∷ u ∷ []) e in let l : 6 ≤ length (b ∷ u ∷ []) = p.long in absurd (omega arith)
 still b c (u ∷ d ∷ []) tail e = let p = escape_parts (b ∷ u ∷ d ∷ []) e in let l : 6 ≤ length (b ∷ u ∷ d ∷ []) = p.long in absurd (omega arith)
 still b c (u ∷ d ∷ f ∷ []) tail e = let p = escape_parts (b ∷ u ∷ d ∷ f ∷ []) e in let l : 6 ≤ length (b ∷ u ∷ d ∷ f ∷ []) = p.long in absurd (omega arith)
 still b c (u ∷ d ∷ f ∷ g ∷ []) tail e = let p = escape_parts (b ∷ u ∷ d ∷ f ∷ g ∷ []) e in let l : 6 ≤ length (b ∷ u ∷ d ∷ f ∷ g ∷ []) = p.long in absurd (omega arith)
-still b c (u ∷ d ∷ f ∷ g ∷ h ∷ front) tail e =
-    let p = escape_parts (b ∷ u ∷ d ∷ f ∷ g ∷ h ∷ front) e in
-    (escape_from (b ∷ u ∷ d ∷ f ∷ g ∷ h ∷ front ++ c ∷ tail) (ap (λ (n : ℕ). n == 92) p.first) p.second (omega arith) p.digits, refl, omega arith)
+still b c (u ∷ d ∷ f ∷ g ∷ h ∷ prefix) tail e =
+    let p = escape_parts (b ∷ u ∷ d ∷ f ∷ g ∷ h ∷ prefix) e in
+    (escape_from (b ∷ u ∷ d ∷ f ∷ g ∷ h ∷ prefix ++ c ∷ tail) (ap (λ (n : ℕ). n == 92) p.first) p.second (omega arith) p.digits, refl, omega arith)
 
-cut : (s c : ℕ) (front tail : List ℕ) → Stops c → s ≤ length front → word_units s (front ++ c ∷ tail) ≡ word_units s front ++ word_units 0 (c ∷ tail)
+cut : (s c : ℕ) (prefix tail : List ℕ) → Stops c → s ≤ length prefix → word_units s (prefix ++ c ∷ tail) ≡ word_units s prefix ++ word_units 0 (c ∷ tail)
 unfolding word_units
 cut zero c [] tail stops few = refl
 cut (suc s) c [] tail stops few = absurd (omega arith)
-cut (suc s) c (b ∷ front) tail stops few = cut s c front tail stops (omega arith)
-cut zero c (b ∷ front) tail stops few =
-    elim (cases_Bool (begins_escape (b ∷ front))) [
+cut (suc s) c (b ∷ prefix) tail stops few = cut s c prefix tail stops (omega arith)
+cut zero c (b ∷ prefix) tail stops few =
+    elim (cases_Bool (begins_escape (b ∷ prefix))) [
       | inl e ↦
-          let p = still b c front tail e in
-          word_escape b (front ++ c ∷ tail) p.0
-          ∙ ap (λ (us : List ℕ). escaped_unit (b ∷ front ++ c ∷ tail) ∷ us) (sym (units_skip 5 (front ++ c ∷ tail)) ∙ cut 5 c front tail stops p.2)
-          ∙ ap (λ (u : ℕ). u ∷ word_units 5 front ++ word_units 0 (c ∷ tail)) p.1
-          ∙ ap (λ (us : List ℕ). escaped_unit (b ∷ front) ∷ us ++ word_units 0 (c ∷ tail)) (units_skip 5 front)
-          ∙ ap (λ (us : List ℕ). us ++ word_units 0 (c ∷ tail)) (sym (word_escape b front e))
+          let p = still b c prefix tail e in
+          word_escape b (prefix ++ c ∷ tail) p.0
+          ∙ ap (λ (us : List ℕ). escaped_unit (b ∷ prefix ++ c ∷ tail) ∷ us) (sym (units_skip 5 (prefix ++ c ∷ tail)) ∙ cut 5 c prefix tail stops p.2)
+          ∙ ap (λ (u : ℕ). u ∷ word_units 5 prefix ++ word_units 0 (c ∷ tail)) p.1
+          ∙ ap (λ (us : List ℕ). escaped_unit (b ∷ prefix) ∷ us ++ word_units 0 (c ∷ tail)) (units_skip 5 prefix)
+          ∙ ap (λ (us : List ℕ). us ++ word_units 0 (c ∷ tail)) (sym (word_escape b prefix e))
       | inr e ↦
-          let n : begins_escape (b ∷ front ++ c ∷ tail) ≡ false = elim (cases_Bool (begins_escape (b ∷ front ++ c ∷ tail))) [ inl h ↦ absurd (both_ways (begins_escape (b ∷ front)) e (no_longer b c front tail stops h)) | inr h ↦ h ] in
-          word_byte b (front ++ c ∷ tail) n
-          ∙ ap (λ (us : List ℕ). b ∷ us) (cut 0 c front tail stops (omega arith))
-          ∙ ap (λ (us : List ℕ). us ++ word_units 0 (c ∷ tail)) (sym (word_byte b front e))
+          let n : begins_escape (b ∷ prefix ++ c ∷ tail) ≡ false = elim (cases_Bool (begins_escape (b ∷ prefix ++ c ∷ tail))) [ inl h ↦ absurd (both_ways (begins_escape (b ∷ prefix)) e (no_longer b c prefix tail stops h)) | inr h ↦ h ] in
+          word_byte b (prefix ++ c ∷ tail) n
+          ∙ ap (λ (us : List ℕ). b ∷ us) (cut 0 c prefix tail stops (omega arith))
+          ∙ ap (λ (us : List ℕ). us ++ word_units 0 (c ∷ tail)) (sym (word_byte b prefix e))
     ]
 
 -- ---- colons
@@ -114,20 +114,20 @@ some_units b bytes =
       | inr e ↦ subst (λ (us : List ℕ). 1 ≤ length us) (sym (word_byte b bytes e)) (omega arith)
     ]
 
-label_then : (front : List ℕ) → 1 ≤ length (word_units 0 front) → label_in (word_units 0 front ++ 58 ∷ []) ≡ Some (word_units 0 front)
-label_then front some =
-    ap (λ (o : Option (List ℕ)). o >>= tested is_some_label) (before_last (word_units 0 front))
-    ∙ ap (λ (t : Bool). cond t (Some (word_units 0 front)) None) (le-leb 1 (length (word_units 0 front)) some)
+label_then : (prefix : List ℕ) → 1 ≤ length (word_units 0 prefix) → label_in (word_units 0 prefix ++ 58 ∷ []) ≡ Some (word_units 0 prefix)
+label_then prefix some =
+    ap (λ (o : Option (List ℕ)). o >>= tested is_some_label) (before_last (word_units 0 prefix))
+    ∙ ap (λ (t : Bool). cond t (Some (word_units 0 prefix)) None) (le-leb 1 (length (word_units 0 prefix)) some)
 
-some_front : (front : List ℕ) → 1 ≤ length front → 1 ≤ length (word_units 0 front)
-some_front [] h = absurd (omega arith)
-some_front (b ∷ front) h = some_units b front
+some_prefix : (prefix : List ℕ) → 1 ≤ length prefix → 1 ≤ length (word_units 0 prefix)
+some_prefix [] h = absurd (omega arith)
+some_prefix (b ∷ prefix) h = some_units b prefix
 
-cut_label : (front rest : List ℕ) → 1 ≤ length front → word_units 0 rest ≡ 58 ∷ [] → label_in (word_units 0 (front ++ rest)) ≡ Some (word_units 0 front)
+cut_label : (prefix rest : List ℕ) → 1 ≤ length prefix → word_units 0 rest ≡ 58 ∷ [] → label_in (word_units 0 (prefix ++ rest)) ≡ Some (word_units 0 prefix)
 unfolding word_units
-cut_label front [] some e = absurd (cc)
-cut_label front (c ∷ tail) some e =
-    ap label_in (cut 0 c front tail (colon_begins c tail [] e) (omega arith) ∙ ap (λ (us : List ℕ). word_units 0 front ++ us) e) ∙ label_then front (some_front front some)
+cut_label prefix [] some e = absurd (cc)
+cut_label prefix (c ∷ tail) some e =
+    ap label_in (cut 0 c prefix tail (colon_begins c tail [] e) (omega arith) ∙ ap (λ (us : List ℕ). word_units 0 prefix ++ us) e) ∙ label_then prefix (some_prefix prefix some)
 
 is_some_map : {A B : Type 0} (f : A → B) (o : Option A) → is_some (option_map f o) ≡ is_some o
 is_some_map f None = refl
@@ -167,7 +167,7 @@ no_units bytes rest e inv = no_label (word_units 0 bytes) (sym inv ∙ ap ends_c
 pub ends_after : (bytes rest after : List ℕ) (unit : ℕ) → word_units 0 rest ≡ unit ∷ word_units 0 after → 1 ≤ length after
     → ends_colon (word_units 0 rest) ≡ ends_colon (word_units 0 bytes) → ends_colon (word_units 0 after) ≡ ends_colon (word_units 0 bytes)
 ends_after bytes rest after unit e some inv =
-    sym (ends_tail unit (word_units 0 after) (some_front after some)) ∙ ap ends_colon (sym e) ∙ inv
+    sym (ends_tail unit (word_units 0 after) (some_prefix after some)) ∙ ap ends_colon (sym e) ∙ inv
 
 -- ---- units from a place on
 

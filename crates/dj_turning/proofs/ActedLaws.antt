@@ -3,7 +3,7 @@ use Rattle.std.proofs.Common.{◌≡◌, ◌<◌, ℕ, Bool, false, List, [], �
 use Rattle.std.specs.Prelude.{Result, Ok, Err, IfOk, ⊤}
 use Rattle.std.specs.Option.{option_map}
 use Rattle.std.proofs.lemmas.Option.{none-some, same_Some}
-use Rattle.dj_names.specs.declared.lists.NoMemory.{NoMemory}
+use Rattle.dj_bytes.specs.declared.memory.NoMemory.{NoMemory}
 use Rattle.dj_names.specs.declared.run.Charge.{Charge}
 use Rattle.dj_names.specs.declared.run.Value.{Value}
 use Rattle.dj_edge.specs.declared.host.HostAnswer.{HostAnswer}
@@ -15,7 +15,7 @@ use Rattle.dj_model.specs.trusted.Effects.{effect}
 use Rattle.dj_model.specs.trusted.Step.{settled, part_of, with_part, frame_with}
 use Rattle.dj_heap.specs.Heaps.{LimitedHeap}
 use Rattle.dj_stack.specs.Frames.{StackFrame, SameFrames, top_locals, top_number}
-use Rattle.dj_effects.specs.Does.{told_operands, way_view}
+use Rattle.dj_effects.specs.Does.{reported_operands, way_view}
 use Rattle.dj_effects.specs.declared.way.Way.{Way}
 use Rattle.dj_effects.specs.declared.way.Way.TheVariants as ways
 use Rattle.dj_calls.specs.Calls.{counting_of}
@@ -27,10 +27,10 @@ use Rattle.dj_initialising.specs.Store.{Store, IsStore, store}
 use Rattle.dj_initialising.specs.Preparing.{parts}
 use Rattle.dj_acting.specs.declared.acted.Acted.{Acted}
 use Rattle.dj_acting.specs.declared.acted.Acted.TheVariants as acts
-use Rattle.dj_acting.specs.Acting.{Acts, IsActed, IsKept, Machine, machine, acted_operands, flow_told, part_with}
+use Rattle.dj_acting.specs.Acting.{Acts, IsActed, IsKept, Machine, machine, acted_operands, flow_reported, part_with}
 use Rattle.dj_settling.specs.declared.settled.Settled.{Settled}
-use Rattle.dj_settling.specs.Told.{told_of}
-use Rattle.dj_settling.specs.Settling.{Settles, settled_told, top_settled}
+use Rattle.dj_settling.specs.Reported.{reported_of}
+use Rattle.dj_settling.specs.Settling.{Settles, settled_reported, top_settled}
 use Rattle.dj_settling.proofs.WayLaws.{settled_alike}
 use Rattle.dj_turning.specs.Running.{Running, account_of, state_of, terms_of}
 use Rattle.dj_turning.specs.Doing.{ActedSettles, FlowSettles, IsStill, TurnsBy, doing}
@@ -59,7 +59,7 @@ acted_some imaged i before after acts.Stuck a some = as_many before.frames after
 acted_some imaged i before after acts.Call a some = subst (λ (m : Machine). 0 < length m.frames) (sym a.1) some
 
 -- it was done, where a flow is reported
-pub acts_of : (imaged : Imaged) (i : Instruction) (before after : Machine) (acted : Acted) (flow : Flow) → flow_told acted ≡ Some flow → IsActed imaged i before after acted → Acts imaged i before after acted
+pub acts_of : (imaged : Imaged) (i : Instruction) (before after : Machine) (acted : Acted) (flow : Flow) → flow_reported acted ≡ Some flow → IsActed imaged i before after acted → Acts imaged i before after acted
 acts_of imaged i before after (acts.Goes way) flow e a = a
 acts_of imaged i before after (acts.Catch exception) flow e a = a
 acts_of imaged i before after acts.Link flow e a = a
@@ -67,7 +67,7 @@ acts_of imaged i before after (acts.HeapFull used size) flow e a = a
 acts_of imaged i before after acts.Stuck flow e a = absurd (none-some flow e)
 acts_of imaged i before after acts.Call flow e a = absurd (none-some flow e)
 
-is_store : (imaged : Imaged) (st : Store) (acted : Acted) (flow : Flow) → flow_told acted ≡ Some flow → IsKept imaged st acted → IsStore imaged st
+is_store : (imaged : Imaged) (st : Store) (acted : Acted) (flow : Flow) → flow_reported acted ≡ Some flow → IsKept imaged st acted → IsStore imaged st
 is_store imaged st (acts.Goes way) flow e kept = kept
 is_store imaged st (acts.Catch exception) flow e kept = kept
 is_store imaged st acts.Link flow e kept = kept
@@ -80,26 +80,26 @@ is_store imaged st acts.Call flow e kept = absurd (none-some flow e)
 module _ (imaged : Imaged) (terms : Terms) (s : State) where
   -- the operands of the effect, or those that the machine has
   abbrev Alike : Flow → Frame Declared → List Value → List (Frame Declared) → Type 0
-  Alike flow g operands below = told_of (top_settled (program_of imaged) imaged.prefix flow terms (record s { frames = record g { operands = operands } ∷ below }))
-      ≡ told_of (top_settled (program_of imaged) imaged.prefix flow terms (record s { frames = g ∷ below }))
+  Alike flow g operands below = reported_of (top_settled (program_of imaged) imaged.prefix flow terms (record s { frames = record g { operands = operands } ∷ below }))
+      ≡ reported_of (top_settled (program_of imaged) imaged.prefix flow terms (record s { frames = g ∷ below }))
 
   way_alike : (old : List StackFrame) (g : StackFrame) (rest : List StackFrame) (below : List (Frame Declared)) (way : Way)
-      → Alike (Goes (way_view way)) (frame_seen (program_of imaged) g) (told_operands old (g ∷ rest) way) below
+      → Alike (Goes (way_view way)) (frame_seen (program_of imaged) g) (reported_operands old (g ∷ rest) way) below
   way_alike old g rest below ways.Next = refl
   way_alike old g rest below (ways.To number) = refl
   way_alike old g rest below (ways.Raise raised) =
-      flow_alike (program_of imaged) imaged.prefix (frame_seen (program_of imaged) g) (told_operands old (g ∷ rest) (ways.Raise raised)) below terms s (Goes (way_view (ways.Raise raised))) tt
+      flow_alike (program_of imaged) imaged.prefix (frame_seen (program_of imaged) g) (reported_operands old (g ∷ rest) (ways.Raise raised)) below terms s (Goes (way_view (ways.Raise raised))) tt
   way_alike old g rest below (ways.Back value) = refl
 
-  acted_alike : (old : List StackFrame) (g : StackFrame) (rest : List StackFrame) (below : List (Frame Declared)) (acted : Acted) (flow : Flow) → flow_told acted ≡ Some flow
+  acted_alike : (old : List StackFrame) (g : StackFrame) (rest : List StackFrame) (below : List (Frame Declared)) (acted : Acted) (flow : Flow) → flow_reported acted ≡ Some flow
       → Alike flow (frame_seen (program_of imaged) g) (acted_operands old (g ∷ rest) acted) below
   acted_alike old g rest below acted flow e = by acted e where
-    left : (acted : Acted) (own : Flow) → flow_told acted ≡ Some own → flow_told acted ≡ Some flow
+    left : (acted : Acted) (own : Flow) → flow_reported acted ≡ Some own → flow_reported acted ≡ Some flow
         → Alike own (frame_seen (program_of imaged) g) (acted_operands old (g ∷ rest) acted) below → Alike flow (frame_seen (program_of imaged) g) (acted_operands old (g ∷ rest) acted) below
     left acted own is e alike =
         subst (λ (x : Flow). Alike x (frame_seen (program_of imaged) g) (acted_operands old (g ∷ rest) acted) below) (same_Some own flow (sym is ∙ e)) alike
 
-    by : (acted : Acted) → flow_told acted ≡ Some flow → Alike flow (frame_seen (program_of imaged) g) (acted_operands old (g ∷ rest) acted) below
+    by : (acted : Acted) → flow_reported acted ≡ Some flow → Alike flow (frame_seen (program_of imaged) g) (acted_operands old (g ∷ rest) acted) below
     by (acts.Goes way) e = left (acts.Goes way) (Goes (way_view way)) refl e (way_alike old g rest below way)
     by (acts.Catch exception) e = left (acts.Catch exception) _ refl e
         (flow_alike (program_of imaged) imaged.prefix (frame_seen (program_of imaged) g) (acted_operands old (g ∷ rest) (acts.Catch exception)) below terms s _ tt)
@@ -122,15 +122,15 @@ module _ (imaged : Imaged) (terms : Terms) (s : State) where
     paid = false;
   } ∷ frames_seen (program_of imaged) (sym same.below i)
 
-  pub left_alike : (f : StackFrame) (below new : List StackFrame) (acted : Acted) (flow : Flow) (p : Part) → flow_told acted ≡ Some flow → SameFrames (f ∷ below) new
+  pub left_alike : (f : StackFrame) (below new : List StackFrame) (acted : Acted) (flow : Flow) (p : Part) → flow_reported acted ≡ Some flow → SameFrames (f ∷ below) new
       → top_number new ≡ top_number (f ∷ below) → p.locals ≡ top_locals new → p.operands ≡ acted_operands (f ∷ below) new acted
-      → told_of (top_settled (program_of imaged) imaged.prefix flow terms (record s { frames = frame_with (frame_seen (program_of imaged) f) p ∷ frames_seen (program_of imaged) below }))
-      ≡ told_of (top_settled (program_of imaged) imaged.prefix flow terms (record s { frames = frames_seen (program_of imaged) new }))
+      → reported_of (top_settled (program_of imaged) imaged.prefix flow terms (record s { frames = frame_with (frame_seen (program_of imaged) f) p ∷ frames_seen (program_of imaged) below }))
+      ≡ reported_of (top_settled (program_of imaged) imaged.prefix flow terms (record s { frames = frames_seen (program_of imaged) new }))
   left_alike f below [] acted flow p e same number locals operands = absurd (let count = same.count in omega (arith, count))
   left_alike f below (g ∷ rest) acted flow p e same number locals operands =
       let P : Program = program_of imaged in
-      (λ i. told_of (top_settled P imaged.prefix flow terms (record s { frames = record (frame_seen P f) { locals = locals i; operands = operands i } ∷ frames_seen P below })))
-      ∙ (ap (λ (frames : List (Frame Declared)). told_of (top_settled P imaged.prefix flow terms (record s { frames = frames })))
+      (λ i. reported_of (top_settled P imaged.prefix flow terms (record s { frames = record (frame_seen P f) { locals = locals i; operands = operands i } ∷ frames_seen P below })))
+      ∙ (ap (λ (frames : List (Frame Declared)). reported_of (top_settled P imaged.prefix flow terms (record s { frames = frames })))
       (left_seen f below g rest (acted_operands (f ∷ below) (g ∷ rest) acted) same number)
       ∙ acted_alike (f ∷ below) g rest (frames_seen P rest) acted flow e)
 
@@ -143,11 +143,11 @@ module _ (imaged : Imaged) (i : Instruction) (flags : List Bool) (st : Store) (c
   abbrev ended : Running
   ended = record { parts = parts flags (store heap m.store.statics m.store.literals) frames; counter = counter; stop = stop }
 
-  tells : (fs : List StackFrame) → 0 < length fs → (acted : Acted) (flow : Flow) (result : Settled) → flow_told acted ≡ Some flow → Acts imaged i (machine fs st) m acted
+  says : (fs : List StackFrame) → 0 < length fs → (acted : Acted) (flow : Flow) (result : Settled) → flow_reported acted ≡ Some flow → Acts imaged i (machine fs st) m acted
       → Settles imaged (account_of counter).exceeded (top_settled (program_of imaged) imaged.prefix flow) m.store.heap heap m.frames frames result
-      → (rest : List HostAnswer) → told_of (doing imaged i (terms_of (begun fs)) (state_of imaged rest (begun fs))) ≡ settled_told result (state_of imaged rest ended)
-  tells [] some acted flow result e a settles rest = absurd (omega (arith, some))
-  tells (f ∷ below) some acted flow result e a settles rest =
+      → (rest : List HostAnswer) → reported_of (doing imaged i (terms_of (begun fs)) (state_of imaged rest (begun fs))) ≡ settled_reported result (state_of imaged rest ended)
+  says [] some acted flow result e a settles rest = absurd (omega (arith, some))
+  says (f ∷ below) some acted flow result e a settles rest =
       let P : Program = program_of imaged in
       let terms : Terms = terms_of (begun (f ∷ below)) in
       let s : State = state_of imaged rest (begun (f ∷ below)) in
@@ -156,22 +156,22 @@ module _ (imaged : Imaged) (i : Instruction) (flags : List Bool) (st : Store) (c
       let p : Part = part_with imaged m (acted_operands (f ∷ below) m.frames acted) (account_of counter) rest in
       let does : effect P imaged.prefix terms F.method.class i (part_of F s) ≡ Some (record { part = p; flow = flow }) =
       a.effect terms F.method.class (account_of counter) rest refl ∙ ap (option_map (λ (x : Flow). record { part = p; flow = x })) e in
-      ap (λ (o : Option Effect). told_of (settled P imaged.prefix terms s F B o)) does
+      ap (λ (o : Option Effect). reported_of (settled P imaged.prefix terms s F B o)) does
       ∙ (settled_alike P imaged.prefix terms (with_part s p) (frame_with F p) B flow
       ∙ (left_alike imaged terms (with_part s p) f below m.frames acted flow p e a.frames a.number refl refl
       ∙ settles.answers terms (with_part s p) (ap Some (sym a.limit)) refl))
 
   pub acted_turns : (fs : List StackFrame) (acted : Acted) (result : Settled) → 0 < length fs → IsStill imaged (begun fs) → IsActed imaged i (machine fs st) m acted
       → ActedSettles imaged (account_of counter).exceeded acted m.store.heap heap m.frames frames result → TurnsBy imaged (doing imaged i) (begun fs) ended [] result
-  acted_turns fs acted result some still is settles = by (flow_told acted) refl settles where
-    by : (o : Option Flow) → flow_told acted ≡ o → FlowSettles imaged (account_of counter).exceeded o m.store.heap heap m.frames frames result
+  acted_turns fs acted result some still is settles = by (flow_reported acted) refl settles where
+    by : (o : Option Flow) → flow_reported acted ≡ o → FlowSettles imaged (account_of counter).exceeded o m.store.heap heap m.frames frames result
         → TurnsBy imaged (doing imaged i) (begun fs) ended [] result
     by None e settles = absurd settles
     by (Some flow) e settles =
         let a = acts_of imaged i (machine fs st) m acted flow e is in
         let kept = is_store imaged m.store acted flow e a.are in
         record {
-          tells = tells fs some acted flow result e a settles;
+          says = says fs some acted flow result e a settles;
           limit = settles.limit ∙ a.limit;
           counting = refl;
           still = record {

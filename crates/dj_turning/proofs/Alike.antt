@@ -12,27 +12,27 @@ use Rattle.dj_model.specs.trusted.State.{Terms, State, Frame, Flow, Way, Next, T
 use Rattle.dj_model.specs.trusted.Arrays.{passes_limit}
 use Rattle.dj_model.specs.trusted.Performing.{class_at_number}
 use Rattle.dj_model.specs.trusted.Step.{Answer, Ended, ends_with, message_of, handler_of, at_handler, unwound, throw, throw_new, new_exception, new_stop, stop_from, throw_stop_or, settle}
-use Rattle.dj_settling.specs.Told.{told_of}
+use Rattle.dj_settling.specs.Reported.{reported_of}
 use Rattle.dj_settling.specs.Settling.{top_settled}
 
 module _ (program : Program) (prefix : Prefix) where
   -- ---- an exception on its way up
 
-  either_told : (b : Bool) (a c d e : Answer) → told_of a ≡ told_of d → told_of c ≡ told_of e → told_of (if b then a else c) ≡ told_of (if b then d else e)
-  either_told true a c d e first second = first
-  either_told false a c d e first second = second
+  either_reported : (b : Bool) (a c d e : Answer) → reported_of a ≡ reported_of d → reported_of c ≡ reported_of e → reported_of (if b then a else c) ≡ reported_of (if b then d else e)
+  either_reported true a c d e first second = first
+  either_reported false a c d e first second = second
 
   unwound_alike : (s : State) (stand : List (Frame Declared)) (class : Ty) (exception : ℕ) (frames : List (Frame Declared))
-      → told_of (unwound program prefix (record s { frames = stand }) class exception frames) ≡ told_of (unwound program prefix s class exception frames)
+      → reported_of (unwound program prefix (record s { frames = stand }) class exception frames) ≡ reported_of (unwound program prefix s class exception frames)
   unfolding unwound
   unwound_alike s stand class exception [] = refl
   unwound_alike s stand class exception (f ∷ below) = by (handler_of program prefix class f.number (code_of program f.method)) (unwound_alike s stand class exception below) where
     by : (handler : Option ℕ)
-        → told_of (unwound program prefix (record s { frames = stand }) class exception below) ≡ told_of (unwound program prefix s class exception below)
-        → told_of (at_handler prefix (record s { frames = stand }) class exception f below handler (unwound program prefix (record s { frames = stand }) class exception below))
-        ≡ told_of (at_handler prefix s class exception f below handler (unwound program prefix s class exception below))
+        → reported_of (unwound program prefix (record s { frames = stand }) class exception below) ≡ reported_of (unwound program prefix s class exception below)
+        → reported_of (at_handler prefix (record s { frames = stand }) class exception f below handler (unwound program prefix (record s { frames = stand }) class exception below))
+        ≡ reported_of (at_handler prefix s class exception f below handler (unwound program prefix s class exception below))
     by (Some handler) above = refl
-    by None above = either_told (is_initialiser f.method) (ends_with prefix (record s { frames = stand }) class (outcomes.Init f.method.class (member_class prefix class) (message_of s.heap exception)))
+    by None above = either_reported (is_initialiser f.method) (ends_with prefix (record s { frames = stand }) class (outcomes.Init f.method.class (member_class prefix class) (message_of s.heap exception)))
         (unwound program prefix (record s { frames = stand }) class exception below) (ends_with prefix s class (outcomes.Init f.method.class (member_class prefix class) (message_of s.heap exception)))
         (unwound program prefix s class exception below) refl above
 
@@ -41,15 +41,15 @@ module _ (program : Program) (prefix : Prefix) where
     g = record f { operands = operands }
 
     thrown_alike : (s : State) (class : Ty) (exception : ℕ)
-        → told_of (unwound program prefix (record s { frames = g ∷ below }) class exception (g ∷ below)) ≡ told_of (unwound program prefix (record s { frames = f ∷ below }) class exception (f ∷ below))
+        → reported_of (unwound program prefix (record s { frames = g ∷ below }) class exception (g ∷ below)) ≡ reported_of (unwound program prefix (record s { frames = f ∷ below }) class exception (f ∷ below))
     unfolding unwound
     thrown_alike s class exception = by (handler_of program prefix class f.number (code_of program f.method)) where
       by : (handler : Option ℕ)
-          → told_of (at_handler prefix (record s { frames = g ∷ below }) class exception g below handler (unwound program prefix (record s { frames = g ∷ below }) class exception below))
-          ≡ told_of (at_handler prefix (record s { frames = f ∷ below }) class exception f below handler (unwound program prefix (record s { frames = f ∷ below }) class exception below))
+          → reported_of (at_handler prefix (record s { frames = g ∷ below }) class exception g below handler (unwound program prefix (record s { frames = g ∷ below }) class exception below))
+          ≡ reported_of (at_handler prefix (record s { frames = f ∷ below }) class exception f below handler (unwound program prefix (record s { frames = f ∷ below }) class exception below))
       by (Some handler) = refl
       by None =
-          either_told (is_initialiser f.method)
+          either_reported (is_initialiser f.method)
           (ends_with prefix (record s { frames = g ∷ below }) class (outcomes.Init f.method.class (member_class prefix class) (message_of s.heap exception)))
           (unwound program prefix (record s { frames = g ∷ below }) class exception below)
           (ends_with prefix (record s { frames = f ∷ below }) class (outcomes.Init f.method.class (member_class prefix class) (message_of s.heap exception)))
@@ -57,9 +57,9 @@ module _ (program : Program) (prefix : Prefix) where
           (unwound_alike s (g ∷ below) class exception below ∙ sym (unwound_alike s (f ∷ below) class exception below))
 
     new_alike : (terms : Terms) (s : State) (object : Object Ty)
-        → told_of (throw_new program prefix terms (record s { frames = g ∷ below }) object) ≡ told_of (throw_new program prefix terms (record s { frames = f ∷ below }) object)
+        → reported_of (throw_new program prefix terms (record s { frames = g ∷ below }) object) ≡ reported_of (throw_new program prefix terms (record s { frames = f ∷ below }) object)
     new_alike terms s object =
-        either_told (passes_limit terms.limit (s.heap.used + object_size object))
+        either_reported (passes_limit terms.limit (s.heap.used + object_size object))
         (Ended (outcomes.HeapFull s.heap.used (object_size object)) (record s { frames = g ∷ below }))
         (throw program prefix (record s { frames = g ∷ below; heap = with_new s.heap object }) (next_number s.heap))
         (Ended (outcomes.HeapFull s.heap.used (object_size object)) (record s { frames = f ∷ below }))
@@ -75,19 +75,19 @@ module _ (program : Program) (prefix : Prefix) where
     Leaves flow = ⊤
 
     pub flow_alike : (terms : Terms) (s : State) (flow : Flow) → Leaves flow
-        → told_of (top_settled program prefix flow terms (record s { frames = g ∷ below })) ≡ told_of (top_settled program prefix flow terms (record s { frames = f ∷ below }))
+        → reported_of (top_settled program prefix flow terms (record s { frames = g ∷ below })) ≡ reported_of (top_settled program prefix flow terms (record s { frames = f ∷ below }))
     unfolding settle
     flow_alike terms s (Goes Next) leaves = absurd leaves
     flow_alike terms s (Goes (To number)) leaves = absurd leaves
     flow_alike terms s (Goes (Raise raised)) leaves = new_alike terms s (new_exception prefix raised)
     flow_alike terms s (Goes (Back result)) leaves = back below where
       back : (rest : List (Frame Declared))
-          → told_of (top_settled program prefix (Goes (Back result)) terms (record s { frames = g ∷ rest })) ≡ told_of (top_settled program prefix (Goes (Back result)) terms (record s { frames = f ∷ rest }))
+          → reported_of (top_settled program prefix (Goes (Back result)) terms (record s { frames = g ∷ rest })) ≡ reported_of (top_settled program prefix (Goes (Back result)) terms (record s { frames = f ∷ rest }))
       back [] = refl
       back (caller ∷ rest) = refl
     flow_alike terms s (Catch exception) leaves = thrown_alike s (class_at_number s.heap exception) exception
     flow_alike terms s Stop leaves = by (stop_from prefix 1 s.heap.objects) where
-      by : (r : Option ℕ) → told_of (throw_stop_or program prefix terms (record s { frames = g ∷ below }) r) ≡ told_of (throw_stop_or program prefix terms (record s { frames = f ∷ below }) r)
+      by : (r : Option ℕ) → reported_of (throw_stop_or program prefix terms (record s { frames = g ∷ below }) r) ≡ reported_of (throw_stop_or program prefix terms (record s { frames = f ∷ below }) r)
       by None = new_alike terms s new_stop
       by (Some r) = thrown_alike s (class_at_number s.heap r) r
     flow_alike terms s (Call method arguments) leaves = absurd leaves

@@ -2,7 +2,7 @@
 use Rattle.std.proofs.Common.{◌≡◌, ◌<◌, ℕ, Bool, false, List, [], ◌∷◌, ◌++◌, length, drop, Option, Some, None, refl, sym, ap, subst, ◌∙◌, arith}
 use Rattle.std.specs.Prelude.{Result, Ok, Err, IfOk, IfSome}
 use Rattle.dj_names.specs.declared.descriptor.Ty.{Ty}
-use Rattle.dj_names.specs.declared.lists.NoMemory.{NoMemory}
+use Rattle.dj_bytes.specs.declared.memory.NoMemory.{NoMemory}
 use Rattle.dj_names.specs.trusted.Types.{Name}
 use Rattle.dj_names.specs.declared.native.NativeId.{NativeId}
 use Rattle.dj_names.specs.declared.run.Charge.{Charge}
@@ -21,9 +21,9 @@ use Rattle.dj_model.proofs.EffectFits as effects
 use Rattle.dj_heap.specs.Heaps.{LimitedHeap}
 use Rattle.dj_stack.specs.Frames.{StackFrame, SameButOperands, top_method, top_operands}
 use Rattle.dj_calls.specs.declared.answer.NativeAnswer.{NativeAnswer}
-use Rattle.dj_calls.specs.declared.answer.NativeAnswer.TheVariants as told
+use Rattle.dj_calls.specs.declared.answer.NativeAnswer.TheVariants as reported
 use Rattle.dj_calls.specs.Counting.{Counter}
-use Rattle.dj_calls.specs.Calls.{KeepsCounter, KeepsHeap, counting_of, flow_told, given, part_with, typed_heap}
+use Rattle.dj_calls.specs.Calls.{KeepsCounter, KeepsHeap, counting_of, flow_reported, given, part_with, typed_heap}
 use Rattle.dj_host.specs.Hosted.{with_answers}
 use Rattle.dj_types.specs.Typed.{types_of}
 use Rattle.dj_image.specs.Imaged.{Imaged, program_of, typed_of}
@@ -33,8 +33,8 @@ use Rattle.dj_members.specs.Literals.{LiteralTable}
 use Rattle.dj_initialising.specs.Preparing.{parts}
 use Rattle.dj_initialising.specs.Store.{store}
 use Rattle.dj_settling.specs.declared.settled.Settled.{Settled}
-use Rattle.dj_settling.specs.Told.{told_of}
-use Rattle.dj_settling.specs.Settling.{IsRewritten, IsStop, KeepsStop, Settles, native_settled, settled_told}
+use Rattle.dj_settling.specs.Reported.{reported_of}
+use Rattle.dj_settling.specs.Settling.{IsRewritten, IsStop, KeepsStop, Settles, native_settled, settled_reported}
 use Rattle.dj_settling.proofs.WayLaws.{settled_alike}
 use Rattle.dj_turning.specs.Running.{Counts, Running, account_of, state_of, terms_of}
 use Rattle.dj_turning.specs.Doing.{IsStill, TurnsBy, doing}
@@ -44,12 +44,12 @@ use Rattle.dj_turning.proofs.Stops.{stop_kept}
 -- ---- who counts
 
 pub same_limit : (old new : LimitedHeap) (answer : NativeAnswer) → KeepsHeap old new answer → new.limit ≡ old.limit
-same_limit old new told.Nothing keeps = keeps
-same_limit old new (told.Gives v) keeps = keeps
-same_limit old new (told.Raise raised) keeps = keeps
-same_limit old new told.Stop keeps = ap (λ (h : LimitedHeap). h.limit) keeps
-same_limit old new (told.Full used size) keeps = ap (λ (h : LimitedHeap). h.limit) keeps
-same_limit old new told.Memory keeps = ap (λ (h : LimitedHeap). h.limit) keeps
+same_limit old new reported.Nothing keeps = keeps
+same_limit old new (reported.Gives v) keeps = keeps
+same_limit old new (reported.Raise raised) keeps = keeps
+same_limit old new reported.Stop keeps = ap (λ (h : LimitedHeap). h.limit) keeps
+same_limit old new (reported.Full used size) keeps = ap (λ (h : LimitedHeap). h.limit) keeps
+same_limit old new reported.Memory keeps = ap (λ (h : LimitedHeap). h.limit) keeps
 
 counting_kept : (old new : Option Counter) → KeepsCounter old new → counting_of new ≡ counting_of old
 counting_kept None None keeps = refl
@@ -103,8 +103,8 @@ module _ (imaged : Imaged) (i : Instruction) (fs : List StackFrame) (heap mid : 
   left x rest = record x { operands = given answer ++ drop count (top_operands fs); heap = typed_heap types mid; account = account_of new; answers = rest }
 
   pub effect_is : (x : Part) (rest : List HostAnswer) (flow : Flow) → x.operands ≡ top_operands fs → x.heap ≡ typed_heap types heap → x.account ≡ account_of old → x.answers ≡ gave ++ rest
-      → flow_told id (arguments_in fs count) answer ≡ Some flow → effect P imaged.prefix terms own i x ≡ Some (record { part = left x rest; flow = flow })
-  effect_is x rest flow operands heap_is account answers_are told =
+      → flow_reported id (arguments_in fs count) answer ≡ Some flow → effect P imaged.prefix terms own i x ≡ Some (record { part = left x rest; flow = flow })
+  effect_is x rest flow operands heap_is account answers_are reported =
       let p : Part = record x { operands = drop count (top_operands fs) } in
       let asked : with_answers (gave ++ rest) p ≡ p = λ k. record p { answers = sym answers_are k } in
       let before : part_with types heap old (with_answers (gave ++ rest) p) ≡ p = ap (part_with types heap old) asked ∙ counted_before types heap old p heap_is account in
@@ -112,25 +112,25 @@ module _ (imaged : Imaged) (i : Instruction) (fs : List StackFrame) (heap mid : 
       counted_after types mid old new (with_answers rest p) answers.counter account in
       calls terms x operands heap_is
       ∙ (ap (λ (y : Part). native P imaged.prefix terms y id (arguments_in fs count)) (sym before)
-      ∙ (answers.does flow told p rest
+      ∙ (answers.does flow reported p rest
       ∙ ap (λ (y : Part). Some (record { part = record y { operands = given answer ++ drop count (top_operands fs) }; flow = flow })) after))
 
-  grows : (flow : Flow) → flow_told id (arguments_in fs count) answer ≡ Some flow → Grows (typed_heap types heap) (typed_heap types mid)
-  grows flow told =
+  grows : (flow : Flow) → flow_reported id (arguments_in fs count) answer ≡ Some flow → Grows (typed_heap types heap) (typed_heap types mid)
+  grows flow reported =
       let x : Part = record { locals = []; operands = top_operands fs; heap = typed_heap types heap; statics = []; literals = []; account = account_of old; answers = gave ++ [] } in
       let fits : Fits terms.counting x (record { part = left x []; flow = flow }) =
-      subst (λ (o : Option Effect). IfSome o (Fits terms.counting x)) (effect_is x [] flow refl refl refl refl told) (effects.effect_fits P imaged.prefix terms own i x) in
+      subst (λ (o : Option Effect). IfSome o (Fits terms.counting x)) (effect_is x [] flow refl refl refl refl reported) (effects.effect_fits P imaged.prefix terms own i x) in
       fits.heap
 
   pub mid_stop : (stop : ℕ) → IsStop imaged heap stop → IsStop imaged mid stop
   mid_stop stop is = by answer refl answers.heap where
     by : (a : NativeAnswer) → answer ≡ a → KeepsHeap heap mid a → IsStop imaged mid stop
-    by told.Nothing e keeps = stop_kept imaged heap mid stop (grows _ (ap (flow_told id (arguments_in fs count)) e)) is
-    by (told.Gives v) e keeps = stop_kept imaged heap mid stop (grows _ (ap (flow_told id (arguments_in fs count)) e)) is
-    by (told.Raise raised) e keeps = stop_kept imaged heap mid stop (grows _ (ap (flow_told id (arguments_in fs count)) e)) is
-    by told.Stop e keeps = subst (λ (h : LimitedHeap). IsStop imaged h stop) (sym keeps) is
-    by (told.Full used size) e keeps = subst (λ (h : LimitedHeap). IsStop imaged h stop) (sym keeps) is
-    by told.Memory e keeps = subst (λ (h : LimitedHeap). IsStop imaged h stop) (sym keeps) is
+    by reported.Nothing e keeps = stop_kept imaged heap mid stop (grows _ (ap (flow_reported id (arguments_in fs count)) e)) is
+    by (reported.Gives v) e keeps = stop_kept imaged heap mid stop (grows _ (ap (flow_reported id (arguments_in fs count)) e)) is
+    by (reported.Raise raised) e keeps = stop_kept imaged heap mid stop (grows _ (ap (flow_reported id (arguments_in fs count)) e)) is
+    by reported.Stop e keeps = subst (λ (h : LimitedHeap). IsStop imaged h stop) (sym keeps) is
+    by (reported.Full used size) e keeps = subst (λ (h : LimitedHeap). IsStop imaged h stop) (sym keeps) is
+    by reported.Memory e keeps = subst (λ (h : LimitedHeap). IsStop imaged h stop) (sym keeps) is
 
 -- ---- what is left of the frames
 
@@ -161,12 +161,12 @@ module _ (imaged : Imaged) (i : Instruction) (flags : List Bool) (statics : List
   abbrev ended : Running
   ended = record { parts = parts flags (store last statics literals) frames; counter = new; stop = next }
 
-  tells : (fs : List StackFrame) (result : Settled) → 0 < length fs → CallsNative imaged i fs heap id count → AnswersNative imaged heap mid old new gave id (arguments_in fs count) answer
+  says : (fs : List StackFrame) (result : Settled) → 0 < length fs → CallsNative imaged i fs heap id count → AnswersNative imaged heap mid old new gave id (arguments_in fs count) answer
       → SameButOperands fs taken → top_operands taken ≡ drop count (top_operands fs)
       → NativeSettles imaged (account_of new).exceeded id (arguments_in fs count) answer mid last taken frames result
-      → (rest : List HostAnswer) → told_of (doing imaged i (terms_of (begun fs)) (state_of imaged (gave ++ rest) (begun fs))) ≡ settled_told result (state_of imaged rest ended)
-  tells [] result some calls answers same operands settles rest = absurd (omega (arith, some))
-  tells (f ∷ below) result some calls answers same operands settles rest =
+      → (rest : List HostAnswer) → reported_of (doing imaged i (terms_of (begun fs)) (state_of imaged (gave ++ rest) (begun fs))) ≡ settled_reported result (state_of imaged rest ended)
+  says [] result some calls answers same operands settles rest = absurd (omega (arith, some))
+  says (f ∷ below) result some calls answers same operands settles rest =
       let P : Program = program_of imaged in
       let terms : Terms = terms_of (begun (f ∷ below)) in
       let s : State = state_of imaged (gave ++ rest) (begun (f ∷ below)) in
@@ -175,11 +175,11 @@ module _ (imaged : Imaged) (i : Instruction) (flags : List Bool) (statics : List
       let G : Frame Declared = record F { operands = drop count f.operands } in
       let H : Frame Declared = record F { operands = given answer ++ drop count f.operands } in
       let t : State = record s { heap = typed_heap (types_of (typed_of imaged)) mid; account = account_of new; answers = rest } in
-      ap (λ (o : Option Effect). told_of (settled P imaged.prefix terms s F B o))
-      (effect_is imaged i (f ∷ below) heap mid old new gave id count answer calls answers (part_of F s) rest settles.flow refl refl refl refl settles.told)
+      ap (λ (o : Option Effect). reported_of (settled P imaged.prefix terms s F B o))
+      (effect_is imaged i (f ∷ below) heap mid old new gave id count answer calls answers (part_of F s) rest settles.flow refl refl refl refl settles.reported)
       ∙ (settled_alike P imaged.prefix terms t H B settles.flow
       ∙ (sym (settled_alike P imaged.prefix terms (record t { frames = G ∷ B }) H B settles.flow)
-      ∙ (ap (λ (frames : List (Frame Declared)). told_of (native_settled P imaged.prefix (given answer) settles.flow terms (record t { frames = frames })))
+      ∙ (ap (λ (frames : List (Frame Declared)). reported_of (native_settled P imaged.prefix (given answer) settles.flow terms (record t { frames = frames })))
       (taken_seen P f below taken (drop count f.operands) same operands)
       ∙ settles.settles.answers terms t (ap Some (sym (same_limit heap mid answer answers.heap))) refl)))
 
@@ -188,7 +188,7 @@ module _ (imaged : Imaged) (i : Instruction) (flags : List Bool) (statics : List
       → NativeSettles imaged (account_of new).exceeded id (arguments_in fs count) answer mid last taken frames result → KeepsStop imaged last stop next
       → TurnsBy imaged (doing imaged i) (begun fs) ended gave result
   native_turns fs result some still calls answers same operands settles kept = record {
-    tells = tells fs result some calls answers same operands settles;
+    says = says fs result some calls answers same operands settles;
     limit = settles.settles.limit ∙ same_limit heap mid answer answers.heap;
     counting = counting_kept old new answers.counter;
     still = record {
@@ -209,8 +209,8 @@ module _ (imaged : Imaged) (i : Instruction) (flags : List Bool) (statics : List
   native_then fs (Ok result) some still calls answers same operands settles kept = native_turns fs result some still calls answers same operands settles kept
 
 pub settles_then : (imaged : Imaged) (exceeded : Option Charge) (id : NativeId) (args : List Value) (answer : NativeAnswer) (before after : LimitedHeap) (old new : List StackFrame)
-    (result : Result Settled NoMemory) (flow : Flow) → flow_told id args answer ≡ Some flow
+    (result : Result Settled NoMemory) (flow : Flow) → flow_reported id args answer ≡ Some flow
     → IfOk result (λ settled. Settles imaged exceeded (native_settled (program_of imaged) imaged.prefix (given answer) flow) before after old new settled)
     → IfOk result (NativeSettles imaged exceeded id args answer before after old new)
-settles_then imaged exceeded id args answer before after old new (Err e) flow told settles = tt
-settles_then imaged exceeded id args answer before after old new (Ok result) flow told settles = record { flow = flow; told = told; settles = settles }
+settles_then imaged exceeded id args answer before after old new (Err e) flow reported settles = tt
+settles_then imaged exceeded id args answer before after old new (Ok result) flow reported settles = record { flow = flow; reported = reported; settles = settles }

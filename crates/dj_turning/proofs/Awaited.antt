@@ -8,7 +8,7 @@ use Rattle.dj_model.specs.trusted.Natives.{reference}
 use Rattle.dj_heap.specs.Heaps.{LimitedHeap}
 use Rattle.dj_stack.specs.Frames.{StackFrame, top_operands, top_room}
 use Rattle.dj_calls.specs.declared.answer.NativeAnswer.{NativeAnswer}
-use Rattle.dj_calls.specs.declared.answer.NativeAnswer.TheVariants as told
+use Rattle.dj_calls.specs.declared.answer.NativeAnswer.TheVariants as reported
 use Rattle.dj_image.specs.Imaged.{Imaged}
 use Rattle.dj_settling.specs.Settling.{IsRewritten, IsThrown, StopsBy}
 use Rattle.dj_turning.specs.Natives.{IsAwaited}
@@ -25,22 +25,22 @@ by_charge imaged h id args other by = by
 -- ---- answers
 
 abbrev pub goes_plainly : NativeAnswer → Bool
-goes_plainly told.Nothing = true
-goes_plainly (told.Raise raised) = true
-goes_plainly (told.Full used size) = true
+goes_plainly reported.Nothing = true
+goes_plainly (reported.Raise raised) = true
+goes_plainly (reported.Full used size) = true
 goes_plainly answer = false
 
 module _ (imaged : Imaged) (h : LimitedHeap) (frames : List StackFrame) (id : NativeId) (args : List Value) where
   pub plainly_awaited : (answer : NativeAnswer) → goes_plainly answer ≡ true → IsAwaited imaged h frames id args answer
-  plainly_awaited told.Nothing e = record { flow = _; told = refl; expected = tt }
-  plainly_awaited (told.Raise raised) e = record { flow = _; told = refl; expected = tt }
-  plainly_awaited (told.Full used size) e = record { flow = _; told = refl; expected = tt }
-  plainly_awaited (told.Gives v) e = absurd (false≢true e)
-  plainly_awaited told.Stop e = absurd (false≢true e)
-  plainly_awaited told.Memory e = absurd (false≢true e)
+  plainly_awaited reported.Nothing e = record { flow = _; reported = refl; expected = tt }
+  plainly_awaited (reported.Raise raised) e = record { flow = _; reported = refl; expected = tt }
+  plainly_awaited (reported.Full used size) e = record { flow = _; reported = refl; expected = tt }
+  plainly_awaited (reported.Gives v) e = absurd (false≢true e)
+  plainly_awaited reported.Stop e = absurd (false≢true e)
+  plainly_awaited reported.Memory e = absurd (false≢true e)
 
-  pub given_awaited : (answer : NativeAnswer) (v : Value) → answer ≡ told.Gives v → length (top_operands frames) < top_room frames → IsAwaited imaged h frames id args answer
-  given_awaited answer v is room = subst (IsAwaited imaged h frames id args) (sym is) (record { flow = _; told = refl; expected = room })
+  pub given_awaited : (answer : NativeAnswer) (v : Value) → answer ≡ reported.Gives v → length (top_operands frames) < top_room frames → IsAwaited imaged h frames id args answer
+  given_awaited answer v is room = subst (IsAwaited imaged h frames id args) (sym is) (record { flow = _; reported = refl; expected = room })
 
-  pub stop_awaited : (answer : NativeAnswer) → answer ≡ told.Stop → StopsBy imaged h id args → IsAwaited imaged h frames id args answer
-  stop_awaited answer is by = subst (IsAwaited imaged h frames id args) (sym is) (record { flow = _; told = refl; expected = by })
+  pub stop_awaited : (answer : NativeAnswer) → answer ≡ reported.Stop → StopsBy imaged h id args → IsAwaited imaged h frames id args answer
+  stop_awaited answer is by = subst (IsAwaited imaged h frames id args) (sym is) (record { flow = _; reported = refl; expected = by })

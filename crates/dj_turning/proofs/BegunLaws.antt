@@ -3,7 +3,7 @@ use Rattle.std.proofs.Common.{◌≡◌, ◌<◌, ℕ, [], List, length, Option,
 use Rattle.std.specs.Prelude.{Result, Ok, Err, IfOk}
 use Rattle.std.proofs.lemmas.Option.{same_Some}
 use Rattle.dj_names.specs.declared.descriptor.Ty.{Ty}
-use Rattle.dj_names.specs.declared.lists.NoMemory.{NoMemory}
+use Rattle.dj_bytes.specs.declared.memory.NoMemory.{NoMemory}
 use Rattle.dj_names.specs.declared.run.Charge.{Charge}
 use Rattle.dj_edge.specs.declared.host.HostAnswer.{HostAnswer}
 use Rattle.dj_model.specs.trusted.Charging.{new_account}
@@ -28,9 +28,9 @@ use Rattle.dj_acting.specs.declared.acted.Acted.{Acted}
 use Rattle.dj_acting.specs.declared.acted.Acted.TheVariants as acts
 use Rattle.dj_acting.specs.declared.begun.Begun.{Begun}
 use Rattle.dj_acting.specs.declared.begun.Begun.TheVariants as begins
-use Rattle.dj_acting.specs.Acting.{Acts, ActsOnHeap, Machine, effect_told, flow_told, machine, part_of}
+use Rattle.dj_acting.specs.Acting.{Acts, ActsOnHeap, Machine, effect_reported, flow_reported, machine, part_of}
 use Rattle.dj_acting.specs.Begun.{BeginsBy, Goes, IsGone, IsKnownAfter, IsKnownThen}
-use Rattle.dj_acting.proofs.Told.{acted_so}
+use Rattle.dj_acting.proofs.Reported.{acted_so}
 use Rattle.dj_settling.specs.declared.settled.Settled.{Settled}
 use Rattle.dj_settling.specs.declared.settled.Settled.TheVariants as settles
 use Rattle.dj_settling.proofs.WayLaws.{went_on, went_to}
@@ -51,7 +51,7 @@ use Rattle.dj_turning.proofs.Turned.{turned, turned_so}
 -- ---- what was done of the instruction
 
 flow_in : (imaged : Imaged) (before after : Machine) (account : Account) (answers : List HostAnswer) (acted : Acted) (e : Effect)
-    → effect_told imaged before after account answers acted ≡ Some e → (flow : Flow) × (flow_told acted ≡ Some flow)
+    → effect_reported imaged before after account answers acted ≡ Some e → (flow : Flow) × (flow_reported acted ≡ Some flow)
 flow_in imaged before after account answers (acts.Goes way) e is = (_, refl)
 flow_in imaged before after account answers (acts.Catch exception) e is = (_, refl)
 flow_in imaged before after account answers acts.Link e is = (_, refl)
@@ -72,7 +72,7 @@ module _ (imaged : Imaged) (first : Running) (running : IsRunning imaged first) 
   left_some = let count = done.frames.count in let some = top.some in omega (arith, count, some)
 
   used : (j : Instruction) → instruction_of_number imaged method number ≡ Some j → IsUsed imaged j None
-  used j told = subst (λ (k : Instruction). IsUsed imaged k None) (same_Some i j (sym at ∙ told)) unused
+  used j reported = subst (λ (k : Instruction). IsUsed imaged k None) (same_Some i j (sym at ∙ reported)) unused
 
   -- and what follows it
   pub left_steps : (after : LimitedHeap) (frames : List StackFrame) (result : Result Settled NoMemory)
@@ -89,20 +89,20 @@ module _ (imaged : Imaged) (first : Running) (running : IsRunning imaged first) 
     abbrev before : Part
     before = part_of imaged (machine first.parts.frames first.parts.store) new_account []
 
-    pub flow_there : (flow : Flow) × (flow_told acted ≡ Some flow)
+    pub flow_there : (flow : Flow) × (flow_reported acted ≡ Some flow)
     flow_there =
         let next = sound_next imaged sound first.parts.frames i running.activations running.standing (next_is imaged first.parts.frames method number top ∙ at) in
         let made = does_soundly imaged sound first.parts.frames i next (terms_of first) [] before refl refl plain in
         flow_in imaged (machine first.parts.frames first.parts.store) (machine left (store heap first.parts.store.statics first.parts.store.literals)) new_account [] acted made.effect.does
         (sym (done.effect (terms_of first) [] new_account [] refl) ∙ made.effect.has)
 
-known_then : (types : List Ty) (heap : LimitedHeap) (acted : Acted) (flow : Flow) → flow_told acted ≡ Some flow → IsKnownAfter types heap acted → AreKnown types heap
-known_then types heap acts.Stuck flow told known = absurd cc
-known_then types heap (acts.Goes way) flow told known = known
-known_then types heap (acts.Catch exception) flow told known = known
-known_then types heap acts.Link flow told known = known
-known_then types heap (acts.HeapFull used size) flow told known = known
-known_then types heap acts.Call flow told known = known
+known_then : (types : List Ty) (heap : LimitedHeap) (acted : Acted) (flow : Flow) → flow_reported acted ≡ Some flow → IsKnownAfter types heap acted → AreKnown types heap
+known_then types heap acts.Stuck flow reported known = absurd cc
+known_then types heap (acts.Goes way) flow reported known = known
+known_then types heap (acts.Catch exception) flow reported known = known
+known_then types heap acts.Link flow reported known = known
+known_then types heap (acts.HeapFull used size) flow reported known = known
+known_then types heap acts.Call flow reported known = known
 
 -- ---- the first part
 
@@ -145,7 +145,7 @@ module _ (imaged : Imaged) (first : Running) (sound : IsSound (program_of imaged
         does = does;
         known = known_then (types_of (typed_of imaged)) heap acted flow.0 flow.1 known;
         flow = flow.0;
-        told = flow.1;
+        reported = flow.1;
         is = refl;
       }
 

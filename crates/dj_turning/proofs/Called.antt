@@ -5,7 +5,7 @@ use Rattle.std.proofs.lemmas.Option.{none-some, same_Some}
 use Rattle.dj_names.specs.declared.descriptor.Desc.{Desc}
 use Rattle.dj_names.specs.declared.descriptor.Kind.{Kind}
 use Rattle.dj_names.specs.declared.descriptor.Kind.TheVariants as tags
-use Rattle.dj_names.specs.declared.lists.NoMemory.{NoMemory}
+use Rattle.dj_bytes.specs.declared.memory.NoMemory.{NoMemory}
 use Rattle.dj_names.specs.declared.native.NativeId.{NativeId}
 use Rattle.dj_names.specs.declared.run.Outcome.TheVariants as outcomes
 use Rattle.dj_names.specs.declared.run.Raised.{Raised}
@@ -46,8 +46,8 @@ use Rattle.dj_invoking.proofs.Calling.{deep_called, entered_called}
 use Rattle.dj_invoking.proofs.SignatureFacts.{kinds_there}
 use Rattle.dj_settling.specs.declared.settled.Settled.{Settled}
 use Rattle.dj_settling.specs.declared.settled.Settled.TheVariants as settles
-use Rattle.dj_settling.specs.Told.{told_of}
-use Rattle.dj_settling.specs.Settling.{IsStop, Settles, raising, settled_told}
+use Rattle.dj_settling.specs.Reported.{reported_of}
+use Rattle.dj_settling.specs.Settling.{IsStop, Settles, raising, settled_reported}
 use Rattle.dj_turning.specs.Running.{Running, account_of, state_of, terms_of}
 use Rattle.dj_turning.specs.Doing.{IsStill, TurnsBy, doing}
 use Rattle.dj_turning.specs.Natives.{AreGiven, CallsNative, IsQuiet}
@@ -84,57 +84,57 @@ module _ (imaged : Imaged) (called : Mode) (m : Member) where
     abbrev run : List StackFrame → Running
     run fs = record { parts = parts flags st fs; counter = counter; stop = stop }
 
-    abbrev Told : List StackFrame → List StackFrame → Settled → Type 0
-    Told old new result =
-        (rest : List HostAnswer) → told_of (doing imaged i (terms_of (run old)) (state_of imaged rest (run old))) ≡ settled_told result (state_of imaged rest (run new))
+    abbrev Reported : List StackFrame → List StackFrame → Settled → Type 0
+    Reported old new result =
+        (rest : List HostAnswer) → reported_of (doing imaged i (terms_of (run old)) (state_of imaged rest (run old))) ≡ settled_reported result (state_of imaged rest (run new))
 
     -- so the run goes on with what is left
-    goes_told : (f : StackFrame) (below : List StackFrame) (taken : ℕ) (flow : Flow) → CallIs (of (f ∷ below) st.heap) (λ terms p. Some (goes (left_part (of (f ∷ below) st.heap) taken p) flow))
-        → (rest : List HostAnswer) → told_of (doing imaged i (terms_of (run (f ∷ below))) (state_of imaged rest (run (f ∷ below))))
-        ≡ told_of (settle P imaged.prefix (terms_of (run (f ∷ below))) (state_of imaged rest (run (f ∷ below)))
+    goes_reported : (f : StackFrame) (below : List StackFrame) (taken : ℕ) (flow : Flow) → CallIs (of (f ∷ below) st.heap) (λ terms p. Some (goes (left_part (of (f ∷ below) st.heap) taken p) flow))
+        → (rest : List HostAnswer) → reported_of (doing imaged i (terms_of (run (f ∷ below))) (state_of imaged rest (run (f ∷ below))))
+        ≡ reported_of (settle P imaged.prefix (terms_of (run (f ∷ below))) (state_of imaged rest (run (f ∷ below)))
         (record (frame_seen P f) { operands = left_values (of (f ∷ below) st.heap) taken }) (frames_seen P below) flow)
-    goes_told f below taken flow does rest =
+    goes_reported f below taken flow does rest =
         let terms : Terms = terms_of (run (f ∷ below)) in
         let s : State = state_of imaged rest (run (f ∷ below)) in
-        ap (λ (o : Option Effect). told_of (settled P imaged.prefix terms s (frame_seen P f) (frames_seen P below) o))
+        ap (λ (o : Option Effect). reported_of (settled P imaged.prefix terms s (frame_seen P f) (frames_seen P below) o))
         (effect_is (f ∷ below) st.heap (λ terms p. Some (goes (left_part (of (f ∷ below) st.heap) taken p) flow)) does terms (part_of (frame_seen P f) s) refl refl)
 
-    link_told : (old new : List StackFrame) → 0 < length old → GoesOn (of old st.heap) new (End outcomes.Link) → Told old new (settles.Ended outcomes.Link)
+    link_reported : (old new : List StackFrame) → 0 < length old → GoesOn (of old st.heap) new (End outcomes.Link) → Reported old new (settles.Ended outcomes.Link)
     unfolding settle
-    link_told [] new some g rest = absurd (omega (arith, some))
-    link_told (f ∷ below) new some g rest = goes_told f below g.taken (End outcomes.Link) g.does rest
+    link_reported [] new some g rest = absurd (omega (arith, some))
+    link_reported (f ∷ below) new some g rest = goes_reported f below g.taken (End outcomes.Link) g.does rest
 
-    raised_told : (old new frames : List StackFrame) (heap : LimitedHeap) (raised : Raised) (result : Settled) → 0 < length old → GoesOn (of old st.heap) new (Goes (Raise raised))
+    raised_reported : (old new frames : List StackFrame) (heap : LimitedHeap) (raised : Raised) (result : Settled) → 0 < length old → GoesOn (of old st.heap) new (Goes (Raise raised))
         → Settles imaged (account_of counter).exceeded (raising imaged raised) st.heap heap new frames result
-        → (rest : List HostAnswer) → told_of (doing imaged i (terms_of (run old)) (state_of imaged rest (run old)))
-        ≡ settled_told result (state_of imaged rest (record { parts = parts flags (store heap st.statics st.literals) frames; counter = counter; stop = stop }))
+        → (rest : List HostAnswer) → reported_of (doing imaged i (terms_of (run old)) (state_of imaged rest (run old)))
+        ≡ settled_reported result (state_of imaged rest (record { parts = parts flags (store heap st.statics st.literals) frames; counter = counter; stop = stop }))
     unfolding settle
-    raised_told [] new frames heap raised result some g settles rest = absurd (omega (arith, some))
-    raised_told (f ∷ below) new frames heap raised result some g settles rest =
+    raised_reported [] new frames heap raised result some g settles rest = absurd (omega (arith, some))
+    raised_reported (f ∷ below) new frames heap raised result some g settles rest =
         let terms : Terms = terms_of (run (f ∷ below)) in
         let s : State = state_of imaged rest (run (f ∷ below)) in
-        goes_told f below g.taken (Goes (Raise raised)) g.does rest
-        ∙ (ap (λ (fs : List StackFrame). told_of (raising imaged raised terms (record s { frames = frames_seen P fs }))) (sym g.frames)
+        goes_reported f below g.taken (Goes (Raise raised)) g.does rest
+        ∙ (ap (λ (fs : List StackFrame). reported_of (raising imaged raised terms (record s { frames = frames_seen P fs }))) (sym g.frames)
         ∙ settles.answers terms s refl refl)
 
-    entered_told : (old new : List StackFrame) → 0 < length old → Enters (of old st.heap) new → Told old new settles.Went
+    entered_reported : (old new : List StackFrame) → 0 < length old → Enters (of old st.heap) new → Reported old new settles.Went
     unfolding settle
-    entered_told [] new some e rest = absurd (omega (arith, some))
-    entered_told (f ∷ below) new some e rest =
+    entered_reported [] new some e rest = absurd (omega (arith, some))
+    entered_reported (f ∷ below) new some e rest =
         let s : State = state_of imaged rest (run (f ∷ below)) in
-        goes_told f below e.calls.taken (Call (declared_of e.calls.found) (taken_values (of (f ∷ below) st.heap) e.calls.taken)) e.calls.does rest
-        ∙ ap told_of (entered_called (of (f ∷ below) st.heap) new e (declared_at P) s (declared_there P e.calls.method.number e.calls.found e.calls.there))
+        goes_reported f below e.calls.taken (Call (declared_of e.calls.found) (taken_values (of (f ∷ below) st.heap) e.calls.taken)) e.calls.does rest
+        ∙ ap reported_of (entered_called (of (f ∷ below) st.heap) new e (declared_at P) s (declared_there P e.calls.method.number e.calls.found e.calls.there))
 
-    deep_told : (old new : List StackFrame) → 0 < length old → IsTooDeep (of old st.heap) new → Told old new (settles.Ended outcomes.TooDeep)
+    deep_reported : (old new : List StackFrame) → 0 < length old → IsTooDeep (of old st.heap) new → Reported old new (settles.Ended outcomes.TooDeep)
     unfolding settle
-    deep_told [] new some e rest = absurd (omega (arith, some))
-    deep_told (f ∷ below) new some e rest =
+    deep_reported [] new some e rest = absurd (omega (arith, some))
+    deep_reported (f ∷ below) new some e rest =
         let s : State = state_of imaged rest (run (f ∷ below)) in
         let method : Declared = declared_of e.calls.found in
         let args : List Value = taken_values (of (f ∷ below) st.heap) e.calls.taken in
-        goes_told f below e.calls.taken (Call method args) e.calls.does rest
-        ∙ (ap (λ (fs : List StackFrame). told_of (model.called P (record s { frames = frames_seen P fs }) method args)) (sym e.frames)
-        ∙ ap told_of (deep_called (of (f ∷ below) st.heap) new e (declared_at P) s))
+        goes_reported f below e.calls.taken (Call method args) e.calls.does rest
+        ∙ (ap (λ (fs : List StackFrame). reported_of (model.called P (record s { frames = frames_seen P fs }) method args)) (sym e.frames)
+        ∙ ap reported_of (deep_called (of (f ∷ below) st.heap) new e (declared_at P) s))
 
     -- ---- what stands then
 
@@ -147,19 +147,19 @@ module _ (imaged : Imaged) (called : Mode) (m : Member) where
     still_with : (old new : List StackFrame) → IsStill imaged (run old) → AreActivations imaged new → IsStill imaged (run new)
     still_with old new still stand = record { flags = still.flags; store = still.store; activations = stand; known = still.known; counts = still.counts }
 
-    turns_with : (old new : List StackFrame) (result : Settled) → IsStill imaged (run old) → AreActivations imaged new → Told old new result → TurnsBy imaged (doing imaged i) (run old) (run new) [] result
-    turns_with old new result still stand told = record { tells = told; limit = refl; counting = refl; still = still_with old new still stand; stop = inl refl }
+    turns_with : (old new : List StackFrame) (result : Settled) → IsStill imaged (run old) → AreActivations imaged new → Reported old new result → TurnsBy imaged (doing imaged i) (run old) (run new) [] result
+    turns_with old new result still stand reported = record { says = reported; limit = refl; counting = refl; still = still_with old new still stand; stop = inl refl }
 
     pub entered_turns : (old new : List StackFrame) → IsInvoked imaged old called m (run new) invoked.Entered → TurnsBy imaged (doing imaged i) (run old) (run new) [] settles.Went
     entered_turns old new is =
-        turns_with old new settles.Went is.still (entered_stand old new is.invokes is.still.activations) (entered_told old new is.some is.invokes)
+        turns_with old new settles.Went is.still (entered_stand old new is.invokes is.still.activations) (entered_reported old new is.some is.invokes)
 
     pub deep_turns : (old new : List StackFrame) → IsInvoked imaged old called m (run new) invoked.TooDeep
         → TurnsBy imaged (doing imaged i) (run old) (run new) [] (settles.Ended outcomes.TooDeep)
     deep_turns old new is =
         turns_with old new (settles.Ended outcomes.TooDeep) is.still
         (subst (AreActivations imaged) (sym is.invokes.frames) (left_stand imaged (left_values (of old st.heap) is.invokes.calls.taken) old is.still.activations))
-        (deep_told old new is.some is.invokes)
+        (deep_reported old new is.some is.invokes)
 
     goes_stand : (old new : List StackFrame) (flow : Flow) → GoesOn (of old st.heap) new flow → AreActivations imaged old → AreActivations imaged new
     goes_stand old new flow g stand = subst (AreActivations imaged) (sym g.frames) (left_stand imaged (left_values (of old st.heap) g.taken) old stand)
@@ -167,7 +167,7 @@ module _ (imaged : Imaged) (called : Mode) (m : Member) where
     pub link_turns : (old new : List StackFrame) → IsInvoked imaged old called m (run new) invoked.Link
         → TurnsBy imaged (doing imaged i) (run old) (run new) [] (settles.Ended outcomes.Link)
     link_turns old new is =
-        turns_with old new (settles.Ended outcomes.Link) is.still (goes_stand old new (End outcomes.Link) is.invokes is.still.activations) (link_told old new is.some is.invokes)
+        turns_with old new (settles.Ended outcomes.Link) is.still (goes_stand old new (End outcomes.Link) is.invokes is.still.activations) (link_reported old new is.some is.invokes)
 
     pub raised_stand : (old new : List StackFrame) (raised : Raised) → IsInvoked imaged old called m (run new) (invoked.Raise raised) → AreActivations imaged new
     raised_stand old new raised is = goes_stand old new (Goes (Raise raised)) is.invokes is.still.activations
@@ -177,7 +177,7 @@ module _ (imaged : Imaged) (called : Mode) (m : Member) where
         → IfOk result (TurnsBy imaged (doing imaged i) (run old) (record { parts = parts flags (store heap st.statics st.literals) frames; counter = counter; stop = stop }) [])
     raised_then old new frames heap raised (Err e) is settles = tt
     raised_then old new frames heap raised (Ok result) is settles = record {
-      tells = raised_told old new frames heap raised result is.some is.invokes settles;
+      says = raised_reported old new frames heap raised result is.some is.invokes settles;
       limit = settles.limit;
       counting = refl;
       still = record {
@@ -253,11 +253,11 @@ native_given imaged called m flags st counter stop old new id count sound is =
 
 -- ---- a call that was begun
 
-pub invoked_begun : (imaged : Imaged) (called : Mode) (m : Member) (own : ℕ) (r : Running) (new : List StackFrame) (told : Option Invoked) (one : Invoked) → told ≡ Some one
+pub invoked_begun : (imaged : Imaged) (called : Mode) (m : Member) (own : ℕ) (r : Running) (new : List StackFrame) (reported : Option Invoked) (one : Invoked) → reported ≡ Some one
     → class_name (program_of imaged) own ≡ (declared_at (program_of imaged) (top_method r.parts.frames)).class → 0 < length r.parts.frames → IsStill imaged r
-    → IsStop imaged r.parts.store.heap r.stop → Invokes (site imaged r.parts.frames r.parts.store.heap.heap called (class_name (program_of imaged) own) m) new told
+    → IsStop imaged r.parts.store.heap r.stop → Invokes (site imaged r.parts.frames r.parts.store.heap.heap called (class_name (program_of imaged) own) m) new reported
     → IsInvoked imaged r.parts.frames called m (record r { parts = parts r.parts.flags r.parts.store new }) one
-invoked_begun imaged called m own r new told one is named some still stop invokes = record {
+invoked_begun imaged called m own r new reported one is named some still stop invokes = record {
   some = some;
   still = record { flags = still.flags; store = still.store; activations = still.activations; known = still.known; counts = still.counts };
   stop = stop;

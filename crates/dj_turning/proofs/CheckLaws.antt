@@ -21,7 +21,7 @@ use Rattle.dj_types.specs.Typed.{types_of}
 use Rattle.dj_types.specs.Members.{all_methods}
 use Rattle.dj_image.specs.Imaged.{Imaged, program_of, typed_of}
 use Rattle.dj_activations.specs.Activations.{AreActivations, IsActivation, declared_at}
-use Rattle.dj_activations.specs.Told.{IsCodeOf}
+use Rattle.dj_activations.specs.Reported.{IsCodeOf}
 use Rattle.dj_activations.proofs.Standing.{code_of_activation, method_within}
 use Rattle.dj_unwinding.proofs.Tops.{on_top}
 use Rattle.dj_settling.specs.Settling.{IsThrown}
@@ -40,17 +40,17 @@ instance_thrown imaged h r known e = by (object_in h r) refl e where
 
 -- ---- frames by their numbers
 
-last_or_front : (xs : List StackFrame) (g : StackFrame) (n : ℕ) (f : StackFrame) → slice_get (xs ++ g ∷ []) n ≡ Some f → (slice_get xs n ≡ Some f) ⊎ (g ≡ f)
-last_or_front [] g zero f e = inr (same_Some g f e)
-last_or_front [] g (suc n) f e = absurd cc
-last_or_front (x ∷ xs) g zero f e = inl e
-last_or_front (x ∷ xs) g (suc n) f e = last_or_front xs g n f e
+last_or_prefix : (xs : List StackFrame) (g : StackFrame) (n : ℕ) (f : StackFrame) → slice_get (xs ++ g ∷ []) n ≡ Some f → (slice_get xs n ≡ Some f) ⊎ (g ≡ f)
+last_or_prefix [] g zero f e = inr (same_Some g f e)
+last_or_prefix [] g (suc n) f e = absurd cc
+last_or_prefix (x ∷ xs) g zero f e = inl e
+last_or_prefix (x ∷ xs) g (suc n) f e = last_or_prefix xs g n f e
 
 activation_at : (imaged : Imaged) (frames : List StackFrame) (n : ℕ) (f : StackFrame) → AreActivations imaged frames → frame_at frames n ≡ Some f → IsActivation imaged f
 activation_at imaged [] n f stand e = absurd cc
 activation_at imaged (g ∷ below) n f stand e =
-    elim (last_or_front (reverse below) g n f (sym (ap (λ (frames : List StackFrame). slice_get frames n) (reverse_onto below g [])) ∙ e)) [
-      | inl front ↦ activation_at imaged below n f stand.1 front
+    elim (last_or_prefix (reverse below) g n f (sym (ap (λ (frames : List StackFrame). slice_get frames n) (reverse_onto below g [])) ∙ e)) [
+      | inl prefix ↦ activation_at imaged below n f stand.1 prefix
       | inr same ↦ subst (IsActivation imaged) same stand.0
     ]
 
@@ -76,9 +76,9 @@ roomy imaged formed frames n method count code stand m c is less frame at =
     let method_is : frame.method ≡ method = at_frame frames n method (λ (f : StackFrame). f.method) m frame at in
     let count_is : length frame.operands ≡ count = at_frame frames n count (λ (f : StackFrame). length f.operands) c frame at in
     let own : Code = code_in is.pool (parts_of code) in
-    let told : code_of (program_of imaged) (declared_at (program_of imaged) frame.method) ≡ Some own =
+    let reported : code_of (program_of imaged) (declared_at (program_of imaged) frame.method) ≡ Some own =
     ap (λ (k : ℕ). code_of (program_of imaged) (declared_at (program_of imaged) k)) method_is ∙ is.is in
-    let same : act.code ≡ own = same_Some act.code own (sym (code_of_activation imaged formed frame act) ∙ told) in
+    let same : act.code ≡ own = same_Some act.code own (sym (code_of_activation imaged formed frame act) ∙ reported) in
     let most : act.code.max_stack ≡ code.max_stack = ap (λ (k : Code). k.max_stack) same in
     let room = act.room in
     omega (arith, less, count_is, most, room)

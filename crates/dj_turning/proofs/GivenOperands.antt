@@ -138,7 +138,7 @@ method_named imaged instr named e = taken_so imaged instr named (made_so imaged 
 pub given_operand : (imaged : Imaged) → IsNumbered imaged → (method number : ℕ) (instr : Instr) (named : Named) (operand : Operand) (i : Instruction) → IsSound (program_of imaged) imaged.prefix
     → IsInstrAt imaged method number instr named → IsOperandAt imaged method number operand → instruction_of_number imaged method number ≡ Some i → IsFalse (makes i)
     → LoadsByKnown imaged method number → is_given operand ≡ true
-given_operand imaged numbered method number instr named operand i sound at told is none known = by operand used where
+given_operand imaged numbered method number instr named operand i sound at reported is none known = by operand used where
   same : instruction_of instr named ≡ i
   same = same_Some (instruction_of instr named) i (sym at.is ∙ is)
 
@@ -151,7 +151,7 @@ given_operand imaged numbered method number instr named operand i sound at told 
   used : IsOperandUsed imaged instr operand named
   used = record {
     plainly = λ e. nothing_named at.stands.code.pool (index_of instr) named at.stands.names (no_index instr e);
-    is = operand_is imaged method number instr named operand at.stands told;
+    is = operand_is imaged method number instr named operand at.stands reported;
     linked = linked_at imaged sound method number (instruction_of instr named) at.is;
   }
 

@@ -19,7 +19,7 @@ use Rattle.dj_heap.specs.Calls.{made_as}
 use Rattle.dj_heap.specs.declared.object.Made.TheVariants as made
 use Rattle.dj_calls.specs.declared.answer.NativeAnswer.{NativeAnswer}
 use Rattle.dj_calls.specs.Counting.{Counter}
-use Rattle.dj_calls.specs.Calls.{Calls, Does, flow_told}
+use Rattle.dj_calls.specs.Calls.{Calls, Does, flow_reported}
 use Rattle.dj_calls.specs.Known.{IsFitting, IsOfChars}
 use Rattle.dj_host.specs.trusted.Hosted.{given_since}
 use Rattle.dj_host.specs.Hosted.{AreOfKind, CallsHost, Takes, is_hosted, with_answers}
@@ -77,9 +77,9 @@ asks_none id args e = refl
 pub plain_answers : (imaged : Imaged) (old new : LimitedHeap) (before after : Option Counter) (id : NativeId) (args : List Value) (result : NativeAnswer)
     → Calls (program_of imaged) imaged.prefix (types_of (typed_of imaged)) old new before after id args result → AnswersNative imaged old new before after [] id args result
 plain_answers imaged old new before after id args result calls = record {
-  does = λ flow told p rest.
+  does = λ flow reported p rest.
       let does : Does (program_of imaged) imaged.prefix (types_of (typed_of imaged)) old new before after id args result (Some flow) =
-      subst (Does (program_of imaged) imaged.prefix (types_of (typed_of imaged)) old new before after id args result) told calls.does in
+      subst (Does (program_of imaged) imaged.prefix (types_of (typed_of imaged)) old new before after id args result) reported calls.does in
       does (with_answers rest p);
   heap = calls.heap;
   known = calls.known;
@@ -89,9 +89,9 @@ plain_answers imaged old new before after id args result calls = record {
 pub hosted_answers : (imaged : Imaged) (old new : LimitedHeap) (before after : List HostAnswer) (id : NativeId) (args : List Value) (result : NativeAnswer)
     → CallsHost (program_of imaged) imaged.prefix (types_of (typed_of imaged)) old new before after id args result → AnswersNative imaged old new None None (given_since before after) id args result
 hosted_answers imaged old new before after id args result calls = record {
-  does = λ flow told p rest.
+  does = λ flow reported p rest.
       let does : Takes (program_of imaged) imaged.prefix (types_of (typed_of imaged)) old new (given_since before after) id args result (Some flow) =
-      subst (Takes (program_of imaged) imaged.prefix (types_of (typed_of imaged)) old new (given_since before after) id args result) told calls.does in
+      subst (Takes (program_of imaged) imaged.prefix (types_of (typed_of imaged)) old new (given_since before after) id args result) reported calls.does in
       does p rest;
   heap = calls.heap;
   known = calls.known;

@@ -1,7 +1,7 @@
 -- What is asked before the next instruction is done, and what is reported where the host isn't asked.
 use Rattle.std.proofs.Common.{◌≡◌, ◌<◌, ℕ, List, [], length, sym, ap, subst, ◌∙◌}
 use Rattle.std.specs.Prelude.{Result, IfOk}
-use Rattle.dj_names.specs.declared.lists.NoMemory.{NoMemory}
+use Rattle.dj_bytes.specs.declared.memory.NoMemory.{NoMemory}
 use Rattle.dj_edge.specs.declared.host.HostAnswer.{HostAnswer}
 use Rattle.dj_model.specs.trusted.Types.{Declared}
 use Rattle.dj_model.specs.trusted.State.{State, Terms}
@@ -24,10 +24,10 @@ pub still_of : (imaged : Imaged) (r : Running) → IsRunning imaged r → IsStil
 still_of imaged r running = record { flags = running.flags; store = running.store; activations = running.activations; known = running.known; counts = running.counts }
 
 -- the class of the top frame's method
-pub own_class : (imaged : Imaged) (frames : List StackFrame) (method number : ℕ) (told : MemberOf) → IsTop imaged frames method number → IsMethodThere (typed_of imaged) method told
-    → (told.class < length (program_of imaged)) × (class_name (program_of imaged) told.class ≡ (declared_at (program_of imaged) (top_method frames)).class)
-own_class imaged frames method number told top there =
-    let named = class_named (program_of imaged) told.class there.found.class there.class in (
+pub own_class : (imaged : Imaged) (frames : List StackFrame) (method number : ℕ) (reported : MemberOf) → IsTop imaged frames method number → IsMethodThere (typed_of imaged) method reported
+    → (reported.class < length (program_of imaged)) × (class_name (program_of imaged) reported.class ≡ (declared_at (program_of imaged) (top_method frames)).class)
+own_class imaged frames method number reported top there =
+    let named = class_named (program_of imaged) reported.class there.found.class there.class in (
       named.0,
       named.1 ∙ (ap (λ (d : Declared). d.class) (sym (declared_there (program_of imaged) method there.found there.there))
           ∙ ap (λ (k : ℕ). (declared_at (program_of imaged) k).class) top.method_is),

@@ -1,7 +1,7 @@
 -- The initialisation before an instruction, and the step that it begins, are what the model has.
 use Rattle.std.proofs.Common.{◌≡◌, ◌<◌, ◌++◌, ℕ, Bool, true, false, List, [], ◌∷◌, length, reverse, Option, Some, None, refl, sym, ap, subst, ◌∙◌, inl, arith, nat_lt, if◌then◌else◌, ◌+◌}
 use Rattle.std.specs.Prelude.{Result, Ok, Err, IfOk}
-use Rattle.dj_names.specs.declared.lists.NoMemory.{NoMemory}
+use Rattle.dj_bytes.specs.declared.memory.NoMemory.{NoMemory}
 use Rattle.dj_names.specs.declared.run.Outcome.TheVariants as outcomes
 use Rattle.dj_names.specs.trusted.Types.{Name}
 use Rattle.dj_edge.specs.declared.host.HostAnswer.{HostAnswer}
@@ -31,11 +31,11 @@ use Rattle.dj_activations.specs.Activations.{frames_seen}
 use Rattle.dj_activations.specs.Instructions.{instruction_of_number}
 use Rattle.dj_initialising.specs.declared.prepare.Prepared.{Prepared}
 use Rattle.dj_initialising.specs.declared.prepare.Prepared.TheVariants as prepares
-use Rattle.dj_initialising.specs.Preparing.{Parts, Prepares, prepared_told, with_parts}
+use Rattle.dj_initialising.specs.Preparing.{Parts, Prepares, prepared_reported, with_parts}
 use Rattle.dj_settling.specs.declared.settled.Settled.{Settled}
 use Rattle.dj_settling.specs.declared.settled.Settled.TheVariants as settles
-use Rattle.dj_settling.specs.Told.{told_of}
-use Rattle.dj_settling.specs.Settling.{IsStop, KeepsStop, settled_told}
+use Rattle.dj_settling.specs.Reported.{reported_of}
+use Rattle.dj_settling.specs.Settling.{IsStop, KeepsStop, settled_reported}
 use Rattle.dj_turning.specs.Running.{IsRunning, Running, account_of, state_of, terms_of}
 use Rattle.dj_turning.specs.Doing.{IsStill, IsTop, IsUsed, PreparesNext, TurnsBy, doing, doing_next, doing_on, doing_some, next_of, stepping}
 use Rattle.dj_turning.proofs.Stops.{stop_kept}
@@ -159,7 +159,7 @@ module _ (imaged : Imaged) (old new : Running) where
 
   done_prepared : (result : Prepared) → IsRunning imaged old → PreparesNext imaged old new result → (answers : List HostAnswer) → (f : Frame Declared) (below : List (Frame Declared)) (i : Instruction)
       → frames_seen Q old.parts.frames ≡ f ∷ below → instruction_at Q f ≡ Some i
-      → stepping imaged (terms_of old) (state_of imaged answers old) ≡ done Q imaged.prefix (terms_of old) f below i (prepared_told result (with_parts imaged new.parts (base old answers)))
+      → stepping imaged (terms_of old) (state_of imaged answers old) ≡ done Q imaged.prefix (terms_of old) f below i (prepared_reported result (with_parts imaged new.parts (base old answers)))
   unfolding step
   done_prepared result running is answers f below i frames at =
       let terms : Terms = terms_of old in
@@ -193,35 +193,35 @@ module _ (imaged : Imaged) (old new : Running) where
 
   -- so a step begins
   begun : (result : Prepared) → IsRunning imaged old → PreparesNext imaged old new result → (answers : List HostAnswer)
-      → (n : HasNext) × (stepping imaged (terms_of old) (state_of imaged answers old) ≡ done Q imaged.prefix (terms_of old) n.f n.below n.i (prepared_told result (state_of imaged answers new)))
+      → (n : HasNext) × (stepping imaged (terms_of old) (state_of imaged answers old) ≡ done Q imaged.prefix (terms_of old) n.f n.below n.i (prepared_reported result (state_of imaged answers new)))
   begun result running is answers =
       let n = has_next running in (
         n,
         done_prepared result running is answers n.f n.below n.i n.frames n.at
-            ∙ ap (λ (s : State). done Q imaged.prefix (terms_of old) n.f n.below n.i (prepared_told result s)) (same_state result is answers),
+            ∙ ap (λ (s : State). done Q imaged.prefix (terms_of old) n.f n.below n.i (prepared_reported result s)) (same_state result is answers),
       )
 
   turns_so : (result : Prepared) (settled : Settled) → PreparesNext imaged old new result
-      → ((rest : List HostAnswer) → told_of (stepping imaged (terms_of old) (state_of imaged rest old)) ≡ settled_told settled (state_of imaged rest new))
+      → ((rest : List HostAnswer) → reported_of (stepping imaged (terms_of old) (state_of imaged rest old)) ≡ settled_reported settled (state_of imaged rest new))
       → TurnsBy imaged (stepping imaged) old new [] settled
-  turns_so result settled is tells = record { tells = tells; limit = is.limit; counting = ap counting_of is.counter; still = is.still; stop = inl is.stop }
+  turns_so result settled is says = record { says = says; limit = is.limit; counting = ap counting_of is.counter; still = is.still; stop = inl is.stop }
 
   pub waits_turns : (result : Prepared) → IsRunning imaged old → PreparesNext imaged old new result → result ≡ prepares.Waits → TurnsBy imaged (stepping imaged) old new [] settles.Went
   waits_turns result running is e = by (subst (PreparesNext imaged old new) e is) where
     by : PreparesNext imaged old new prepares.Waits → TurnsBy imaged (stepping imaged) old new [] settles.Went
-    by is = turns_so prepares.Waits settles.Went is (λ rest. ap told_of (begun prepares.Waits running is rest).1)
+    by is = turns_so prepares.Waits settles.Went is (λ rest. ap reported_of (begun prepares.Waits running is rest).1)
 
   pub deep_turns : (result : Prepared) → IsRunning imaged old → PreparesNext imaged old new result → result ≡ prepares.TooDeep
       → TurnsBy imaged (stepping imaged) old new [] (settles.Ended outcomes.TooDeep)
   deep_turns result running is e = by (subst (PreparesNext imaged old new) e is) where
     by : PreparesNext imaged old new prepares.TooDeep → TurnsBy imaged (stepping imaged) old new [] (settles.Ended outcomes.TooDeep)
-    by is = turns_so prepares.TooDeep (settles.Ended outcomes.TooDeep) is (λ rest. ap told_of (begun prepares.TooDeep running is rest).1)
+    by is = turns_so prepares.TooDeep (settles.Ended outcomes.TooDeep) is (λ rest. ap reported_of (begun prepares.TooDeep running is rest).1)
 
   pub full_turns : (result : Prepared) (used size : ℕ) → IsRunning imaged old → PreparesNext imaged old new result → result ≡ prepares.HeapFull used size
       → TurnsBy imaged (stepping imaged) old new [] (settles.Ended (outcomes.HeapFull used size))
   full_turns result used size running is e = by (subst (PreparesNext imaged old new) e is) where
     by : PreparesNext imaged old new (prepares.HeapFull used size) → TurnsBy imaged (stepping imaged) old new [] (settles.Ended (outcomes.HeapFull used size))
-    by is = turns_so (prepares.HeapFull used size) (settles.Ended (outcomes.HeapFull used size)) is (λ rest. ap told_of (begun (prepares.HeapFull used size) running is rest).1)
+    by is = turns_so (prepares.HeapFull used size) (settles.Ended (outcomes.HeapFull used size)) is (λ rest. ap reported_of (begun (prepares.HeapFull used size) running is rest).1)
 
   ready_step : IsRunning imaged old → PreparesNext imaged old new prepares.Ready → (answers : List HostAnswer)
       → stepping imaged (terms_of old) (state_of imaged answers old) ≡ doing_next imaged (terms_of new) (state_of imaged answers new)
@@ -239,7 +239,7 @@ module _ (imaged : Imaged) (old new : Running) where
 pub ready_turns : (imaged : Imaged) (old mid new : Running) (gave : List HostAnswer) (settled : Settled) → IsRunning imaged old → PreparesNext imaged old mid prepares.Ready
     → TurnsBy imaged (doing_next imaged) mid new gave settled → TurnsBy imaged (stepping imaged) old new gave settled
 ready_turns imaged old mid new gave settled running is turns = record {
-  tells = λ rest. ap told_of (ready_step imaged old mid running is (gave ++ rest)) ∙ turns.tells rest;
+  says = λ rest. ap reported_of (ready_step imaged old mid running is (gave ++ rest)) ∙ turns.says rest;
   limit = turns.limit ∙ is.limit;
   counting = turns.counting ∙ ap counting_of is.counter;
   still = turns.still;
@@ -258,7 +258,7 @@ pub next_turns : (imaged : Imaged) (old new : Running) (gave : List HostAnswer) 
     → instruction_of_number imaged method number ≡ Some i → IfOk result (TurnsBy imaged (doing imaged i) old new gave) → IfOk result (TurnsBy imaged (doing_next imaged) old new gave)
 next_turns imaged old new gave method number i (Err e) top at turns = tt
 next_turns imaged old new gave method number i (Ok settled) top at turns = record {
-  tells = λ rest. ap (λ (o : Option Instruction). told_of (doing_some imaged (terms_of old) (state_of imaged (gave ++ rest) old) o)) (next_is imaged old.parts.frames method number top ∙ at) ∙ turns.tells rest;
+  says = λ rest. ap (λ (o : Option Instruction). reported_of (doing_some imaged (terms_of old) (state_of imaged (gave ++ rest) old) o)) (next_is imaged old.parts.frames method number top ∙ at) ∙ turns.says rest;
   limit = turns.limit;
   counting = turns.counting;
   still = turns.still;

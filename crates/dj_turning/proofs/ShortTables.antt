@@ -16,7 +16,7 @@ use Rattle.dj_program.specs.Views.{parts_of}
 use Rattle.dj_program.specs.declared.code.MethodCode.{MethodCode}
 use Rattle.dj_types.specs.Members.{all_methods}
 use Rattle.dj_image.specs.Imaged.{Imaged, program_of}
-use Rattle.dj_image.specs.Codes.{IsBodyAt, PooledCode, TellsBody}
+use Rattle.dj_image.specs.Codes.{IsBodyAt, PooledCode, SaysBody}
 use Rattle.dj_image.specs.declared.image.Body.TheVariants as variants
 use Rattle.dj_unwinding.specs.Short.{AreShort}
 use Rattle.dj_turning.specs.Short.{AreBounded, IsBounded, LoadByKnown, is_known_load}
@@ -28,23 +28,23 @@ runs_there imaged method found other code other_there there runs = ap (λ (f : F
 
 pub bounded_abstract : (imaged : Imaged) (method : ℕ) → IsBodyAt imaged method variants.Abstract → IsBounded imaged method
 bounded_abstract imaged method at found code there runs =
-    absurd (subst (λ (b : Body). TellsBody imaged method b variants.Abstract) (runs_there imaged method found at.found code at.there there runs) at.tells)
+    absurd (subst (λ (b : Body). SaysBody imaged method b variants.Abstract) (runs_there imaged method found at.found code at.there there runs) at.says)
 
 pub bounded_native : (imaged : Imaged) (method : ℕ) (id : NativeId) → IsBodyAt imaged method (variants.Native id) → IsBounded imaged method
 bounded_native imaged method id at found code there runs =
-    absurd (subst (λ (b : Body). TellsBody imaged method b (variants.Native id)) (runs_there imaged method found at.found code at.there there runs) at.tells)
+    absurd (subst (λ (b : Body). SaysBody imaged method b (variants.Native id)) (runs_there imaged method found at.found code at.there there runs) at.says)
 
-pub bounded_code : (imaged : Imaged) (method : ℕ) (told : Bor MethodCode) → IsBodyAt imaged method (variants.Code told) → (length told.now.code.code < 2 ^ 32) × (length told.now.code.ranges < 2 ^ 32)
-    → LoadByKnown told.now.code.code → IsBounded imaged method
+pub bounded_code : (imaged : Imaged) (method : ℕ) (reported : Bor MethodCode) → IsBodyAt imaged method (variants.Code reported) → (length reported.now.code.code < 2 ^ 32) × (length reported.now.code.ranges < 2 ^ 32)
+    → LoadByKnown reported.now.code.code → IsBounded imaged method
 unfolding code_in
-bounded_code imaged method told at few loads found code there runs =
-    let own = subst (λ (b : Body). TellsBody imaged method b (variants.Code told)) (runs_there imaged method found at.found code at.there there runs) at.tells in
-    let instructions : length code.instructions ≡ length told.now.code.code = ap (λ (c : Code). length c.instructions) own.2 ∙ length-map told.now.code.code (instruction_in own.0) in
-    let ranges : length code.ranges ≡ length told.now.code.ranges = ap (λ (c : Code). length c.ranges) own.2 ∙ length-map told.now.code.ranges (range_in own.0) in
+bounded_code imaged method reported at few loads found code there runs =
+    let own = subst (λ (b : Body). SaysBody imaged method b (variants.Code reported)) (runs_there imaged method found at.found code at.there there runs) at.says in
+    let instructions : length code.instructions ≡ length reported.now.code.code = ap (λ (c : Code). length c.instructions) own.2 ∙ length-map reported.now.code.code (instruction_in own.0) in
+    let ranges : length code.ranges ≡ length reported.now.code.ranges = ap (λ (c : Code). length c.ranges) own.2 ∙ length-map reported.now.code.ranges (range_in own.0) in
     record {
       short = record { instructions = omega (arith, instructions, few.0); ranges = omega (arith, ranges, few.1) };
       loads = λ number pooled op index is at.
-          let same : record { pool = own.0; parts = parts_of told.now } ≡ pooled = same_Some _ pooled (sym own.1 ∙ is) in
+          let same : record { pool = own.0; parts = parts_of reported.now } ≡ pooled = same_Some _ pooled (sym own.1 ∙ is) in
           loads number op index (subst (λ (c : PooledCode). slice_get c.parts.labelled.code number ≡ Some (instrs.Literal op index)) (sym same) at);
     }
 

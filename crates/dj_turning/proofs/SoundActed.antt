@@ -44,12 +44,12 @@ use Rattle.dj_unwinding.specs.Resuming.{HasRoom}
 use Rattle.dj_unwinding.specs.Short.{AreShort}
 use Rattle.dj_settling.specs.Frugal.{IsFrugal, IsFrugalReturn, IsFrugalThrow}
 use Rattle.dj_settling.specs.Settling.{HasRoomFor, IsThrown, seen_in, top_settled}
-use Rattle.dj_settling.specs.Told.{On, told_of}
+use Rattle.dj_settling.specs.Reported.{On, reported_of}
 use Rattle.dj_settling.proofs.ThrowLaws.{class_there}
 use Rattle.dj_settling.proofs.WayLaws.{settled_alike}
 use Rattle.dj_acting.specs.declared.acted.Acted.{Acted}
 use Rattle.dj_acting.specs.declared.acted.Acted.TheVariants as acts
-use Rattle.dj_acting.specs.Acting.{Acts, IsActed, Machine, acted_operands, flow_told, machine, part_with}
+use Rattle.dj_acting.specs.Acting.{Acts, IsActed, Machine, acted_operands, flow_reported, machine, part_with}
 use Rattle.dj_initialising.specs.Store.{Store}
 use Rattle.dj_turning.specs.Doing.{next_of}
 use Rattle.dj_turning.specs.Frugal.{IsFrugalActed, IsFrugalRun, IsReadyFor}
@@ -57,7 +57,7 @@ use Rattle.dj_turning.specs.Memory.{NeedsNoMemory, is_raise, makes, raises}
 use Rattle.dj_turning.specs.Running.{IsRunning, Running, account_of, state_of, terms_of}
 use Rattle.dj_turning.proofs.ActedLaws.{acts_of, left_alike}
 use Rattle.dj_turning.proofs.SoundFlows.{IsThrowable, effect_throwable, effect_went}
-use Rattle.dj_turning.proofs.SoundNext.{IsSoundNext, makes_no_call, short_at_frame, sound_next, sound_told}
+use Rattle.dj_turning.proofs.SoundNext.{IsSoundNext, makes_no_call, short_at_frame, sound_next, sound_reported}
 use Rattle.dj_turning.proofs.Turned.{on_went}
 
 -- ---- objects that are thrown
@@ -147,7 +147,7 @@ module _ (imaged : Imaged) (is : IsSound (program_of imaged) imaged.prefix) (f :
   abbrev begun : Account → List HostAnswer → Part
   begun account answers = part_with imaged (machine (f ∷ below) st) f.operands account answers
 
-  does : (terms : Terms) (own : Name) (account : Account) (answers : List HostAnswer) (acted : Acted) (flow : Flow) → terms.limit ≡ Some st.heap.limit → flow_told acted ≡ Some flow
+  does : (terms : Terms) (own : Name) (account : Account) (answers : List HostAnswer) (acted : Acted) (flow : Flow) → terms.limit ≡ Some st.heap.limit → flow_reported acted ≡ Some flow
       → Acts imaged i (machine (f ∷ below) st) m acted
       → effects.effect Q imaged.prefix terms own i (begun account answers) ≡ Some (record { part = left acted account answers; flow = flow })
   does terms own account answers acted flow limit e a =
@@ -156,12 +156,12 @@ module _ (imaged : Imaged) (is : IsSound (program_of imaged) imaged.prefix) (f :
   abbrev plain : Terms
   plain = record { limit = Some st.heap.limit; counting = Uncounted }
 
-  sound : (acted : Acted) (flow : Flow) → flow_told acted ≡ Some flow → Acts imaged i (machine (f ∷ below) st) m acted
+  sound : (acted : Acted) (flow : Flow) → flow_reported acted ≡ Some flow → Acts imaged i (machine (f ∷ below) st) m acted
       → IsSoundFlow Q next.signature next.code i next.before next.left (left acted new_account []) flow
   sound acted flow e a =
-      sound_told imaged is (f ∷ below) i next plain [] (begun new_account []) refl refl (record { part = left acted new_account []; flow = flow }) (does plain [] new_account [] acted flow refl e a)
+      sound_reported imaged is (f ∷ below) i next plain [] (begun new_account []) refl refl (record { part = left acted new_account []; flow = flow }) (does plain [] new_account [] acted flow refl e a)
 
-  throwable : (acted : Acted) (flow : Flow) → flow_told acted ≡ Some flow → Acts imaged i (machine (f ∷ below) st) m acted → IsThrowable (typed_heap (types_of (typed_of imaged)) m.store.heap) flow
+  throwable : (acted : Acted) (flow : Flow) → flow_reported acted ≡ Some flow → Acts imaged i (machine (f ∷ below) st) m acted → IsThrowable (typed_heap (types_of (typed_of imaged)) m.store.heap) flow
   throwable acted flow e a =
       subst (λ (o : Option Effect). IfSome o (λ (x : Effect). IsThrowable x.part.heap x.flow)) (does plain [] new_account [] acted flow refl e a)
       (effect_throwable Q imaged.prefix plain [] i (begun new_account []))
@@ -184,26 +184,26 @@ module _ (imaged : Imaged) (is : IsSound (program_of imaged) imaged.prefix) (f :
       (own : part_of (frame_seen Q f) s ≡ begun account answers)
       (plain_flow : IsFalse (raises (effects.effect Q imaged.prefix terms (frame_seen Q f).method.class i (part_of (frame_seen Q f) s))))
       (went : settled Q imaged.prefix terms s (frame_seen Q f) (frames_seen Q below) (effects.effect Q imaged.prefix terms (frame_seen Q f).method.class i (part_of (frame_seen Q f) s)) ≡ Went on) where
-    told : (acted : Acted) (flow : Flow) → flow_told acted ≡ Some flow → Acts imaged i (machine (f ∷ below) st) m acted
+    reported : (acted : Acted) (flow : Flow) → flow_reported acted ≡ Some flow → Acts imaged i (machine (f ∷ below) st) m acted
         → effects.effect Q imaged.prefix terms (frame_seen Q f).method.class i (part_of (frame_seen Q f) s) ≡ Some (record { part = left acted account answers; flow = flow })
-    told acted flow e a = ap (effects.effect Q imaged.prefix terms (frame_seen Q f).method.class i) own ∙ does terms (frame_seen Q f).method.class account answers acted flow limit e a
+    reported acted flow e a = ap (effects.effect Q imaged.prefix terms (frame_seen Q f).method.class i) own ∙ does terms (frame_seen Q f).method.class account answers acted flow limit e a
 
-    settles : (acted : Acted) (flow : Flow) → flow_told acted ≡ Some flow → Acts imaged i (machine (f ∷ below) st) m acted
+    settles : (acted : Acted) (flow : Flow) → flow_reported acted ≡ Some flow → Acts imaged i (machine (f ∷ below) st) m acted
         → settle Q imaged.prefix terms (with_part s (left acted account answers)) (frame_with (frame_seen Q f) (left acted account answers)) (frames_seen Q below) flow ≡ Went on
-    settles acted flow e a = sym (ap (λ (o : Option Effect). settled Q imaged.prefix terms s (frame_seen Q f) (frames_seen Q below) o) (told acted flow e a)) ∙ went
+    settles acted flow e a = sym (ap (λ (o : Option Effect). settled Q imaged.prefix terms s (frame_seen Q f) (frames_seen Q below) o) (reported acted flow e a)) ∙ went
 
-    no_raise : (acted : Acted) (flow : Flow) → flow_told acted ≡ Some flow → Acts imaged i (machine (f ∷ below) st) m acted → IsFalse (is_raise flow)
-    no_raise acted flow e a = subst (λ (o : Option Effect). IsFalse (raises o)) (told acted flow e a) plain_flow
+    no_raise : (acted : Acted) (flow : Flow) → flow_reported acted ≡ Some flow → Acts imaged i (machine (f ∷ below) st) m acted → IsFalse (is_raise flow)
+    no_raise acted flow e a = subst (λ (o : Option Effect). IsFalse (raises o)) (reported acted flow e a) plain_flow
 
     -- in the machine's frames
-    goes_on : (acted : Acted) (flow : Flow) → flow_told acted ≡ Some flow → Acts imaged i (machine (f ∷ below) st) m acted
+    goes_on : (acted : Acted) (flow : Flow) → flow_reported acted ≡ Some flow → Acts imaged i (machine (f ∷ below) st) m acted
         → top_settled Q imaged.prefix flow terms (record (with_part s (left acted account answers)) { frames = frames_seen Q m.frames }) ≡ Went on
     goes_on acted flow e a =
         let p : Part = left acted account answers in
         on_went (top_settled Q imaged.prefix flow terms (record (with_part s p) { frames = frames_seen Q m.frames })) on
         (sym (left_alike imaged terms (with_part s p) f below m.frames acted flow p e a.frames a.number refl refl)
         ∙ (sym (settled_alike Q imaged.prefix terms (with_part s p) (frame_with (frame_seen Q f) p) (frames_seen Q below) flow)
-        ∙ ap told_of (settles acted flow e a)))
+        ∙ ap reported_of (settles acted flow e a)))
 
     has_caller : (value : Option Value) → Acts imaged i (machine (f ∷ below) st) m (acts.Goes (ways.Back value)) → 0 < length below
     unfolding settle

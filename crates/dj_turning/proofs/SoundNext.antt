@@ -167,7 +167,7 @@ pub record IsSoundNext (imaged : Imaged) (frames : List StackFrame) (i : Instruc
   pub left : Kinds
   pub kinds : HasKinds (top_locals frames) (top_operands frames) before
   pub locals : length (top_locals frames) ≡ code.max_locals
-  pub told : after signature code i before ≡ Some left
+  pub reported : after signature code i before ≡ Some left
   pub fits : Fits code left
   pub linked : IsTrue (is_linked (program_of imaged) imaged.prefix i)
   pub room : top_room frames ≡ code.max_stack
@@ -186,8 +186,8 @@ sound_next imaged is (f ∷ below) i stand standing next =
     let P : Program = program_of imaged in
     let F : Frame Declared = frame_seen P f in
     let at = standing.0.at in
-    let told : code_of P F.method ≡ Some at.code = code_is P F.method at.method at.code at.there at.body in
-    let own : instruction_at P F ≡ Some at.instruction = subst (λ (c : Option Code). instruction_in c f.number ≡ Some at.instruction) (sym told) at.at in
+    let reported : code_of P F.method ≡ Some at.code = code_is P F.method at.method at.code at.there at.body in
+    let own : instruction_at P F ≡ Some at.instruction = subst (λ (c : Option Code). instruction_in c f.number ≡ Some at.instruction) (sym reported) at.at in
     let same : at.instruction ≡ i = same_Some at.instruction i (sym own ∙ next) in
     let left = left_there P imaged.prefix is F at in
     let found : after at.signature at.code i at.before ≡ Some left.0 = subst (λ (j : Instruction). after at.signature at.code j at.before ≡ Some left.0) same left.1 in
@@ -201,7 +201,7 @@ sound_next imaged is (f ∷ below) i stand standing next =
       left = left.0;
       kinds = record { locals = at.locals; operands = standing.0.operands };
       locals = at.room;
-      told = found;
+      reported = found;
       fits = after_fits at.code at.before at.signature i left.0 found;
       linked = subst (λ (j : Instruction). IsTrue (is_linked P imaged.prefix j)) same linked;
       room = act.room ∙ ap (λ (c : Code). c.max_stack) (code_at_frame imaged is f act at);
@@ -234,7 +234,7 @@ module _ (imaged : Imaged) (is : IsSound (program_of imaged) imaged.prefix) (fra
       (record {
         locals = subst (λ (vs : List (Option Value)). LocalsHave vs next.before.locals) (sym locals) next.kinds.locals;
         operands = ap (map value_kind) operands ∙ next.kinds.operands;
-      }) (ap length locals ∙ next.locals) next.told
+      }) (ap length locals ∙ next.locals) next.reported
 
   not_both : (b : Bool) → IsTrue b → IsFalse b → ⊥
   not_both true t f = absurd cc
@@ -250,8 +250,8 @@ module _ (imaged : Imaged) (is : IsSound (program_of imaged) imaged.prefix) (fra
   ]
 
   -- where there is an effect it is sound
-  pub sound_told : (e : Effect) → effects.effect P imaged.prefix terms own i p ≡ Some e → IsSoundFlow P next.signature next.code i next.before next.left e.part e.flow
-  sound_told e has = elim kept [
+  pub sound_reported : (e : Effect) → effects.effect P imaged.prefix terms own i p ≡ Some e → IsSoundFlow P next.signature next.code i next.before next.left e.part e.flow
+  sound_reported e has = elim kept [
     | inl sound ↦ subst (λ (d : Effect). IsSoundFlow P next.signature next.code i next.before next.left d.part d.flow) (same_Some sound.does e (sym sound.has ∙ has)) sound.sound
     | inr starved ↦ absurd (let none : None ≡ Some e =
         sym (starved.does p.answers ∙ starves P imaged.prefix terms (record p { operands = starved.rest; answers = p.answers }) starved.id starved.arguments starved.question starved.asks starved.unanswered)

@@ -143,7 +143,7 @@ module _ (imaged : Imaged) (old new : Running) (n : IsFrugalRun imaged old) (is 
   -- it changes nothing
   same_parts : with_parts imaged new.parts (bare_with old.counter) ≡ state_of imaged [] old
   same_parts =
-      let told : Ready (with_parts imaged new.parts (bare_with old.counter)) ≡ Ready (state_of imaged [] old) = sym (is.effect n.instruction (terms_of old) (bare_with old.counter) next refl) ∙ n.ready in
+      let reported : Ready (with_parts imaged new.parts (bare_with old.counter)) ≡ Ready (state_of imaged [] old) = sym (is.effect n.instruction (terms_of old) (bare_with old.counter) next refl) ∙ n.ready in
       let same : with_parts imaged new.parts (bare_with old.counter) ≡ state_of imaged [] old = cc in
       same
 

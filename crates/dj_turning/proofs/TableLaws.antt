@@ -15,7 +15,7 @@ use Rattle.dj_initialising.specs.Places.{ArePlaces}
 use Rattle.dj_initialising.specs.Initialisers.{AreInitialisers}
 use Rattle.dj_initialising.proofs.StartLaws.{texts_of_numbered}
 use Rattle.dj_invoking.specs.Natives.{AreNatives}
-use Rattle.dj_invoking.proofs.NativeFacts.{class_told}
+use Rattle.dj_invoking.proofs.NativeFacts.{class_reported}
 use Rattle.dj_settling.specs.Settling.{HasOwn}
 use Rattle.dj_turning.specs.Running.{IsKept, Kept}
 use Rattle.dj_turning.specs.Short.{AreBounded}
@@ -33,9 +33,9 @@ kept imaged k sound numbered own bounded places initialisers natives throwable =
   throwable = throwable;
 }
 
-pub throwable_told : (imaged : Imaged) (linked : Linked) (table : Program) (base : BaseNames) (name : Name) (result : Option ℕ)
+pub throwable_reported : (imaged : Imaged) (linked : Linked) (table : Program) (base : BaseNames) (name : Name) (result : Option ℕ)
     → linked ≡ record { program = bare_program (program_of imaged); prefix = imaged.prefix } → prefix_of base ≡ linked.prefix → table ≡ linked.program → name ≡ throwable_name (prefix_of base)
     → result ≡ class_number table name → IfSome result (λ class. slice_get (types_of (typed_of imaged)) class ≡ Some (class_type (throwable_name imaged.prefix)))
-throwable_told imaged linked table base name result is own t named e =
+throwable_reported imaged linked table base name result is own t named e =
     subst (λ (n : Name). IfSome result (λ class. slice_get (types_of (typed_of imaged)) class ≡ Some (class_type n)))
-    (named ∙ ap throwable_name (own ∙ ap (λ (l : Linked). l.prefix) is)) (class_told imaged linked table 0 name result refl is t e)
+    (named ∙ ap throwable_name (own ∙ ap (λ (l : Linked). l.prefix) is)) (class_reported imaged linked table 0 name result refl is t e)

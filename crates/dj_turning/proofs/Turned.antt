@@ -1,7 +1,7 @@
 -- A step by its parts is a step of a run that goes on.
 use Rattle.std.proofs.Common.{◌≡◌, ℕ, ◌++◌, List, [], ◌∷◌, Option, Some, None, refl, sym, ap, subst, ◌∙◌, inl, inr, ℤ}
 use Rattle.std.specs.Prelude.{Result, Ok, Err, IfOk}
-use Rattle.dj_names.specs.declared.lists.NoMemory.{NoMemory}
+use Rattle.dj_bytes.specs.declared.memory.NoMemory.{NoMemory}
 use Rattle.dj_names.specs.declared.native.NativeId.{NativeId}
 use Rattle.dj_names.specs.declared.run.Value.{Value}
 use Rattle.dj_edge.specs.declared.host.HostAnswer.{HostAnswer}
@@ -22,7 +22,7 @@ use Rattle.dj_image.specs.Imaged.{Imaged, program_of}
 use Rattle.dj_activations.specs.Activations.{frames_seen}
 use Rattle.dj_settling.specs.declared.settled.Settled.{Settled}
 use Rattle.dj_settling.specs.declared.settled.Settled.TheVariants as settles
-use Rattle.dj_settling.specs.Told.{On, told_of}
+use Rattle.dj_settling.specs.Reported.{On, reported_of}
 use Rattle.dj_settling.specs.Settling.{IsStop}
 use Rattle.dj_turning.specs.Running.{IsKept, IsRunning, Kept, Running, state_of, terms_of}
 use Rattle.dj_turning.specs.Turning.{MakesStep}
@@ -56,7 +56,7 @@ starved_step program prefix terms s at =
 
 -- ---- a run that goes on
 
-pub on_went : (a : Answer) (s : State) → told_of a ≡ On s → a ≡ Went s
+pub on_went : (a : Answer) (s : State) → reported_of a ≡ On s → a ≡ Went s
 on_went (Went t) s e = let same : t ≡ s = cc in ap Went same
 on_went (Ended outcome t) s e = absurd cc
 on_went IllFormed s e = absurd cc
@@ -70,7 +70,7 @@ module _ (imaged : Imaged) (old new : Running) (gave : List HostAnswer) (sound :
   s = state_of imaged (gave ++ []) old
 
   went : step P imaged.prefix (terms_of old) s ≡ Went (state_of imaged [] new)
-  went = on_went (step P imaged.prefix (terms_of old) s) (state_of imaged [] new) (turns.tells [])
+  went = on_went (step P imaged.prefix (terms_of old) s) (state_of imaged [] new) (turns.says [])
 
   standing : AreStanding P (frames_seen P new.parts.frames)
   standing = elim (step_stands P imaged.prefix sound (terms_of old) s running.standing) [
@@ -99,7 +99,7 @@ module _ (imaged : Imaged) (old new : Running) (gave : List HostAnswer) (sound :
 pub turned_so : (imaged : Imaged) (old new : Running) (gave : List HostAnswer) (settled : Settled) → IsSound (program_of imaged) imaged.prefix → IsRunning imaged old
     → TurnsBy imaged (stepping imaged) old new gave settled → MakesStep imaged old new gave settled
 turned_so imaged old new gave settled sound running turns = record {
-  tells = turns.tells;
+  says = turns.says;
   limit = turns.limit;
   counting = turns.counting;
   running = λ e. goes_on imaged old new gave sound running (subst (TurnsBy imaged (stepping imaged) old new gave) e turns);

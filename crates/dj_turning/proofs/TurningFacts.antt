@@ -56,10 +56,10 @@ not_uncounted counts = counts
 
 -- what was not done, and a call, isn't settled
 not_stuck : (exceeded : Option Charge) (heap : LimitedHeap) → ActedSettles image exceeded acts.Stuck heap heap [] [] settles.Went → ⊥
-not_stuck exceeded heap told = told
+not_stuck exceeded heap reported = reported
 
 no_call : (exceeded : Option Charge) (heap : LimitedHeap) → ActedSettles image exceeded acts.Call heap heap [] [] settles.Went → ⊥
-no_call exceeded heap told = told
+no_call exceeded heap reported = reported
 
 -- a hash by an object's number asks nothing; a clock asks, and so does a hash by a word, though not of null
 hash_quiet : IsQuiet natives.ObjectHashCode

@@ -7,7 +7,7 @@ use Rattle.std.proofs.lemmas.Option.{none-some, same_Some, slice_get_within}
 use Rattle.dj_names.specs.declared.descriptor.Base.{Base}
 use Rattle.dj_names.specs.declared.descriptor.Ty.{Ty}
 use Rattle.dj_names.specs.declared.run.Element.{Element}
-use Rattle.dj_names.specs.declared.lists.NoMemory.{NoMemory}
+use Rattle.dj_bytes.specs.declared.memory.NoMemory.{NoMemory}
 use Rattle.dj_names.specs.trusted.Types.{Name, base_array}
 use Rattle.dj_ops.specs.declared.instruction.Instr.{Instr}
 use Rattle.dj_ops.specs.declared.instruction.Instr.TheVariants as instrs
@@ -34,7 +34,7 @@ use Rattle.dj_image.specs.declared.operand.Operand.{Operand}
 use Rattle.dj_image.specs.declared.operand.Operand.TheVariants as operands
 use Rattle.dj_invoking.specs.declared.choosing.Mode.{Mode}
 use Rattle.dj_invoking.specs.declared.choosing.Mode.TheVariants as modes
-use Rattle.dj_invoking.specs.Choosing.{IsMethod, told_mode}
+use Rattle.dj_invoking.specs.Choosing.{IsMethod, reported_mode}
 use Rattle.dj_invoking.specs.declared.site.CallSite.{CallSite}
 use Rattle.dj_invoking.specs.Sites.{IsCallAt}
 use Rattle.dj_invoking.proofs.Bodies.{static_mode}
@@ -151,17 +151,17 @@ used_named imaged i k name used at =
 
 -- ---- calls
 
-pub static_used : (imaged : Imaged) (called : model.Mode) (m : Member) (resolved : FoundMethod) (method : MethodId) (told : MemberOf) → told_mode called ≡ modes.Static
-    → resolve_method (program_of imaged) imaged.prefix m ≡ Some resolved → IsMethod (program_of imaged) method resolved → IsMethodThere (typed_of imaged) method.number told
-    → IsUsed imaged (model.Invoke called m) (Some told.class)
+pub static_used : (imaged : Imaged) (called : model.Mode) (m : Member) (resolved : FoundMethod) (method : MethodId) (reported : MemberOf) → reported_mode called ≡ modes.Static
+    → resolve_method (program_of imaged) imaged.prefix m ≡ Some resolved → IsMethod (program_of imaged) method resolved → IsMethodThere (typed_of imaged) method.number reported
+    → IsUsed imaged (model.Invoke called m) (Some reported.class)
 unfolding used_class
-static_used imaged called m resolved method told mode resolves is there =
+static_used imaged called m resolved method reported mode resolves is there =
     let same : there.found ≡ resolved = same_Some there.found resolved (sym there.there ∙ is) in
     let used : used_class (program_of imaged) imaged.prefix (model.Invoke called m) ≡ Some resolved.class =
     ap (λ (x : model.Mode). used_class (program_of imaged) imaged.prefix (model.Invoke x m)) (static_mode called mode) ∙ ap method_class resolves in
-    used_named imaged (model.Invoke called m) told.class resolved.class used (there.class ∙ ap (λ (f : FoundMethod). Some f.class) same)
+    used_named imaged (model.Invoke called m) reported.class resolved.class used (there.class ∙ ap (λ (f : FoundMethod). Some f.class) same)
 
-pub called_plainly : (imaged : Imaged) (called : model.Mode) (m : Member) (mode : Mode) → told_mode called ≡ mode → (mode ≡ modes.Static → ⊥) → IsUsed imaged (model.Invoke called m) None
+pub called_plainly : (imaged : Imaged) (called : model.Mode) (m : Member) (mode : Mode) → reported_mode called ≡ mode → (mode ≡ modes.Static → ⊥) → IsUsed imaged (model.Invoke called m) None
 unfolding used_class
 called_plainly imaged model.Static m mode e other = absurd (other (sym e))
 called_plainly imaged model.Virtual m mode e other = refl
@@ -181,20 +181,20 @@ new_used imaged class k linked number =
     let named = new_class imaged class.dims class.of k linked number in
     used_named imaged (model.New class) k named.name (ap (λ (ty : Ty). Some (member_class imaged.prefix ty)) named.is) named.at
 
-class_use_told : (imaged : Imaged) (k : ℕ) (how : ClassUse) (i : Instruction) → is_linked (program_of imaged) imaged.prefix i ≡ true → IsClassInstruction imaged k how i
+class_use_reported : (imaged : Imaged) (k : ℕ) (how : ClassUse) (i : Instruction) → is_linked (program_of imaged) imaged.prefix i ≡ true → IsClassInstruction imaged k how i
     → IsUsed imaged i (new_only how k)
-class_use_told imaged k classes.New i linked is =
+class_use_reported imaged k classes.New i linked is =
     subst (λ (j : Instruction). IsUsed imaged j (Some k)) (sym is.1) (new_used imaged is.0 k (sym (ap (is_linked (program_of imaged) imaged.prefix) is.1) ∙ linked) is.2)
-class_use_told imaged k classes.NewArray i linked is = unused imaged i (ap uses is.1)
-class_use_told imaged k classes.Cast i linked is = unused imaged i (ap uses is.1)
-class_use_told imaged k classes.Instance i linked is = unused imaged i (ap uses is.1)
-class_use_told imaged k classes.Other i linked is = unused imaged i (other_uses i is)
-class_use_told imaged k classes.Plain i linked is = unused imaged i (ap uses is.2)
+class_use_reported imaged k classes.NewArray i linked is = unused imaged i (ap uses is.1)
+class_use_reported imaged k classes.Cast i linked is = unused imaged i (ap uses is.1)
+class_use_reported imaged k classes.Instance i linked is = unused imaged i (ap uses is.1)
+class_use_reported imaged k classes.Other i linked is = unused imaged i (other_uses i is)
+class_use_reported imaged k classes.Plain i linked is = unused imaged i (ap uses is.2)
 
 pub class_used : (imaged : Imaged) (instr : Instr) (k : ℕ) (named : Named) → IsOperandNamed imaged instr (operands.Class k) named
     → IsUsed imaged (instruction_of instr named) (new_only (class_use instr) k)
 class_used imaged instr k named is =
-    class_use_told imaged k (class_use instr) (instruction_of instr named) is.linked (class_instruction imaged instr named k (uses_class imaged instr named k is.is))
+    class_use_reported imaged k (class_use instr) (instruction_of instr named) is.linked (class_instruction imaged instr named k (uses_class imaged instr named k is.is))
 
 -- ---- instructions on fields
 
@@ -208,26 +208,26 @@ static_only fields.GetStatic k = Some k
 static_only fields.PutStatic k = Some k
 static_only how k = None
 
-field_use_told : (imaged : Imaged) (m : Member) (found : FoundField) (k : ℕ) (how : FieldUse) (i : Instruction) → IsFieldInstruction how m i
+field_use_reported : (imaged : Imaged) (m : Member) (found : FoundField) (k : ℕ) (how : FieldUse) (i : Instruction) → IsFieldInstruction how m i
     → resolve_field (program_of imaged) imaged.prefix m ≡ Some found → name_at (program_of imaged) k ≡ Some found.class → IsUsed imaged i (static_only how k)
 unfolding used_class
-field_use_told imaged m found k fields.GetStatic i is resolves at =
+field_use_reported imaged m found k fields.GetStatic i is resolves at =
     used_named imaged i k found.class (ap (used_class (program_of imaged) imaged.prefix) is ∙ ap field_class resolves) at
-field_use_told imaged m found k fields.PutStatic i is resolves at =
+field_use_reported imaged m found k fields.PutStatic i is resolves at =
     used_named imaged i k found.class (ap (used_class (program_of imaged) imaged.prefix) is ∙ ap field_class resolves) at
-field_use_told imaged m found k fields.Get i is resolves at = unused imaged i (ap uses is)
-field_use_told imaged m found k fields.Put i is resolves at = unused imaged i (ap uses is)
-field_use_told imaged m found k fields.Neither i is resolves at = unused imaged i (other_uses i is)
+field_use_reported imaged m found k fields.Get i is resolves at = unused imaged i (ap uses is)
+field_use_reported imaged m found k fields.Put i is resolves at = unused imaged i (ap uses is)
+field_use_reported imaged m found k fields.Neither i is resolves at = unused imaged i (other_uses i is)
 
-pub field_used : (imaged : Imaged) (instr : Instr) (n : ℕ) (told : MemberOf) (named : Named) → IsOperandNamed imaged instr (operands.Field (record { number = n })) named
-    → IsFieldThere (typed_of imaged) n told → IsUsed imaged (instruction_of instr named) (static_only (field_use instr) told.class)
-field_used imaged instr n told named is there =
+pub field_used : (imaged : Imaged) (instr : Instr) (n : ℕ) (reported : MemberOf) (named : Named) → IsOperandNamed imaged instr (operands.Field (record { number = n })) named
+    → IsFieldThere (typed_of imaged) n reported → IsUsed imaged (instruction_of instr named) (static_only (field_use instr) reported.class)
+field_used imaged instr n reported named is there =
     let u = uses_field imaged instr named n is.is in
     let i : instruction_of instr (AField u.member) ≡ instruction_of instr named = ap (instruction_of instr) (sym u.names) in
     let same : there.found ≡ u.is.other = same_Some there.found u.is.other (sym there.there ∙ u.is.there) in
-    let at : name_at (program_of imaged) told.class ≡ Some u.found.class = there.class ∙ ap Some (ap (λ (f : FoundField). f.class) same ∙ u.is.class) in
-    subst (λ (j : Instruction). IsUsed imaged j (static_only (field_use instr) told.class)) i
-    (field_use_told imaged u.member u.found told.class (field_use instr) (instruction_of instr (AField u.member)) (field_instruction instr u.member u.takes) u.is.resolves at)
+    let at : name_at (program_of imaged) reported.class ≡ Some u.found.class = there.class ∙ ap Some (ap (λ (f : FoundField). f.class) same ∙ u.is.class) in
+    subst (λ (j : Instruction). IsUsed imaged j (static_only (field_use instr) reported.class)) i
+    (field_use_reported imaged u.member u.found reported.class (field_use instr) (instruction_of instr (AField u.member)) (field_instruction instr u.member u.takes) u.is.resolves at)
 
 -- the field isn't used as a static one
 pub no_field_used : (imaged : Imaged) (instr : Instr) (n : ℕ) (named : Named) (how : FieldUse) → how ≡ field_use instr → IsOperandNamed imaged instr (operands.Field (record { number = n })) named
@@ -244,10 +244,10 @@ no_field_used imaged instr n named how e is none =
       by m fields.Put none i is = unused imaged i (ap uses is)
       by m fields.Neither none i is = unused imaged i (other_uses i is)
 
-pub field_used_by : (imaged : Imaged) (instr : Instr) (n : ℕ) (told : MemberOf) (named : Named) (how : FieldUse) → how ≡ field_use instr
-    → IsOperandNamed imaged instr (operands.Field (record { number = n })) named → IsFieldThere (typed_of imaged) n told → IsUsed imaged (instruction_of instr named) (static_only how told.class)
-field_used_by imaged instr n told named how e is there =
-    subst (λ (x : FieldUse). IsUsed imaged (instruction_of instr named) (static_only x told.class)) (sym e) (field_used imaged instr n told named is there)
+pub field_used_by : (imaged : Imaged) (instr : Instr) (n : ℕ) (reported : MemberOf) (named : Named) (how : FieldUse) → how ≡ field_use instr
+    → IsOperandNamed imaged instr (operands.Field (record { number = n })) named → IsFieldThere (typed_of imaged) n reported → IsUsed imaged (instruction_of instr named) (static_only how reported.class)
+field_used_by imaged instr n reported named how e is there =
+    subst (λ (x : FieldUse). IsUsed imaged (instruction_of instr named) (static_only x reported.class)) (sym e) (field_used imaged instr n reported named is there)
 
 pub class_used_by : (imaged : Imaged) (instr : Instr) (k : ℕ) (named : Named) (how : ClassUse) → how ≡ class_use instr → IsOperandNamed imaged instr (operands.Class k) named
     → IsUsed imaged (instruction_of instr named) (new_only how k)
@@ -259,11 +259,11 @@ pub site_within : (imaged : Imaged) (caller number : ℕ) (call : CallSite) → 
 site_within imaged caller number call at = slice_get_within (all_methods (program_of imaged)) call.method.number at.resolved at.method
 
 pub call_used : (imaged : Imaged) (caller number : ℕ) (call : CallSite) (k : Option ℕ) → IsCallAt imaged caller number call
-    → ((called : model.Mode) (m : Member) (resolved : FoundMethod) → told_mode called ≡ call.mode → resolve_method (program_of imaged) imaged.prefix m ≡ Some resolved
+    → ((called : model.Mode) (m : Member) (resolved : FoundMethod) → reported_mode called ≡ call.mode → resolve_method (program_of imaged) imaged.prefix m ≡ Some resolved
     → IsMethod (program_of imaged) call.method resolved → IsUsed imaged (model.Invoke called m) k)
     → (i : Instruction) → instruction_of_number imaged caller number ≡ Some i → IsUsed imaged i k
-call_used imaged caller number call k at used i told =
-    subst (λ (j : Instruction). IsUsed imaged j k) (same_Some (model.Invoke at.called at.member) i (sym at.is ∙ told)) (used at.called at.member at.resolved at.mode at.resolves at.method)
+call_used imaged caller number call k at used i reported =
+    subst (λ (j : Instruction). IsUsed imaged j k) (same_Some (model.Invoke at.called at.member) i (sym at.is ∙ reported)) (used at.called at.member at.resolved at.mode at.resolves at.method)
 
 pub operand_named : (imaged : Imaged) (method number : ℕ) (instr : Instr) (named : Named) (operand : Operand) → IsSound (program_of imaged) imaged.prefix → IsInstrAt imaged method number instr named
     → IsOperandAt imaged method number operand → IsOperandNamed imaged instr operand named
@@ -274,5 +274,5 @@ operand_named imaged method number instr named operand sound at o = record {
 
 pub named_then : (imaged : Imaged) (method number : ℕ) (instr : Instr) (named : Named) (result : Result (Option ℕ) NoMemory) → IsInstrAt imaged method number instr named
     → IfOk result (IsUsed imaged (instruction_of instr named)) → (i : Instruction) → instruction_of_number imaged method number ≡ Some i → IfOk result (IsUsed imaged i)
-named_then imaged method number instr named result at used i told =
-    subst (λ (j : Instruction). IfOk result (IsUsed imaged j)) (same_Some (instruction_of instr named) i (sym at.is ∙ told)) used
+named_then imaged method number instr named result at used i reported =
+    subst (λ (j : Instruction). IfOk result (IsUsed imaged j)) (same_Some (instruction_of instr named) i (sym at.is ∙ reported)) used

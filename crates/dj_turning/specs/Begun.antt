@@ -13,7 +13,7 @@ use Rattle.dj_initialising.specs.Preparing.{parts}
 use Rattle.dj_acting.specs.declared.acted.Acted.{Acted}
 use Rattle.dj_acting.specs.declared.begun.Begun.{Begun}
 use Rattle.dj_acting.specs.declared.begun.Begun.TheVariants as begins
-use Rattle.dj_acting.specs.Acting.{ActsOnHeap, flow_told}
+use Rattle.dj_acting.specs.Acting.{ActsOnHeap, flow_reported}
 use Rattle.dj_settling.specs.declared.settled.Settled.TheVariants as settles
 use Rattle.dj_turning.specs.Running.{Running, IsRunning}
 use Rattle.dj_turning.specs.Doing.{IsTop, IsUsed}
@@ -38,7 +38,7 @@ pub record IsLeft (imaged : Imaged) (old new : Running) (acted : Acted) : Type 0
   pub known : AreKnown (types_of (typed_of imaged)) heap
   -- there is such a step
   pub flow : Flow
-  pub told : flow_told acted ≡ Some flow
+  pub reported : flow_reported acted ≡ Some flow
   pub is : new ≡ with_heap old heap frames
 
 -- what was done of the step

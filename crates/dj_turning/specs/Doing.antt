@@ -20,12 +20,12 @@ use Rattle.dj_activations.specs.Instructions.{HasInstruction, instruction_of_num
 use Rattle.dj_initialising.specs.declared.prepare.Prepared.{Prepared}
 use Rattle.dj_initialising.specs.Flags.{AreFlags}
 use Rattle.dj_initialising.specs.Store.{IsStore}
-use Rattle.dj_initialising.specs.Preparing.{prepared_told, with_parts}
+use Rattle.dj_initialising.specs.Preparing.{prepared_reported, with_parts}
 use Rattle.dj_acting.specs.declared.acted.Acted.{Acted}
-use Rattle.dj_acting.specs.Acting.{flow_told}
+use Rattle.dj_acting.specs.Acting.{flow_reported}
 use Rattle.dj_settling.specs.declared.settled.Settled.{Settled}
-use Rattle.dj_settling.specs.Told.{told_of}
-use Rattle.dj_settling.specs.Settling.{KeepsStop, Settles, settled_told, top_settled}
+use Rattle.dj_settling.specs.Reported.{reported_of}
+use Rattle.dj_settling.specs.Settling.{KeepsStop, Settles, settled_reported, top_settled}
 use Rattle.dj_turning.specs.Running.{Counts, Running, state_of, terms_of}
 
 -- ---- in the model
@@ -75,7 +75,7 @@ pub record IsTop (imaged : Imaged) (frames : List StackFrame) (method number : �
 
 -- the model answers this, where what the host gave comes first among its answers, whatever the others are; and this holds of the run then
 pub record TurnsBy (imaged : Imaged) (answer : Terms → State → Answer) (old new : Running) (gave : List HostAnswer) (settled : Settled) : Type 0 where
-  pub tells : (rest : List HostAnswer) → told_of (answer (terms_of old) (state_of imaged (gave ++ rest) old)) ≡ settled_told settled (state_of imaged rest new)
+  pub says : (rest : List HostAnswer) → reported_of (answer (terms_of old) (state_of imaged (gave ++ rest) old)) ≡ settled_reported settled (state_of imaged rest new)
   pub limit : new.parts.store.heap.limit ≡ old.parts.store.heap.limit
   pub counting : counting_of new.counter ≡ counting_of old.counter
   pub still : IsStill imaged new
@@ -91,7 +91,7 @@ pub record PreparesNext (imaged : Imaged) (old new : Running) (result : Prepared
   pub effect : (i : Instruction) (terms : Terms) (s : State) → next_of imaged (frames_seen (program_of imaged) old.parts.frames) ≡ Some i
       → terms.limit ≡ Some old.parts.store.heap.limit
       → prepared (program_of imaged) imaged.prefix terms (used_class (program_of imaged) imaged.prefix i) (with_parts imaged old.parts s)
-      ≡ prepared_told result (with_parts imaged new.parts s)
+      ≡ prepared_reported result (with_parts imaged new.parts s)
   pub limit : new.parts.store.heap.limit ≡ old.parts.store.heap.limit
   pub still : IsStill imaged new
   pub counter : new.counter ≡ old.counter
@@ -106,4 +106,4 @@ FlowSettles imaged exceeded (Some flow) before after old new result =
     Settles imaged exceeded (top_settled (program_of imaged) imaged.prefix flow) before after old new result
 
 abbrev pub ActedSettles : Imaged → Option Charge → Acted → LimitedHeap → LimitedHeap → List StackFrame → List StackFrame → Settled → Type 0
-ActedSettles imaged exceeded acted before after old new result = FlowSettles imaged exceeded (flow_told acted) before after old new result
+ActedSettles imaged exceeded acted before after old new result = FlowSettles imaged exceeded (flow_reported acted) before after old new result

@@ -18,7 +18,7 @@ use Rattle.dj_heap.specs.Heaps.{LimitedHeap}
 use Rattle.dj_stack.specs.Frames.{StackFrame, top_method, top_operands}
 use Rattle.dj_calls.specs.declared.answer.NativeAnswer.{NativeAnswer}
 use Rattle.dj_calls.specs.Counting.{Counter}
-use Rattle.dj_calls.specs.Calls.{KeepsCounter, KeepsHeap, effect_with, flow_told, given, part_with, terms_of, typed_heap}
+use Rattle.dj_calls.specs.Calls.{KeepsCounter, KeepsHeap, effect_with, flow_reported, given, part_with, terms_of, typed_heap}
 use Rattle.dj_calls.specs.Known.{AreKnown}
 use Rattle.dj_host.specs.Hosted.{with_answers}
 use Rattle.dj_types.specs.Typed.{types_of}
@@ -51,7 +51,7 @@ IsQuiet id = (args : List Value) → asks id args ≡ None
 
 -- the model's native method has this effect, where these answers of the host stand before the rest
 abbrev pub Answers : Program → Prefix → List Ty → LimitedHeap → LimitedHeap → Option Counter → Option Counter → List HostAnswer → NativeId → List Value → NativeAnswer → Type 0
-Answers program prefix types old new before after gave id args result = (flow : Flow) → flow_told id args result ≡ Some flow → (p : Part) (rest : List HostAnswer)
+Answers program prefix types old new before after gave id args result = (flow : Flow) → flow_reported id args result ≡ Some flow → (p : Part) (rest : List HostAnswer)
     → native program prefix (terms_of old before) (part_with types old before (with_answers (gave ++ rest) p)) id args
     ≡ Some (effect_with types new after result (with_answers rest p) flow)
 
@@ -65,12 +65,12 @@ pub record AnswersNative (imaged : Imaged) (old new : LimitedHeap) (before after
 -- the run goes on after such an answer, which it is ready for
 pub record IsAwaited (imaged : Imaged) (heap : LimitedHeap) (frames : List StackFrame) (id : NativeId) (args : List Value) (answer : NativeAnswer) : Type 0 where
   pub flow : Flow
-  pub told : flow_told id args answer ≡ Some flow
+  pub reported : flow_reported id args answer ≡ Some flow
   pub expected : IsExpected imaged heap frames id args answer
 
 -- what follows it
 pub record NativeSettles (imaged : Imaged) (exceeded : Option Charge) (id : NativeId) (args : List Value) (answer : NativeAnswer) (before after : LimitedHeap)
     (old new : List StackFrame) (result : Settled) : Type 0 where
   pub flow : Flow
-  pub told : flow_told id args answer ≡ Some flow
+  pub reported : flow_reported id args answer ≡ Some flow
   pub settles : Settles imaged exceeded (native_settled (program_of imaged) imaged.prefix (given answer) flow) before after old new result

@@ -13,7 +13,7 @@ ghost use Rattle.dj_linking.specs.Linked.{class_name};
 ghost use Rattle.dj_image.specs.Imaged.{program_of};
 ghost use Rattle.dj_types.specs.Members.{all_methods};
 ghost use Rattle.dj_activations.specs.Activations.{declared_at};
-ghost use Rattle.dj_invoking.specs.Choosing.{IsMethod, told_mode};
+ghost use Rattle.dj_invoking.specs.Choosing.{IsMethod, reported_mode};
 ghost use Rattle.dj_settling.specs.Settling.{HasOwn, IsStop};
 ghost use Rattle.dj_turning.specs.Running.{IsKept};
 ghost use Rattle.dj_turning.specs.Doing.{IsStill, TurnsBy, doing};
@@ -48,10 +48,10 @@ pub(crate) fn call<H: Host>(
     requires there { site.method.number < length (all_methods (program_of image.now)) }
     requires own { own < length (program_of image.now) }
     requires named { class_name (program_of image.now) own ≡ (declared_at (program_of image.now) (top_method run.old.parts.frames)).class }
-    requires called { (called : model.Mode) × (m : Member) × (resolved : FoundMethod) × (told_mode called ≡ site.mode)
+    requires called { (called : model.Mode) × (m : Member) × (resolved : FoundMethod) × (reported_mode called ≡ site.mode)
         × (resolve_method (program_of image.now) image.now.prefix m ≡ Some resolved) × IsMethod (program_of image.now) site.method resolved
         × (kinds_of (parameters_of m.desc) ≡ Some site.kinds.now) }
-    ensures turns { (called : model.Mode) (m : Member) (resolved : FoundMethod) → told_mode called ≡ site.entry.mode
+    ensures turns { (called : model.Mode) (m : Member) (resolved : FoundMethod) → reported_mode called ≡ site.entry.mode
         → resolve_method (program_of image.now) image.now.prefix m ≡ Some resolved → IsMethod (program_of image.now) site.entry.method resolved
         → kinds_of (parameters_of m.desc) ≡ Some site.entry.kinds.now
         → IfOk result (TurnsBy image.now (doing image.now (Invoke called m)) run.old run.new (given_since (H.given host.old) (H.given host.new))) }

@@ -9,7 +9,7 @@ ghost use Rattle.dj_types.specs.Members.{all_fields, all_methods};
 ghost use Rattle.dj_image.specs.Imaged.{program_of};
 ghost use Rattle.dj_image.specs.declared.operand.Operand.TheVariants as operands;
 ghost use Rattle.dj_activations.specs.Instructions.{HasInstruction, instruction_of_number};
-ghost use Rattle.dj_invoking.specs.Choosing.{IsMethod, told_mode};
+ghost use Rattle.dj_invoking.specs.Choosing.{IsMethod, reported_mode};
 ghost use Rattle.dj_acting.specs.Frugal.{LoadsByKnown, makes};
 ghost use Rattle.dj_turning.specs.Doing.{IsUsed};
 ghost use Rattle.dj_turning.specs.Uses.{IsOperandNamed, is_given};
@@ -44,7 +44,7 @@ pub(crate) fn used_class(
 
 fn called_class(image: &Image, mode: Mode, method: MethodId) -> Option<u32>
     requires there { method.number < length (all_methods (program_of image.now)) }
-    ensures { (called : model.Mode) (m : Member) (resolved : FoundMethod) → told_mode called ≡ mode
+    ensures { (called : model.Mode) (m : Member) (resolved : FoundMethod) → reported_mode called ≡ mode
         → resolve_method (program_of image.now) image.now.prefix m ≡ Some resolved → IsMethod (program_of image.now) method resolved → IsUsed image.now (Invoke called m) result }
 {
     match mode {

@@ -14,7 +14,7 @@ use Rattle.dj_classes.specs.declared.place.Place.{Place}
 use Rattle.dj_linking.specs.Numbers.{numbers_up}
 use Rattle.dj_types.specs.declared.heights.Height.{Height}
 use Rattle.dj_types.specs.declared.members.Members.{Members}
-use Rattle.dj_types.specs.declared.members.Starts.{Starts}
+use Rattle.dj_types.specs.declared.members.MemberStarts.{MemberStarts}
 use Rattle.dj_types.specs.Typed.{Typed, begins_array, ArePlain}
 use Rattle.dj_types.specs.Members.{all_methods, all_fields, methods_in, fields_in, field_number, found_method_number, found_field_number, method_of_class, field_of_class, IsMethodPlace, IsFieldPlace, native_at}
 use Rattle.dj_types.specs.Numbered.{counts_of, AreStarts, AreCounted, IsBegun, IsStartOf, AreMemberClasses, fields_of_numbers, fields_up, AreSums, IsHeight, height_at, AddsTo, AreHeights, AreMembers, AreObjectPlaces}
@@ -65,7 +65,7 @@ of_class_alone are = let e : 1 ≡ 3 = are.each 2 (omega arith) in omega (arith,
 start_left_out : AreStarts (2 ∷ 1 ∷ []) (0 ∷ []) → ⊥
 start_left_out are = let e : 1 ≡ 2 = are.long in omega (arith, e)
 
-module _ (s : Starts) (each_is : s.each.items ≡ 0 ∷ 2 ∷ []) where
+module _ (s : MemberStarts) (each_is : s.each.items ≡ 0 ∷ 2 ∷ []) where
   counted : s.total ≡ 3 → AreCounted (2 ∷ 1 ∷ []) s
   counted total = record { are = subst (λ (xs : List ℕ). AreStarts (2 ∷ 1 ∷ []) xs) (sym each_is) starts; total = total }
 

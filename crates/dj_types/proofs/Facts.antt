@@ -249,7 +249,7 @@ method_of_b = refl
 
 not_counted : IsNthMethod typed 1 0 (Some 0) → ⊥
 unfolding all_methods
-not_counted told = other_number 0 2 refl told
+not_counted reported = other_number 0 2 refl reported
 
 -- past the last method of a class there is none, though the next class has one; nor has an array one
 no_third : IsNthMethod typed 0 2 None
@@ -258,7 +258,7 @@ no_third = refl
 
 not_of_next : IsNthMethod typed 0 2 (Some 2) → ⊥
 unfolding all_methods
-not_of_next told = none-some 2 (sym told)
+not_of_next reported = none-some 2 (sym reported)
 
 none_of_array : IsNthMethod typed 6 0 None × IsNthField typed 6 0 None
 unfolding all_methods all_fields
@@ -270,11 +270,11 @@ field_of_b = refl
 
 field_not_counted : IsNthField typed 1 0 (Some 0) → ⊥
 unfolding all_fields
-field_not_counted told = other_number 0 2 refl told
+field_not_counted reported = other_number 0 2 refl reported
 
 no_second_field : IsNthField typed 1 1 (Some 3) → ⊥
 unfolding all_fields
-no_second_field told = none-some 3 (sym told)
+no_second_field reported = none-some 3 (sym reported)
 
 -- ---- numbers of what is found
 
@@ -297,9 +297,9 @@ none_of_class = refl
 
 -- ---- what is known of a member
 
-method_told : (told : MemberOf) → told.class ≡ 1 → told.flags ≡ 17 → told.name.now ≡ codes "m" → told.desc.now ≡ codes "()V" → IsMethodThere typed 2 told
+method_reported : (reported : MemberOf) → reported.class ≡ 1 → reported.flags ≡ 17 → reported.name.now ≡ codes "m" → reported.desc.now ≡ codes "()V" → IsMethodThere typed 2 reported
 unfolding all_methods
-method_told told class flags name desc = record {
+method_reported reported class flags name desc = record {
   found = record { class = codes "B"; method = runs 17 (codes "m") };
   there = refl;
   class = ap (λ (k : ℕ). name_at program k) class;
@@ -309,16 +309,16 @@ method_told told class flags name desc = record {
 }
 
 -- the method of the class below isn't the one of the class
-not_of_a : (told : MemberOf) → IsMethodThere typed 2 told → told.class ≡ 0 → ⊥
+not_of_a : (reported : MemberOf) → IsMethodThere typed 2 reported → reported.class ≡ 0 → ⊥
 unfolding all_methods
-not_of_a told is class =
+not_of_a reported is class =
     let found = same_Some (record { class = codes "B"; method = runs 17 (codes "m") }) is.found is.there in
     let named : Some (codes "A") ≡ Some (codes "B") = ap (λ (k : ℕ). name_at program k) (sym class) ∙ is.class ∙ ap (λ (f : FoundMethod). Some f.class) (sym found) in
     other_name (codes "A") (codes "B") refl (same_Some (codes "A") (codes "B") named)
 
-field_told : (told : MemberOf) → told.class ≡ 0 → told.flags ≡ 9 → told.name.now ≡ codes "s" → told.desc.now ≡ codes "I" → IsFieldThere typed 1 told
+field_reported : (reported : MemberOf) → reported.class ≡ 0 → reported.flags ≡ 9 → reported.name.now ≡ codes "s" → reported.desc.now ≡ codes "I" → IsFieldThere typed 1 reported
 unfolding all_fields
-field_told told class flags name desc = record {
+field_reported reported class flags name desc = record {
   found = record { class = codes "A"; field = field_with 9 (codes "s") int None };
   there = refl;
   class = ap (λ (k : ℕ). name_at program k) class;
@@ -327,9 +327,9 @@ field_told told class flags name desc = record {
   desc = record { text_is = desc; valid = record { few = omega arith; named = tt } };
 }
 
-not_named_otherwise : (told : MemberOf) → IsFieldThere typed 1 told → told.name.now ≡ codes "x" → ⊥
+not_named_otherwise : (reported : MemberOf) → IsFieldThere typed 1 reported → reported.name.now ≡ codes "x" → ⊥
 unfolding all_fields
-not_named_otherwise told is name =
+not_named_otherwise reported is name =
     let found = same_Some (record { class = codes "A"; field = field_with 9 (codes "s") int None }) is.found is.there in
     other_name (codes "x") (codes "s") refl (sym name ∙ is.name ∙ ap (λ (f : FoundField). f.field.name) (sym found))
 

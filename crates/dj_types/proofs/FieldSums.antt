@@ -19,9 +19,9 @@ use Rattle.dj_types.proofs.Starts.{get_push, get_end}
 no_height : (program : Program) → IsHeight program None (record { fields = 0; levels = 0 })
 no_height program = record { same = λ n. ap (fields_of_numbers program) (no_numbers_up (n + 0) program); few = omega arith }
 
-pub height_told : (program : Program) (heights : List (Option Height)) (class : Option ℕ) (height : Height) → AreHeights program heights → Some height ≡ height_at heights class → IsHeight program class height
-height_told program heights None height are told = subst (IsHeight program None) (same_Some (record { fields = 0; levels = 0 }) height (sym told)) (no_height program)
-height_told program heights (Some k) height are told = are.each k height (sym told)
+pub height_reported : (program : Program) (heights : List (Option Height)) (class : Option ℕ) (height : Height) → AreHeights program heights → Some height ≡ height_at heights class → IsHeight program class height
+height_reported program heights None height are reported = subst (IsHeight program None) (same_Some (record { fields = 0; levels = 0 }) height (sym reported)) (no_height program)
+height_reported program heights (Some k) height are reported = are.each k height (sym reported)
 
 level : (program : Program) (n class : ℕ) → fields_of_numbers program (numbers_up (suc n) program (Some class)) ≡ own_field_count (slice_get program class) + fields_of_numbers program (numbers_up n program (super_number program class))
 unfolding numbers_up

@@ -109,9 +109,9 @@ pub record HasFirst (count before : ℕ) (place number : Option ℕ) : Type 0 wh
   pub numbered : number ≡ Some (before + first)
 
 -- what a linker answers for a member is that member
-pub told_is : {A : Type 0} (told : Option (Option A)) (found : Option A) → told ≡ option_map Some found → option_and_then (λ x. x) told ≡ found
-told_is told None e = ap (option_and_then (λ x. x)) e
-told_is told (Some x) e = ap (option_and_then (λ x. x)) e
+pub reported_is : {A : Type 0} (reported : Option (Option A)) (found : Option A) → reported ≡ option_map Some found → option_and_then (λ x. x) reported ≡ found
+reported_is reported None e = ap (option_and_then (λ x. x)) e
+reported_is reported (Some x) e = ap (option_and_then (λ x. x)) e
 
 -- ---- methods
 
@@ -157,10 +157,10 @@ method_of_class program k member c m differ at is =
     }
 
 -- what is known of the first method of its class with the name and the descriptor of the one at a place
-pub first_method_named : (table program : Program) (place : Place) (name : Name) (desc : Desc) (told : Option ℕ) → table ≡ program → DoNamesDiffer program → place.class < length program → place.member < length (methods_at program place.class)
-    → IsNamedMethod name desc (method_there program place) → told ≡ method_place (methods_at table place.class) name desc
-    → HasFirst (length (methods_at program place.class)) (methods_before program place.class) told (found_method_number program (method_there program place))
-first_method_named table program place name desc told same differ lt within named is =
+pub first_method_named : (table program : Program) (place : Place) (name : Name) (desc : Desc) (reported : Option ℕ) → table ≡ program → DoNamesDiffer program → place.class < length program → place.member < length (methods_at program place.class)
+    → IsNamedMethod name desc (method_there program place) → reported ≡ method_place (methods_at table place.class) name desc
+    → HasFirst (length (methods_at program place.class)) (methods_before program place.class) reported (found_method_number program (method_there program place))
+first_method_named table program place name desc reported same differ lt within named is =
     let class : (c : Class) × (slice_get program place.class ≡ Some c) = some_there program place.class lt in
     let c : Class = class.0 in
     let methods : methods_at program place.class ≡ c.methods = ap methods_of class.1 in
@@ -250,34 +250,34 @@ first_field program place name desc differ lt within named described =
     let name_is : name ≡ g.name = same_Some name g.name (named ∙ ap (option_map field_name) there) in
     let desc_is : desc_in desc ≡ g.desc = desc_in_is desc g.desc (subst (λ (o : Option Field). IfSome o (λ x. Describes desc x.desc)) there described) in
     let found_is : field_there program place ≡ Some (record { class = c.name; field = g }) = rw (class.1, field.1) refl in
-    let told = field_of_class program place.class place.member c g differ class.1 field.1 in
-    let inside = told.within in
+    let reported = field_of_class program place.class place.member c g differ class.1 field.1 in
+    let inside = reported.within in
     let long = ap (λ (ms : List Field). length ms) fields in
     record {
-      first = told.first;
+      first = reported.first;
       within = omega (arith, inside, long);
-      is = ap (λ (ms : List Field). field_place ms name (desc_in desc)) fields ∙ ap (λ (n : Name). field_place c.fields n (desc_in desc)) name_is ∙ ap (field_place c.fields g.name) desc_is ∙ told.is;
-      numbered = ap (found_field_number program) found_is ∙ told.numbered;
+      is = ap (λ (ms : List Field). field_place ms name (desc_in desc)) fields ∙ ap (λ (n : Name). field_place c.fields n (desc_in desc)) name_is ∙ ap (field_place c.fields g.name) desc_is ∙ reported.is;
+      numbered = ap (found_field_number program) found_is ∙ reported.numbered;
     }
 
 -- and so where they are those of a table
-pub first_field_told : (table program : Program) (place : Place) (name desc : Name) (told : Option ℕ) → table ≡ program → DoNamesDiffer table → place.class < length program → place.member < length (fields_at program place.class)
+pub first_field_reported : (table program : Program) (place : Place) (name desc : Name) (reported : Option ℕ) → table ≡ program → DoNamesDiffer table → place.class < length program → place.member < length (fields_at program place.class)
     → Some name ≡ option_map field_name (slice_get (fields_at table place.class) place.member)
     → IfSome (slice_get (fields_at table place.class) place.member) (λ g. Describes desc g.desc)
-    → told ≡ field_place (fields_at table place.class) name (desc_in desc)
-    → HasFirst (length (fields_at program place.class)) (fields_before program place.class) told (found_field_number program (field_there program place))
-first_field_told table program place name desc told same differ lt within named described is =
-    let first : HasFirst (length (fields_at table place.class)) (fields_before table place.class) told (found_field_number table (field_there table place)) =
+    → reported ≡ field_place (fields_at table place.class) name (desc_in desc)
+    → HasFirst (length (fields_at program place.class)) (fields_before program place.class) reported (found_field_number program (field_there program place))
+first_field_reported table program place name desc reported same differ lt within named described is =
+    let first : HasFirst (length (fields_at table place.class)) (fields_before table place.class) reported (found_field_number table (field_there table place)) =
     subst (λ (o : Option ℕ). HasFirst (length (fields_at table place.class)) (fields_before table place.class) o (found_field_number table (field_there table place))) (sym is)
     (first_field table place name desc differ (subst (λ (p : Program). place.class < length p) (sym same) lt) (subst (λ (p : Program). place.member < length (fields_at p place.class)) (sym same) within) named described)
     in
-    subst (λ (p : Program). HasFirst (length (fields_at p place.class)) (fields_before p place.class) told (found_field_number p (field_there p place))) same first
+    subst (λ (p : Program). HasFirst (length (fields_at p place.class)) (fields_before p place.class) reported (found_field_number p (field_there p place))) same first
 
 -- the same for the one at a place that has this name and this descriptor
-pub first_field_named : (table program : Program) (place : Place) (name : Name) (desc : Desc) (told : Option ℕ) → table ≡ program → DoNamesDiffer program → place.class < length program → place.member < length (fields_at program place.class)
-    → IsNamedField name desc (field_there program place) → told ≡ field_place (fields_at table place.class) name desc
-    → HasFirst (length (fields_at program place.class)) (fields_before program place.class) told (found_field_number program (field_there program place))
-first_field_named table program place name desc told same differ lt within named is =
+pub first_field_named : (table program : Program) (place : Place) (name : Name) (desc : Desc) (reported : Option ℕ) → table ≡ program → DoNamesDiffer program → place.class < length program → place.member < length (fields_at program place.class)
+    → IsNamedField name desc (field_there program place) → reported ≡ field_place (fields_at table place.class) name desc
+    → HasFirst (length (fields_at program place.class)) (fields_before program place.class) reported (found_field_number program (field_there program place))
+first_field_named table program place name desc reported same differ lt within named is =
     let class : (c : Class) × (slice_get program place.class ≡ Some c) = some_there program place.class lt in
     let c : Class = class.0 in
     let fields : fields_at program place.class ≡ c.fields = ap fields_of class.1 in
@@ -297,6 +297,6 @@ first_field_named table program place name desc told same differ lt within named
     }
 
 pub field_described : (fields : List Field) (member : ℕ) (desc : Name) → member < length fields → IfSome (slice_get fields member) (λ g. Describes desc g.desc) → IsDescriptor desc
-field_described fields member desc lt told =
+field_described fields member desc lt reported =
     let field : (g : Field) × (slice_get fields member ≡ Some g) = some_there fields member lt in
-    is_descriptor desc field.0.desc (subst (λ (o : Option Field). IfSome o (λ g. Describes desc g.desc)) field.1 told)
+    is_descriptor desc field.0.desc (subst (λ (o : Option Field). IfSome o (λ g. Describes desc g.desc)) field.1 reported)

@@ -21,7 +21,7 @@ use Rattle.dj_linking.proofs.Walks.{Missing, There, looked, no_numbers_up, numbe
 use Rattle.dj_types.specs.Typed.{Typed, AreArrays, types_of, type_at, is_array_of}
 use Rattle.dj_types.specs.Members as members
 use Rattle.dj_types.proofs.Starts.{some_there}
-use Rattle.dj_types.proofs.Told.{IsArray, array_there, type_there, type_of_class, known_at}
+use Rattle.dj_types.proofs.Reported.{IsArray, array_there, type_there, type_of_class, known_at}
 
 -- ---- by numbers
 
@@ -38,11 +38,11 @@ home_of_type program prefix ty array =
 
 pub home_of_array : (typed : Typed) (class count : ℕ) (object : Option ℕ) → AreArrays typed.program typed.arrays → count ≡ length typed.program → class < length (types_of typed) → count ≤ class
     → object ≡ class_number typed.program (object_name typed.prefix) → object ≡ class_number typed.program (member_class typed.prefix (type_at typed class))
-home_of_array typed class count object arrays is lt le told =
+home_of_array typed class count object arrays is lt le reported =
     let array : IsArray typed class (class - count) = array_there typed class count (class - count) is lt le refl in
     let ty : (ty : Ty) × (slice_get typed.arrays (class - count) ≡ Some ty) = some_there typed.arrays (class - count) array.within in
     let known : IsTrue (is_array_of typed.program ty.0) = known_at typed.program typed.arrays arrays.each (class - count) ty.0 ty.1 in
-    told ∙ ap (class_number typed.program) (sym (ap (member_class typed.prefix) (type_there typed class (class - count) ty.0 array ty.1) ∙ home_of_type typed.program typed.prefix ty.0 known))
+    reported ∙ ap (class_number typed.program) (sym (ap (member_class typed.prefix) (type_there typed class (class - count) ty.0 array ty.1) ∙ home_of_type typed.program typed.prefix ty.0 known))
 
 -- ---- resolution in a class that is there
 
@@ -107,12 +107,12 @@ no_field_resolved typed class name desc none =
 
 -- ---- selection
 
-pub selected_told : (typed : Typed) (number class : ℕ) (found : FoundMethod) (t : Option (Option FoundMethod)) → slice_get (members.all_methods typed.program) number ≡ Some found
+pub selected_reported : (typed : Typed) (number class : ℕ) (found : FoundMethod) (t : Option (Option FoundMethod)) → slice_get (members.all_methods typed.program) number ≡ Some found
     → t ≡ option_map Some (select typed.program typed.prefix found (type_at typed class)) → t ≡ option_map Some (members.selected typed number class)
-selected_told typed number class found t at told =
-    told ∙ ap (λ (o : Option FoundMethod). option_map Some (option_and_then (λ (f : FoundMethod). select typed.program typed.prefix f (type_at typed class)) o)) (sym at)
+selected_reported typed number class found t at reported =
+    reported ∙ ap (λ (o : Option FoundMethod). option_map Some (option_and_then (λ (f : FoundMethod). select typed.program typed.prefix f (type_at typed class)) o)) (sym at)
 
-pub special_told : (typed : Typed) (number class : ℕ) (found : FoundMethod) (t : Option (Option FoundMethod)) → slice_get (members.all_methods typed.program) number ≡ Some found
+pub special_reported : (typed : Typed) (number class : ℕ) (found : FoundMethod) (t : Option (Option FoundMethod)) → slice_get (members.all_methods typed.program) number ≡ Some found
     → t ≡ option_map Some (special_method typed.program (class_name typed.program class) found) → t ≡ option_map Some (members.special_of typed number class)
-special_told typed number class found t at told =
-    told ∙ ap (λ (o : Option FoundMethod). option_map Some (option_and_then (special_method typed.program (class_name typed.program class)) o)) (sym at)
+special_reported typed number class found t at reported =
+    reported ∙ ap (λ (o : Option FoundMethod). option_map Some (option_and_then (special_method typed.program (class_name typed.program class)) o)) (sym at)

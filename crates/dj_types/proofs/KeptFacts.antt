@@ -17,8 +17,8 @@ use Rattle.dj_model.specs.trusted.Linking.{most_classes, chain_of, field_count}
 use Rattle.dj_model.specs.SmallRuns.{class_with, field_with}
 use Rattle.dj_types.specs.declared.arrays.Arrays.{Arrays}
 use Rattle.dj_types.specs.declared.members.Members.{Members}
-use Rattle.dj_types.specs.declared.shapes.Element.{Element}
-use Rattle.dj_types.specs.declared.shapes.Element.TheVariants as elements
+use Rattle.dj_types.specs.declared.shapes.ElementType.{ElementType}
+use Rattle.dj_types.specs.declared.shapes.ElementType.TheVariants as elements
 use Rattle.dj_types.specs.declared.shapes.Shape.{Shape}
 use Rattle.dj_linking.specs.Directories.{CallTable, IsCallTable}
 use Rattle.dj_types.specs.Kept.{DoTextsRise, number_among, component_text, number_if, component_in, wholes_of, text_in, AreKept, IsTyped}
@@ -151,14 +151,14 @@ array_itself e = other_number 0 5 refl e
 
 -- ---- shapes
 
-abbrev shape : ℕ → Element → Shape
+abbrev shape : ℕ → ElementType → Shape
 shape dims of = record { dims = dims; of = of }
 
-elements_told : map (element_of program) (elements.Base bases.Long ∷ elements.Class 0 ∷ elements.Class 3 ∷ []) ≡ ofs.Base bases.Long ∷ ofs.Class (codes "A") ∷ ofs.Class (codes "java/lang/Object") ∷ []
-elements_told = refl
+elements_reported : map (element_of program) (elements.Base bases.Long ∷ elements.Class 0 ∷ elements.Class 3 ∷ []) ≡ ofs.Base bases.Long ∷ ofs.Class (codes "A") ∷ ofs.Class (codes "java/lang/Object") ∷ []
+elements_reported = refl
 
-shapes_told : map (shape_type program) (shape 0 (elements.Class 1) ∷ shape 1 (elements.Base bases.Int) ∷ shape 2 (elements.Class 0) ∷ []) ≡ class_type (codes "B") ∷ ints ∷ array_type (array_of (codes "A")) ∷ []
-shapes_told = refl
+shapes_reported : map (shape_type program) (shape 0 (elements.Class 1) ∷ shape 1 (elements.Base bases.Int) ∷ shape 2 (elements.Class 0) ∷ []) ≡ class_type (codes "B") ∷ ints ∷ array_type (array_of (codes "A")) ∷ []
+shapes_reported = refl
 
 elements_there : IsElement program (elements.Base bases.Byte) × IsElement program (elements.Class 3)
 elements_there = (tt, omega arith)
@@ -172,7 +172,7 @@ elements_found = refl
 shapes_found : map (shape_in program) (class_type (codes "B") ∷ ints ∷ array_type (array_of (codes "A")) ∷ int ∷ []) ≡ shape 0 (elements.Class 1) ∷ shape 1 (elements.Base bases.Int) ∷ shape 2 (elements.Class 0) ∷ shape 0 (elements.Base bases.Int) ∷ []
 shapes_found = refl
 
-abbrev class_of : Element → ℕ
+abbrev class_of : ElementType → ℕ
 class_of (elements.Base base) = 99
 class_of (elements.Class class) = class
 
@@ -252,32 +252,32 @@ module _ (k : Arrays) (m : Members) (c : CallTable) (o : OwnClasses) (ps : List 
   all_kept kept members calls own places = record { plain = plain; arrays_are = kept; members_are = members; calls_are = calls; own_are = own; places_are = places }
 
   bracket_in_name : IsTyped (record a_class { name = codes "[I" } ∷ []) [] [] k m c o ps → ⊥
-  bracket_in_name told = true≢false (told.plain 0 (codes "[I") refl)
+  bracket_in_name reported = true≢false (reported.plain 0 (codes "[I") refl)
 
   arrays_of_none : k.components.items ≡ [] → IsTyped program [] types k m c o ps → ⊥
-  arrays_of_none is told = let e : 0 ≡ 3 = ap length (sym is ∙ told.arrays_are.components) in omega (arith, e)
+  arrays_of_none is reported = let e : 0 ≡ 3 = ap length (sym is ∙ reported.arrays_are.components) in omega (arith, e)
 
   members_of_none : m.field_sums.items ≡ [] → IsTyped program [] types k m c o ps → ⊥
-  members_of_none is told = let e : 0 ≡ 4 = sym (ap length is) ∙ told.members_are.sums.long in omega (arith, e)
+  members_of_none is reported = let e : 0 ≡ 4 = sym (ap length is) ∙ reported.members_are.sums.long in omega (arith, e)
 
   -- there is no String, no array of chars or bytes and no object that stops a run
   string_of_none : o.string ≡ Some 0 → IsTyped program [] types k m c o ps → ⊥
-  string_of_none is told = let e : Some 0 ≡ None = sym is ∙ told.own_are.string in absurd cc
+  string_of_none is reported = let e : Some 0 ≡ None = sym is ∙ reported.own_are.string in absurd cc
 
   chars_of_none : o.chars ≡ Some 0 → IsTyped program [] types k m c o ps → ⊥
-  chars_of_none is told = none-some 0 (sym (told.own_are.array bases.Char) ∙ is)
+  chars_of_none is reported = none-some 0 (sym (reported.own_are.array bases.Char) ∙ is)
 
   bytes_of_none : o.bytes ≡ Some 4 → IsTyped program [] types k m c o ps → ⊥
-  bytes_of_none is told = none-some 4 (sym (told.own_are.array bases.Byte) ∙ is)
+  bytes_of_none is reported = none-some 4 (sym (reported.own_are.array bases.Byte) ∙ is)
 
   -- those of ints are there
   ints_left_out : o.ints ≡ None → IsTyped program [] types k m c o ps → ⊥
-  ints_left_out is told = none-some 4 (sym is ∙ told.own_are.array bases.Int)
+  ints_left_out is reported = none-some 4 (sym is ∙ reported.own_are.array bases.Int)
 
   stop_of_none : o.stop ≡ Some 0 → IsTyped program [] types k m c o ps → ⊥
-  stop_of_none is told = let e : Some 0 ≡ None = sym is ∙ told.own_are.stop in absurd cc
+  stop_of_none is reported = let e : Some 0 ≡ None = sym is ∙ reported.own_are.stop in absurd cc
 
   -- the classes have five fields
   places_of_one : ps ≡ 0 ∷ [] → IsTyped program [] types k m c o ps → ⊥
   unfolding all_fields
-  places_of_one is told = let e : 1 ≡ 5 = sym (ap length is) ∙ told.places_are.long in omega (arith, e)
+  places_of_one is reported = let e : 1 ≡ 5 = sym (ap length is) ∙ reported.places_are.long in omega (arith, e)

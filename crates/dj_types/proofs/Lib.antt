@@ -2,7 +2,7 @@ pub mod Links
 pub mod Texts
 pub mod Numbers
 pub mod Rising
-pub mod Told
+pub mod Reported
 pub mod Wholes
 pub mod Starts
 pub mod Placed

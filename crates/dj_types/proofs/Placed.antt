@@ -151,23 +151,23 @@ place_of_field program starts number place are lt at =
     }
 
 -- what is known where the start was read
-pub method_id_told : (program : Program) (starts : List ℕ) (place : Place) (start : ℕ) → AreStarts (counts_of methods_in program) starts → length (all_methods program) < 2 ^ 32 → place.class < length program → place.member < length (methods_at program place.class)
+pub method_id_reported : (program : Program) (starts : List ℕ) (place : Place) (start : ℕ) → AreStarts (counts_of methods_in program) starts → length (all_methods program) < 2 ^ 32 → place.class < length program → place.member < length (methods_at program place.class)
     → start ≡ get_or starts place.class start → IsNumbered (all_methods program) (methods_before program place.class) start place.member (method_there program place)
-method_id_told program starts place start are few there within read =
+method_id_reported program starts place start are few there within read =
     subst (λ (n : ℕ). IsNumbered (all_methods program) (methods_before program place.class) n place.member (method_there program place))
     (sym (get_or_read starts place.class start (method_starts_within program starts place.class are there) read 0)) (numbered_method program starts place are few there within)
 
 -- what is known where the start was read
-pub field_id_told : (program : Program) (starts : List ℕ) (place : Place) (start : ℕ) → AreStarts (counts_of fields_in program) starts → length (all_fields program) < 2 ^ 32 → place.class < length program → place.member < length (fields_at program place.class)
+pub field_id_reported : (program : Program) (starts : List ℕ) (place : Place) (start : ℕ) → AreStarts (counts_of fields_in program) starts → length (all_fields program) < 2 ^ 32 → place.class < length program → place.member < length (fields_at program place.class)
     → start ≡ get_or starts place.class start → IsNumbered (all_fields program) (fields_before program place.class) start place.member (field_there program place)
-field_id_told program starts place start are few there within read =
+field_id_reported program starts place start are few there within read =
     subst (λ (n : ℕ). IsNumbered (all_fields program) (fields_before program place.class) n place.member (field_there program place))
     (sym (get_or_read starts place.class start (field_starts_within program starts place.class are there) read 0)) (numbered_field program starts place are few there within)
 
 -- a place that was found is that of a method
 pub method_bounds : (program : Program) (place : Place) (found : Option FoundMethod) → Some (method_there program place) ≡ option_map Some found → (place.class < length program) × (place.member < length (methods_at program place.class))
-method_bounds program place None told = absurd (none-some (method_there program place) (sym told))
-method_bounds program place (Some found) told = class_by (slice_get program place.class) refl (same_Some (method_there program place) (Some found) told) where
+method_bounds program place None reported = absurd (none-some (method_there program place) (sym reported))
+method_bounds program place (Some found) reported = class_by (slice_get program place.class) refl (same_Some (method_there program place) (Some found) reported) where
   member_by : (c : Class) (o : Option Method) → slice_get c.methods place.member ≡ o → option_map (λ (x : Method). record { class = c.name; method = x }) o ≡ Some found → place.member < length c.methods
   member_by c None at is = absurd (none-some found is)
   member_by c (Some x) at is = slice_get_within c.methods place.member x at
@@ -179,8 +179,8 @@ method_bounds program place (Some found) told = class_by (slice_get program plac
 
 -- a place that was found is that of a field
 pub field_bounds : (program : Program) (place : Place) (found : Option FoundField) → Some (field_there program place) ≡ option_map Some found → (place.class < length program) × (place.member < length (fields_at program place.class))
-field_bounds program place None told = absurd (none-some (field_there program place) (sym told))
-field_bounds program place (Some found) told = class_by (slice_get program place.class) refl (same_Some (field_there program place) (Some found) told) where
+field_bounds program place None reported = absurd (none-some (field_there program place) (sym reported))
+field_bounds program place (Some found) reported = class_by (slice_get program place.class) refl (same_Some (field_there program place) (Some found) reported) where
   member_by : (c : Class) (o : Option Field) → slice_get c.fields place.member ≡ o → option_map (λ (x : Field). record { class = c.name; field = x }) o ≡ Some found → place.member < length c.fields
   member_by c None at is = absurd (none-some found is)
   member_by c (Some x) at is = slice_get_within c.fields place.member x at

@@ -14,7 +14,7 @@ use Rattle.dj_classes.specs.Tables.{method_there, field_there}
 use Rattle.dj_classes.specs.declared.place.Place.{Place}
 use Rattle.dj_linking.specs.Linked.{Linked, member_of, resolved_method, resolved_field}
 use Rattle.dj_types.specs.Named.{IsNamedMethod, IsNamedField}
-use Rattle.dj_types.proofs.First.{told_is}
+use Rattle.dj_types.proofs.First.{reported_is}
 
 method_named : (linked : Linked) (class : ℕ) (name : Name) (desc : List ℕ) → IsNamedMethod name (desc_in desc) (resolved_method linked class name desc)
 method_named linked class name desc = by (resolved_method linked class name desc) refl where
@@ -25,8 +25,8 @@ method_named linked class name desc = by (resolved_method linked class name desc
 -- the method at a place that was found
 pub method_named_at : (linked : Linked) (class : ℕ) (name : Name) (desc : List ℕ) (place : Place) → Some (method_there linked.program place) ≡ option_map Some (resolved_method linked class name desc)
     → IsNamedMethod name (desc_in desc) (method_there linked.program place)
-method_named_at linked class name desc place told =
-    subst (λ (o : Option FoundMethod). IsNamedMethod name (desc_in desc) o) (sym (told_is (Some (method_there linked.program place)) (resolved_method linked class name desc) told)) (method_named linked class name desc)
+method_named_at linked class name desc place reported =
+    subst (λ (o : Option FoundMethod). IsNamedMethod name (desc_in desc) o) (sym (reported_is (Some (method_there linked.program place)) (resolved_method linked class name desc) reported)) (method_named linked class name desc)
 
 -- ---- fields
 
@@ -63,5 +63,5 @@ field_named linked class name desc = by (resolved_field linked class name desc) 
 -- the field at a place that was found
 pub field_named_at : (linked : Linked) (class : ℕ) (name : Name) (desc : List ℕ) (place : Place) → Some (field_there linked.program place) ≡ option_map Some (resolved_field linked class name desc)
     → IsNamedField name (desc_in desc) (field_there linked.program place)
-field_named_at linked class name desc place told =
-    subst (λ (o : Option FoundField). IsNamedField name (desc_in desc) o) (sym (told_is (Some (field_there linked.program place)) (resolved_field linked class name desc) told)) (field_named linked class name desc)
+field_named_at linked class name desc place reported =
+    subst (λ (o : Option FoundField). IsNamedField name (desc_in desc) o) (sym (reported_is (Some (field_there linked.program place)) (resolved_field linked class name desc) reported)) (field_named linked class name desc)

@@ -8,7 +8,7 @@ use Rattle.std.proofs.lemmas.List.Sums.{sum_by-cons, sum_by_more}
 use Rattle.std.proofs.lemmas.Option.{none-some, same_Some}
 use Rattle.dj_model.specs.trusted.Program.{Program, Class}
 use Rattle.dj_classes.specs.declared.place.Place.{Place}
-use Rattle.dj_types.specs.declared.members.Starts.{Starts}
+use Rattle.dj_types.specs.declared.members.MemberStarts.{MemberStarts}
 use Rattle.dj_types.specs.Numbered.{counts_of, AreStarts, AreCounted, AreMemberClasses, IsBegun, IsStartOf}
 
 -- ---- sums
@@ -54,7 +54,7 @@ summed_more counts k starts more start next lt summed is counted = record {
   ];
 }
 
-pub summed_all : (counts : List ℕ) (k : ℕ) (starts : Starts) → k ≡ length counts → IsSummed counts k starts.each.items starts.total → AreCounted counts starts
+pub summed_all : (counts : List ℕ) (k : ℕ) (starts : MemberStarts) → k ≡ length counts → IsSummed counts k starts.each.items starts.total → AreCounted counts starts
 summed_all counts k starts end summed = record {
   are = record {
     long = summed.long ∙ end;
@@ -72,7 +72,7 @@ begun (x ∷ counts) starts number are lt =
     let first : get_or starts 0 0 ≡ 0 = are.each 0 (omega arith) in
     record { some = omega (arith, long); first = omega (arith, first) }
 
-pub counted_begun : (counts : List ℕ) (starts : Starts) → AreCounted counts starts → 0 < starts.total → IsBegun starts.each.items 0
+pub counted_begun : (counts : List ℕ) (starts : MemberStarts) → AreCounted counts starts → 0 < starts.total → IsBegun starts.each.items 0
 counted_begun counts starts counted lt = let total = counted.total in begun counts starts.each.items 0 counted.are (omega (arith, total, lt))
 
 pub begun_later : (starts : List ℕ) (number : ℕ) → IsBegun starts 0 → IsBegun starts number
@@ -206,6 +206,6 @@ module _ {F : Type 0} (items : Class → List F) where
 
   -- the count given for a class is its own
   pub count_there : (program : Program) (k count : ℕ) → k < length program → ((c : Class) → slice_get program k ≡ Some c → count ≡ length (items c)) → count ≡ get_or (counts program) k 0
-  count_there program k count lt told =
+  count_there program k count lt reported =
       let class : (c : Class) × (slice_get program k ≡ Some c) = some_there program k lt in
-      told class.0 class.1 ∙ sym (count_at program k class.0 class.1)
+      reported class.0 class.1 ∙ sym (count_at program k class.0 class.1)

@@ -40,8 +40,8 @@ count_by_name program class differ lt = fields_in_numbers program (chain program
 abbrev count_of_name : Program → Option Name → ℕ
 count_of_name program name = unwrap_or (option_map (field_count program) name) 0
 
-pub field_count_told : (program : Program) (sums : List ℕ) (class : ℕ) → AreSums program sums → DoNamesDiffer program → get_or sums class 0 ≡ count_of_name program (name_at program class)
-field_count_told program sums class are differ = elim (cases_lt class (length program)) [
+pub field_count_reported : (program : Program) (sums : List ℕ) (class : ℕ) → AreSums program sums → DoNamesDiffer program → get_or sums class 0 ≡ count_of_name program (name_at program class)
+field_count_reported program sums class are differ = elim (cases_lt class (length program)) [
   | inl lt ↦
       let class_is : (c : Class) × (slice_get program class ≡ Some c) = some_there program class lt in
       let named : name_at program class ≡ Some class_is.0.name = rw class_is.1 refl in
@@ -113,11 +113,11 @@ module _ (program : Program) (place : Place) (c : Class) (f : Field) (differ : D
             ap Some here ∙ ap (option_map (place_of program)) (sym found_is));
       }
 
-pub place_told : (program : Program) (sums : List ℕ) (place : Place) (found : Option FoundField) (sum own before : ℕ) → AreSums program sums → DoNamesDiffer program → place.class < length program → place.member < length (fields_at program place.class)
+pub place_reported : (program : Program) (sums : List ℕ) (place : Place) (found : Option FoundField) (sum own before : ℕ) → AreSums program sums → DoNamesDiffer program → place.class < length program → place.member < length (fields_at program place.class)
     → field_there program place ≡ found → sum ≡ get_or sums place.class sum → own ≡ count_fields false (fields_at program place.class)
     → IfSome (slice_get (fields_at program place.class) place.member) (λ f. before ≡ fields_before false f.name f.desc (fields_at program place.class))
     → IsFieldPlace program found sum own before
-place_told program sums place found sum own before are differ lt within is read owns befores =
+place_reported program sums place found sum own before are differ lt within is read owns befores =
     let class : (c : Class) × (slice_get program place.class ≡ Some c) = some_there program place.class lt in
     let fields : fields_at program place.class ≡ class.0.fields = ap fields_of class.1 in
     let field : (f : Field) × (slice_get class.0.fields place.member ≡ Some f) = some_there class.0.fields place.member (subst (λ (fs : List Field). place.member < length fs) fields within) in

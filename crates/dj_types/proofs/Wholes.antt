@@ -19,8 +19,8 @@ use Rattle.dj_model.specs.trusted.Program.{Program, Class}
 use Rattle.dj_classes.specs.Tables.{name_of, name_at}
 use Rattle.dj_linking.specs.Linked.{class_name}
 use Rattle.dj_types.specs.declared.arrays.Arrays.{Arrays}
-use Rattle.dj_types.specs.declared.shapes.Element.{Element}
-use Rattle.dj_types.specs.declared.shapes.Element.TheVariants as elements
+use Rattle.dj_types.specs.declared.shapes.ElementType.{ElementType}
+use Rattle.dj_types.specs.declared.shapes.ElementType.TheVariants as elements
 use Rattle.dj_types.specs.declared.shapes.Shape.{Shape}
 use Rattle.dj_types.specs.Typed.{Typed, AreArrays, texts_of, types_of, is_known_of, is_array_of, text_of_type}
 use Rattle.dj_types.specs.Shapes.{IsElement, AreElements, shape_type}
@@ -69,7 +69,7 @@ read_class program k lt = get_or-append-add (map whole_of_base all_bases) (map w
 few_dims : (dims : ℕ) → nat_le dims 255 ≡ true → dims ≤ 255
 few_dims dims e = grind (arith, nat_tests)
 
-pub text_of : (program : Program) (dims : ℕ) (of : Element) → dims ≤ 255 → IsElement program of → text_in (wholes_of program) (record { dims = dims; of = of }) ≡ type_text (shape_type program (record { dims = dims; of = of }))
+pub text_of : (program : Program) (dims : ℕ) (of : ElementType) → dims ≤ 255 → IsElement program of → text_in (wholes_of program) (record { dims = dims; of = of }) ≡ type_text (shape_type program (record { dims = dims; of = of }))
 text_of program dims (elements.Base base) few there = ap (λ (text : Name). drop (255 - dims) text) (read_base program base) ∙ end_of_whole (ofs.Base base) dims few
 text_of program dims (elements.Class k) few there = ap (λ (text : Name). drop (255 - dims) text) (read_class program k there) ∙ end_of_whole (ofs.Class (class_name program k)) dims few
 
@@ -79,14 +79,14 @@ parts_of_array program ty e =
     let few = and_parts (nat_le ty.dims 255) (is_known_of program ty.of) known.1 in
     (few_dims ty.dims few.0, few.1)
 
-pub texts_told : (program : Program) (shapes : List Shape) → IsTrue (list_all (is_array_of program) (map (shape_type program) shapes)) → AreElements program shapes
+pub texts_reported : (program : Program) (shapes : List Shape) → IsTrue (list_all (is_array_of program) (map (shape_type program) shapes)) → AreElements program shapes
     → map (text_in (wholes_of program)) shapes ≡ map type_text (map (shape_type program) shapes)
-texts_told program [] e there = refl
-texts_told program (s ∷ shapes) e there =
+texts_reported program [] e there = refl
+texts_reported program (s ∷ shapes) e there =
     let all = and_parts (is_array_of program (shape_type program s)) (list_all (is_array_of program) (map (shape_type program) shapes)) e in
     let own = parts_of_array program (shape_type program s) all.0 in
     ap (λ (text : Name). text ∷ map (text_in (wholes_of program)) shapes) (text_of program s.dims s.of own.0 there.0)
-    ∙ ap (λ (texts : List Name). type_text (shape_type program s) ∷ texts) (texts_told program shapes all.1 there.1)
+    ∙ ap (λ (texts : List Name). type_text (shape_type program s) ∷ texts) (texts_reported program shapes all.1 there.1)
 
 -- ---- what is kept
 
@@ -111,7 +111,7 @@ whole_more program class name before old new lt named is now =
 
 pub spelled_by : (program : Program) (wholes : List Name) (shapes : List Shape) → wholes ≡ wholes_of program → AreArrays program (map (shape_type program) shapes) → AreElements program shapes
     → map (text_in wholes) shapes ≡ map type_text (map (shape_type program) shapes)
-spelled_by program wholes shapes w arrays elements = ap (λ (ws : List Name). map (text_in ws) shapes) w ∙ texts_told program shapes arrays.each elements
+spelled_by program wholes shapes w arrays elements = ap (λ (ws : List Name). map (text_in ws) shapes) w ∙ texts_reported program shapes arrays.each elements
 
 pub some_dims : (program : Program) (shapes : List Shape) → IsTrue (list_all (is_array_of program) (map (shape_type program) shapes)) → (k : ℕ) (d : Shape) → k < length shapes → 1 ≤ (get_or shapes k d).dims
 some_dims program [] all k d lt = absurd (omega (arith, lt))
@@ -122,7 +122,7 @@ some_dims program (s ∷ shapes) all (suc k) d lt = some_dims program shapes ((a
 
 -- ---- what the elements are
 
-deep_text : (program : Program) (of : Element) (dims : ℕ) → 1 < dims → Some (type_text (shape_type program (record { dims = dims - 1; of = of }))) ≡ component_text (shape_type program (record { dims = dims; of = of }))
+deep_text : (program : Program) (of : ElementType) (dims : ℕ) → 1 < dims → Some (type_text (shape_type program (record { dims = dims - 1; of = of }))) ≡ component_text (shape_type program (record { dims = dims; of = of }))
 deep_text program (elements.Base base) dims deep = sym (ap (λ (b : Bool). if b then Some (text_of_type (record { dims = dims - 1; of = ofs.Base base })) else None) (two dims deep)) where
   two : (d : ℕ) → 1 < d → nat_le 2 d ≡ true
   two d lt = grind (arith, nat_tests)
@@ -135,7 +135,7 @@ deep_text program (elements.Class k) dims deep =
       more : (d : ℕ) → 1 < d → nat_eq (d - 1) 0 ≡ false
       more d lt = grind (arith, nat_tests)
 
-pub component_deep : (program : Program) (wholes : List Name) (dims : ℕ) (of : Element) → wholes ≡ wholes_of program → 1 < dims → dims ≤ 255 → IsElement program of
+pub component_deep : (program : Program) (wholes : List Name) (dims : ℕ) (of : ElementType) → wholes ≡ wholes_of program → 1 < dims → dims ≤ 255 → IsElement program of
     → Some (text_in wholes (record { dims = dims - 1; of = of })) ≡ component_text (shape_type program (record { dims = dims; of = of }))
 component_deep program wholes dims of w deep few there =
     ap (λ (ws : List Name). Some (text_in ws (record { dims = dims - 1; of = of }))) w ∙ ap Some (text_of program (dims - 1) of (omega (arith, few)) there) ∙ deep_text program of dims deep

@@ -17,8 +17,8 @@ use Rattle.dj_linking.specs.Directories.{CallTable, IsCallTable}
 use Rattle.dj_types.specs.declared.arrays.Arrays.{Arrays}
 use Rattle.dj_types.specs.declared.members.Members.{Members}
 use Rattle.dj_types.specs.Typed.{ArePlain, AreArrays, has_references, place_of_text, text_of_type}
-use Rattle.dj_types.specs.declared.shapes.Element.{Element}
-use Rattle.dj_types.specs.declared.shapes.Element.TheVariants as elements
+use Rattle.dj_types.specs.declared.shapes.ElementType.{ElementType}
+use Rattle.dj_types.specs.declared.shapes.ElementType.TheVariants as elements
 use Rattle.dj_types.specs.declared.shapes.Shape.{Shape}
 use Rattle.dj_types.specs.Shapes.{AreElements, shape_type}
 use Rattle.dj_types.specs.Numbered.{AreMembers, AreObjectPlaces}
@@ -73,7 +73,7 @@ base_place bases.Long = 5
 base_place bases.Float = 6
 base_place bases.Double = 7
 
-abbrev pub whole_place : Element → ℕ
+abbrev pub whole_place : ElementType → ℕ
 whole_place (elements.Base base) = base_place base
 whole_place (elements.Class class) = 8 + class
 

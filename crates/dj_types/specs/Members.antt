@@ -101,21 +101,21 @@ IsNthField typed class at number =
     number ≡ (if nat_lt at (length (fields_at typed.program class)) then Some (fields_before typed.program class + at) else None)
 
 -- what is answered for the method of a number
-pub record IsMethodThere (typed : Typed) (number : ℕ) (told : MemberOf) : Type 0 where
+pub record IsMethodThere (typed : Typed) (number : ℕ) (reported : MemberOf) : Type 0 where
   pub found : FoundMethod
   pub there : slice_get (all_methods typed.program) number ≡ Some found
-  pub class : name_at typed.program told.class ≡ Some found.class
-  pub flags : told.flags ≡ found.method.flags
-  pub name : told.name.now ≡ found.method.name
-  pub desc : Describes told.desc.now found.method.desc
+  pub class : name_at typed.program reported.class ≡ Some found.class
+  pub flags : reported.flags ≡ found.method.flags
+  pub name : reported.name.now ≡ found.method.name
+  pub desc : Describes reported.desc.now found.method.desc
 
-pub record IsFieldThere (typed : Typed) (number : ℕ) (told : MemberOf) : Type 0 where
+pub record IsFieldThere (typed : Typed) (number : ℕ) (reported : MemberOf) : Type 0 where
   pub found : FoundField
   pub there : slice_get (all_fields typed.program) number ≡ Some found
-  pub class : name_at typed.program told.class ≡ Some found.class
-  pub flags : told.flags ≡ found.field.flags
-  pub name : told.name.now ≡ found.field.name
-  pub desc : Describes told.desc.now found.field.desc
+  pub class : name_at typed.program reported.class ≡ Some found.class
+  pub flags : reported.flags ≡ found.field.flags
+  pub name : reported.name.now ≡ found.field.name
+  pub desc : Describes reported.desc.now found.field.desc
 
 -- ---- places
 

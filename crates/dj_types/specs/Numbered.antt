@@ -6,7 +6,7 @@ use Rattle.dj_model.specs.trusted.Linking.{most_classes, own_field_count, place_
 use Rattle.dj_classes.specs.declared.place.Place.{Place}
 use Rattle.dj_linking.specs.Numbers.{numbers_up}
 use Rattle.dj_types.specs.declared.members.Members.{Members}
-use Rattle.dj_types.specs.declared.members.Starts.{Starts}
+use Rattle.dj_types.specs.declared.members.MemberStarts.{MemberStarts}
 use Rattle.dj_types.specs.declared.heights.Height.{Height}
 use Rattle.dj_types.specs.Members.{all_methods, all_fields, methods_in, fields_in}
 
@@ -22,7 +22,7 @@ pub record AreStarts (counts starts : List ℕ) : Type 0 where
   pub each : (k : ℕ) → k < length counts → get_or starts k 0 ≡ sum (take k counts)
 
 -- and how many there are in all
-pub record AreCounted (counts : List ℕ) (starts : Starts) : Type 0 where
+pub record AreCounted (counts : List ℕ) (starts : MemberStarts) : Type 0 where
   pub are : AreStarts counts starts.each.items
   pub total : starts.total ≡ sum counts
 

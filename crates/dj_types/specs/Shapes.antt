@@ -7,13 +7,13 @@ use Rattle.dj_names.specs.declared.descriptor.Ty.{Ty}
 use Rattle.dj_model.specs.trusted.Program.{Program}
 use Rattle.dj_classes.specs.Tables.{class_number}
 use Rattle.dj_linking.specs.Linked.{class_name}
-use Rattle.dj_types.specs.declared.shapes.Element.{Element}
-use Rattle.dj_types.specs.declared.shapes.Element.TheVariants as elements
+use Rattle.dj_types.specs.declared.shapes.ElementType.{ElementType}
+use Rattle.dj_types.specs.declared.shapes.ElementType.TheVariants as elements
 use Rattle.dj_types.specs.declared.shapes.Shape.{Shape}
 
 -- ---- a type of a shape
 
-abbrev pub element_of : Program → Element → Of
+abbrev pub element_of : Program → ElementType → Of
 element_of program (elements.Base base) = ofs.Base base
 element_of program (elements.Class class) = ofs.Class (class_name program class)
 
@@ -21,7 +21,7 @@ abbrev pub shape_type : Program → Shape → Ty
 shape_type program shape = record { dims = shape.dims; of = element_of program shape.of }
 
 -- the class of the elements is there
-abbrev pub IsElement : Program → Element → Type 0
+abbrev pub IsElement : Program → ElementType → Type 0
 IsElement program (elements.Base base) = Unit {0}
 IsElement program (elements.Class class) = class < length program
 
@@ -32,7 +32,7 @@ AreElements program shapes = AllByRecursion (λ (shape : Shape). IsElement progr
 -- ---- a shape of a type
 
 -- where the class isn't there its number doesn't matter
-abbrev pub element_in : Program → Of → Element
+abbrev pub element_in : Program → Of → ElementType
 element_in program (ofs.Base base) = elements.Base base
 element_in program (ofs.Class name) = elements.Class (unwrap_or (class_number program name) 0)
 

@@ -5,7 +5,7 @@ ghost use Rattle.dj_types.specs.Shapes.{IsElement, AreElements, shape_type};
 ghost use Rattle.dj_types.specs.Kept.{AreKept, DoTextsRise, all_bases, base_place, component_in, component_text, number_among, text_in, whole_of_base, whole_of_class, whole_place, whole_text, wholes_of};
 
 use crate::error::TypesError;
-use crate::shapes::{Element, Shape};
+use crate::shapes::{ElementType, Shape};
 use dj_classes::ClassTable;
 use dj_declared::spell_type;
 use dj_names::{Base, Name, NoMemory, Of, Ty};
@@ -68,12 +68,12 @@ fn base_place(base: Base) -> usize
     }
 }
 
-fn whole_place(of: Element) -> usize
+fn whole_place(of: ElementType) -> usize
     ensures { result ≡ whole_place of }
 {
     match of {
-        Element::Base(base) => base_place(base),
-        Element::Class(class) => 8 + class as usize,
+        ElementType::Base(base) => base_place(base),
+        ElementType::Class(class) => 8 + class as usize,
     }
 }
 
@@ -163,8 +163,8 @@ fn component_text<'i>(table: &'i ClassTable, wholes: &'i [Name], shape: Shape) -
         return Some(text_in(wholes, Shape { dims: dims - 1, of }));
     }
     match of {
-        Element::Base(_) => None,
-        Element::Class(class) => Some(table.name_of(class)),
+        ElementType::Base(_) => None,
+        ElementType::Class(class) => Some(table.name_of(class)),
     }
 }
 

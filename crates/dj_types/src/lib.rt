@@ -16,5 +16,5 @@ pub use dj_linking::{BaseNames, Directory, Linker};
 pub use error::TypesError;
 pub use named::MemberName;
 pub use own::raised_name;
-pub use shapes::{Element, Shape, shape_of};
+pub use shapes::{ElementType, Shape, shape_of};
 pub use types::{FieldId, MemberOf, MethodId, Types};

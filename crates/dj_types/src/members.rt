@@ -26,7 +26,7 @@ pub struct Members {
 
 /// The members of classes, counted.
 #[derive(Drop)]
-pub struct Starts {
+pub struct MemberStarts {
     /// How many stand in the classes before each class.
     pub each: Vec<u32>,
     /// How many there are in all.
@@ -44,7 +44,7 @@ fn sum_of(start: u32, count: usize) -> Result<u32, TypesError>
 }
 
 // The methods of classes, counted.
-fn method_starts(alloc: Global, table: &ClassTable) -> Result<Starts, TypesError>
+fn method_starts(alloc: Global, table: &ClassTable) -> Result<MemberStarts, TypesError>
     ensures { IfOk result (λ starts. AreCounted (counts_of methods_in table.now) starts) }
 {
     let mut each = Vec::new(alloc);
@@ -53,11 +53,11 @@ fn method_starts(alloc: Global, table: &ClassTable) -> Result<Starts, TypesError
         each.push(total)?;
         total = sum_of(total, table.method_count(class))?;
     }
-    Ok(Starts { each, total })
+    Ok(MemberStarts { each, total })
 }
 
 // The fields of classes, counted.
-fn field_starts(alloc: Global, table: &ClassTable) -> Result<Starts, TypesError>
+fn field_starts(alloc: Global, table: &ClassTable) -> Result<MemberStarts, TypesError>
     ensures { IfOk result (λ starts. AreCounted (counts_of fields_in table.now) starts) }
 {
     let mut each = Vec::new(alloc);
@@ -66,7 +66,7 @@ fn field_starts(alloc: Global, table: &ClassTable) -> Result<Starts, TypesError>
         each.push(total)?;
         total = sum_of(total, table.field_count(class))?;
     }
-    Ok(Starts { each, total })
+    Ok(MemberStarts { each, total })
 }
 
 // The class of the member of a number, and its place among the members of the class, by halving.

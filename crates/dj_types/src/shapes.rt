@@ -10,7 +10,7 @@ use dj_names::{Base, Of, Ty};
 
 /// What an array's elements are.
 #[derive(Clone, Copy, Debug, PartialEq, Eq)]
-pub enum Element {
+pub enum ElementType {
     Base(Base),
     /// The class of this number.
     Class(u32),
@@ -20,17 +20,17 @@ pub enum Element {
 #[derive(Clone, Copy, Debug, PartialEq, Eq)]
 pub struct Shape {
     pub dims: u8,
-    pub of: Element,
+    pub of: ElementType,
 }
 
-fn element_of(table: &ClassTable, of: &Of) -> Element
+fn element_of(table: &ClassTable, of: &Of) -> ElementType
     requires { IsTrue (is_known_of table.now of.now) }
     ensures { result ≡ element_in table.now of.now }
 {
     match of {
-        Of::Base(base) => Element::Base(*base),
+        Of::Base(base) => ElementType::Base(*base),
         Of::Class(name) => match table.class_named(name.as_slice()) {
-            Some(class) => Element::Class(class),
+            Some(class) => ElementType::Class(class),
             None => unreachable!(),
         },
     }
@@ -66,25 +66,28 @@ fn is_above_arrays(base: BaseNames, name: &[u8]) -> bool
 }
 
 // Whether arrays can be elements of arrays of these elements.
-fn takes_arrays(linker: &Linker, of: Element) -> bool
+fn takes_arrays(linker: &Linker, of: ElementType) -> bool
     requires { IsElement linker.now.program of }
     ensures { result ≡ takes_arrays linker.now.prefix (element_of linker.now.program of) }
 {
     match of {
-        Element::Base(_) => false,
-        Element::Class(class) => is_above_arrays(linker.base(), linker.classes().name_of(class)),
+        ElementType::Base(_) => false,
+        ElementType::Class(class) => is_above_arrays(
+            linker.base(),
+            linker.classes().name_of(class),
+        ),
     }
 }
 
 // Whether an element is of the type of another.
-fn is_below(linker: &Linker, a: Element, b: Element) -> bool
+fn is_below(linker: &Linker, a: ElementType, b: ElementType) -> bool
     requires first { IsElement linker.now.program a }
     requires second { IsElement linker.now.program b }
     ensures { result ≡ is_below linker.now.program (element_of linker.now.program a) (element_of linker.now.program b) }
 {
     match (a, b) {
-        (Element::Base(a), Element::Base(b)) => a == b,
-        (Element::Class(a), Element::Class(b)) => linker.is_subclass(a, b),
+        (ElementType::Base(a), ElementType::Base(b)) => a == b,
+        (ElementType::Class(a), ElementType::Class(b)) => linker.is_subclass(a, b),
         _ => false,
     }
 }

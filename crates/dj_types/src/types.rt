@@ -16,7 +16,7 @@ use crate::members::{Members, count_at, is_descriptor, place_at};
 use crate::named::{MemberName, field_in, method_in};
 use crate::own::OwnClasses;
 use crate::places::object_places;
-use crate::shapes::{Element, Shape, is_subtype};
+use crate::shapes::{ElementType, Shape, is_subtype};
 use dj_classes::Place;
 use dj_linking::{CallTable, Directory, Linker, resolve_field_of, resolve_method_of};
 use dj_names::{Base, NativeId, Raised};
@@ -207,7 +207,7 @@ impl Types {
             Some(array) => self.kept.shapes[array as usize],
             None => Shape {
                 dims: 0,
-                of: Element::Class(class),
+                of: ElementType::Class(class),
             },
         }
     }

@@ -20,28 +20,28 @@ use Rattle.dj_image.specs.Imaged.{Imaged, program_of}
 use Rattle.dj_image.specs.Operands.{named_class}
 use Rattle.dj_image.specs.Codes.{PooledCode, HasRange, IsCaughtAt}
 use Rattle.dj_activations.specs.Activations.{declared_at}
-use Rattle.dj_activations.specs.Told.{IsCodeOf}
+use Rattle.dj_activations.specs.Reported.{IsCodeOf}
 use Rattle.dj_unwinding.specs.HandlerRows.{IsRowOf, HasRow}
 use Rattle.dj_unwinding.specs.Unwinding.{ranges_of, ranges_at, is_handling}
 
 -- ---- rows by their places
 
-ranges_told : (imaged : Imaged) (method : ℕ) (row : ℕ) (r : Protected) (is : IsRowOf imaged method row r) → ranges_at imaged method ≡ map (range_in is.told.pool) is.code.code.ranges
+ranges_reported : (imaged : Imaged) (method : ℕ) (row : ℕ) (r : Protected) (is : IsRowOf imaged method row r) → ranges_at imaged method ≡ map (range_in is.reported.pool) is.code.code.ranges
 unfolding code_in
-ranges_told imaged method row r is = ap ranges_of is.told.is
+ranges_reported imaged method row r is = ap ranges_of is.reported.is
 
-pub row_told : (imaged : Imaged) (method at : ℕ) (r : Protected) (is : IsRowOf imaged method at r) → slice_get (ranges_at imaged method) at ≡ Some (range_in is.told.pool r)
-row_told imaged method at r is =
-    ap (λ (ranges : List Range). slice_get ranges at) (ranges_told imaged method at r is)
-    ∙ (slice_get-map (range_in is.told.pool) is.code.code.ranges at ∙ ap (option_map (range_in is.told.pool)) is.stands)
+pub row_reported : (imaged : Imaged) (method at : ℕ) (r : Protected) (is : IsRowOf imaged method at r) → slice_get (ranges_at imaged method) at ≡ Some (range_in is.reported.pool r)
+row_reported imaged method at r is =
+    ap (λ (ranges : List Range). slice_get ranges at) (ranges_reported imaged method at r is)
+    ∙ (slice_get-map (range_in is.reported.pool) is.code.code.ranges at ∙ ap (option_map (range_in is.reported.pool)) is.stands)
 
-row_is : (imaged : Imaged) (method at : ℕ) (r : Protected) (is : IsRowOf imaged method at r) (range : Range) → slice_get (ranges_at imaged method) at ≡ Some range → range_in is.told.pool r ≡ range
-row_is imaged method at r is range e = same_Some (range_in is.told.pool r) range (sym (row_told imaged method at r is) ∙ e)
+row_is : (imaged : Imaged) (method at : ℕ) (r : Protected) (is : IsRowOf imaged method at r) (range : Range) → slice_get (ranges_at imaged method) at ≡ Some range → range_in is.reported.pool r ≡ range
+row_is imaged method at r is range e = same_Some (range_in is.reported.pool r) range (sym (row_reported imaged method at r is) ∙ e)
 
 pub has_range : (imaged : Imaged) (method at : ℕ) → HasRow imaged method at → HasRange imaged method at
 has_range imaged method at has = record {
-  code = record { pool = has.is.told.pool; parts = parts_of has.is.code };
-  own = has.is.told.own;
+  code = record { pool = has.is.reported.pool; parts = parts_of has.is.code };
+  own = has.is.reported.own;
   within = slice_get_within has.is.code.code.ranges at has.row has.is.stands;
 }
 
@@ -52,13 +52,13 @@ has_row imaged method at r is = record { row = r; is = is }
 
 pub caught_is : (imaged : Imaged) (method at : ℕ) → HasRow imaged method at → (caught : Option ℕ) → IsCaughtAt imaged method at caught → (range : Range)
     → slice_get (ranges_at imaged method) at ≡ Some range → caught ≡ option_and_then (named_class imaged) range.catches
-caught_is imaged method at has caught told range e =
-    let own : PooledCode = record { pool = has.is.told.pool; parts = parts_of has.is.code } in
-    let same : told.code ≡ own = same_Some told.code own (sym told.own ∙ has.is.told.own) in
-    let stands : slice_get has.is.code.code.ranges at ≡ Some told.row = subst (λ (c : PooledCode). slice_get c.parts.labelled.ranges at ≡ Some told.row) same told.stands in
-    let row : told.row ≡ has.row = same_Some told.row has.row (sym stands ∙ has.is.stands) in
-    told.is ∙ (ap (λ (c : PooledCode). option_and_then (named_class imaged) (catches_in c.pool told.row.catch_type)) same
-    ∙ (ap (λ (r : Protected). option_and_then (named_class imaged) (catches_in has.is.told.pool r.catch_type)) row
+caught_is imaged method at has caught reported range e =
+    let own : PooledCode = record { pool = has.is.reported.pool; parts = parts_of has.is.code } in
+    let same : reported.code ≡ own = same_Some reported.code own (sym reported.own ∙ has.is.reported.own) in
+    let stands : slice_get has.is.code.code.ranges at ≡ Some reported.row = subst (λ (c : PooledCode). slice_get c.parts.labelled.ranges at ≡ Some reported.row) same reported.stands in
+    let row : reported.row ≡ has.row = same_Some reported.row has.row (sym stands ∙ has.is.stands) in
+    reported.is ∙ (ap (λ (c : PooledCode). option_and_then (named_class imaged) (catches_in c.pool reported.row.catch_type)) same
+    ∙ (ap (λ (r : Protected). option_and_then (named_class imaged) (catches_in has.is.reported.pool r.catch_type)) row
     ∙ ap (λ (r : Range). option_and_then (named_class imaged) r.catches) (row_is imaged method at has.row has.is range e)))
 
 -- a method with code
@@ -100,7 +100,7 @@ module _ (imaged : Imaged) (method at : ℕ) (r : Protected) (is : IsRowOf image
   abbrev Handles : Range → Bool
   Handles x = is_handling (program_of imaged) imaged.prefix class number x
 
-  handles_row : (b : Bool) → b ≡ Handles (range_in is.told.pool r) → b ≡ Handles range
+  handles_row : (b : Bool) → b ≡ Handles (range_in is.reported.pool r) → b ≡ Handles range
   handles_row b same = same ∙ ap Handles (row_is imaged method at r is range e)
 
   no_le : number < r.start → nat_le r.start number ≡ false
@@ -123,22 +123,22 @@ module _ (imaged : Imaged) (method at : ℕ) (r : Protected) (is : IsRowOf image
   before_row lt = handles_row false (rw (no_le lt) refl)
 
   pub after_row : r.end ≤ number → false ≡ Handles range
-  after_row le = handles_row false (rw (no_lt le) (neither (nat_le r.start number) (catches (program_of imaged) imaged.prefix class (catches_in is.told.pool r.catch_type))))
+  after_row le = handles_row false (rw (no_lt le) (neither (nat_le r.start number) (catches (program_of imaged) imaged.prefix class (catches_in is.reported.pool r.catch_type))))
 
   pub any_row : r.start ≤ number → number < r.end → r.catch_type ≡ 0 → true ≡ Handles range
   any_row le lt any = handles_row true (rw (yes_le le, yes_lt lt, any) refl)
 
   pub row_by_type : r.start ≤ number → number < r.end → (b : Bool) → b ≡ catches (program_of imaged) imaged.prefix class range.catches → b ≡ Handles range
   row_by_type le lt b caught =
-      let as_told : catches (program_of imaged) imaged.prefix class range.catches ≡ catches (program_of imaged) imaged.prefix class (catches_in is.told.pool r.catch_type) =
+      let as_reported : catches (program_of imaged) imaged.prefix class range.catches ≡ catches (program_of imaged) imaged.prefix class (catches_in is.reported.pool r.catch_type) =
       ap (λ (x : Range). catches (program_of imaged) imaged.prefix class x.catches) (sym (row_is imaged method at r is range e)) in
-      handles_row b (rw (yes_le le, yes_lt lt) (caught ∙ as_told))
+      handles_row b (rw (yes_le le, yes_lt lt) (caught ∙ as_reported))
 
   pub names_type : (r.catch_type ≡ 0 → ⊥) → range.catches ≡ None → ⊥
   names_type some none =
-      let told : catches_in is.told.pool r.catch_type ≡ None = ap (λ (x : Range). x.catches) (row_is imaged method at r is range e) ∙ none in
+      let reported : catches_in is.reported.pool r.catch_type ≡ None = ap (λ (x : Range). x.catches) (row_is imaged method at r is range e) ∙ none in
       let test : nat_eq r.catch_type 0 ≡ false = ne_eqb r.catch_type 0 some in
-      absurd (none-some _ (sym (rw test at told)))
+      absurd (none-some _ (sym (rw test at reported)))
 
 -- ---- the first row that handles
 
@@ -179,20 +179,20 @@ pub past_none : (imaged : Imaged) (method : ℕ) (class : Ty) (number : ℕ) →
 past_none imaged method class number = record { same = refl }
 
 module _ (imaged : Imaged) (method : ℕ) (class : Ty) (number at : ℕ) (r : Protected) (is : IsRowOf imaged method at r) (past : IsPast imaged method class number at) where
-  abbrev Told : Bool → Type 0
-  Told b = (range : Range) → slice_get (ranges_at imaged method) at ≡ Some range → b ≡ is_handling (program_of imaged) imaged.prefix class number range
+  abbrev Reported : Bool → Type 0
+  Reported b = (range : Range) → slice_get (ranges_at imaged method) at ≡ Some range → b ≡ is_handling (program_of imaged) imaged.prefix class number range
 
-  pub found_here : Told true → Some r.handler ≡ handler_in (program_of imaged) imaged.prefix class number (ranges_at imaged method)
-  found_here told =
-      let range : Range = range_in is.told.pool r in
-      let there : slice_get (ranges_at imaged method) at ≡ Some range = row_told imaged method at r is in
-      sym (past.same ∙ first_handles (program_of imaged) imaged.prefix class number (ranges_at imaged method) at range there (sym (told range there)))
+  pub found_here : Reported true → Some r.handler ≡ handler_in (program_of imaged) imaged.prefix class number (ranges_at imaged method)
+  found_here reported =
+      let range : Range = range_in is.reported.pool r in
+      let there : slice_get (ranges_at imaged method) at ≡ Some range = row_reported imaged method at r is in
+      sym (past.same ∙ first_handles (program_of imaged) imaged.prefix class number (ranges_at imaged method) at range there (sym (reported range there)))
 
-  pub passed_here : Told false → IsPast imaged method class number (at + 1)
-  passed_here told =
-      let range : Range = range_in is.told.pool r in
-      let there : slice_get (ranges_at imaged method) at ≡ Some range = row_told imaged method at r is in
-      record { same = past.same ∙ first_passes (program_of imaged) imaged.prefix class number (ranges_at imaged method) at range there (sym (told range there)) }
+  pub passed_here : Reported false → IsPast imaged method class number (at + 1)
+  passed_here reported =
+      let range : Range = range_in is.reported.pool r in
+      let there : slice_get (ranges_at imaged method) at ≡ Some range = row_reported imaged method at r is in
+      record { same = past.same ∙ first_passes (program_of imaged) imaged.prefix class number (ranges_at imaged method) at range there (sym (reported range there)) }
 
 drop_past : (ranges : List Range) (n : ℕ) → length ranges ≤ n → drop n ranges ≡ []
 drop_past [] zero le = refl
@@ -202,10 +202,10 @@ drop_past (x ∷ ranges) (suc n) le = drop_past ranges n (omega (arith, le))
 
 ranges_count : (imaged : Imaged) (method : ℕ) (code : MethodCode) → IsCodeOf imaged method code → length (ranges_at imaged method) ≡ length code.code.ranges
 unfolding code_in
-ranges_count imaged method code told = ap (λ (o : Option Code). length (ranges_of o)) told.is ∙ length-map code.code.ranges (range_in told.pool)
+ranges_count imaged method code reported = ap (λ (o : Option Code). length (ranges_of o)) reported.is ∙ length-map code.code.ranges (range_in reported.pool)
 
 pub found_nowhere : (imaged : Imaged) (method : ℕ) (class : Ty) (number at : ℕ) (code : MethodCode) → IsCodeOf imaged method code → IsPast imaged method class number at → length code.code.ranges ≤ at
     → None ≡ handler_in (program_of imaged) imaged.prefix class number (ranges_at imaged method)
-found_nowhere imaged method class number at code told past le =
-    let count = ranges_count imaged method code told in
+found_nowhere imaged method class number at code reported past le =
+    let count = ranges_count imaged method code reported in
     sym (past.same ∙ ap (handler_in (program_of imaged) imaged.prefix class number) (drop_past (ranges_at imaged method) at (omega (arith, le, count))))

@@ -19,7 +19,7 @@ use Rattle.dj_stack.specs.Frames.{StackFrame, SameFrames, SameButNumber, SameBut
 use Rattle.dj_classes.specs.Tables.{name_of}
 use Rattle.dj_image.specs.Imaged.{Imaged, program_of}
 use Rattle.dj_activations.specs.Activations.{declared_at, frame_seen, frames_seen, IsActivation, AreActivations}
-use Rattle.dj_activations.specs.Told.{IsInitialiserOf}
+use Rattle.dj_activations.specs.Reported.{IsInitialiserOf}
 use Rattle.dj_activations.proofs.Standing.{code_of_activation, below_stand, same_stand}
 use Rattle.dj_activations.proofs.Rooms.{handler_room}
 use Rattle.dj_unwinding.specs.declared.returning.Returned.TheVariants as returns

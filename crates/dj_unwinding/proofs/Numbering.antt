@@ -24,7 +24,7 @@ use Rattle.dj_classes.proofs.Numbered.{class_at-number, name_at-number}
 use Rattle.dj_classes.proofs.Orders.{names_from_same}
 use Rattle.dj_types.specs.Typed.{Typed, texts_of, types_of, type_at, place_of_text, text_number, text_of_type, type_number, is_subtype_at}
 use Rattle.dj_types.proofs.Numbers.{number_of_class, place_within}
-use Rattle.dj_types.proofs.Told.{types_among}
+use Rattle.dj_types.proofs.Reported.{types_among}
 use Rattle.dj_image.specs.Imaged.{Imaged, typed_of, program_of}
 use Rattle.dj_image.specs.Operands.{named_class}
 use Rattle.dj_image.proofs.RowFacts.{type_once}
@@ -60,9 +60,9 @@ caught_within imaged (Some named) k e = named_within imaged named k (sym e)
 
 -- ---- what has the number of a text
 
-place_told : (texts : List Name) (text : Name) (k : ℕ) → place_of_text texts text ≡ Some k → slice_get texts k ≡ Some text
-place_told [] text k e = absurd (none-some k e)
-place_told (x ∷ texts) text k e = by (same_name x text) refl (place_of_text texts text) (place_told texts text) k e where
+place_reported : (texts : List Name) (text : Name) (k : ℕ) → place_of_text texts text ≡ Some k → slice_get texts k ≡ Some text
+place_reported [] text k e = absurd (none-some k e)
+place_reported (x ∷ texts) text k e = by (same_name x text) refl (place_of_text texts text) (place_reported texts text) k e where
   by : (b : Bool) → same_name x text ≡ b → (n : Option ℕ) → ((j : ℕ) → n ≡ Some j → slice_get texts j ≡ Some text)
       → (k : ℕ) → (if b then Some 0 else option_map suc n) ≡ Some k → slice_get (x ∷ texts) k ≡ Some text
   by true same n later zero f = ap Some (names_from_same x text same)
@@ -96,9 +96,9 @@ array_begins n of = refl
 
 array_is : (typed : Typed) → ArePlain (types_of typed) → (n : ℕ) (of : Of) (k : ℕ) → type_number typed (record { dims = suc n; of = of }) ≡ Some k
     → type_at typed k ≡ record { dims = suc n; of = of }
-array_is typed plain n of k e = elim (typed_by typed.program typed.arrays k text (place_told (texts_of typed) text k told)) [
+array_is typed plain n of k e = elim (typed_by typed.program typed.arrays k text (place_reported (texts_of typed) text k reported)) [
   | inl class ↦ let is : type_at typed k ≡ class_type text = type_is typed k (class_type text) class in
-      absurd (both_ways (begins_array text) (sym (ap (λ (t : Ty). begins_array (class_name t)) is) ∙ plain k (number_within typed text k told) (ap (λ (t : Ty). t.dims) is)) (array_begins n of))
+      absurd (both_ways (begins_array text) (sym (ap (λ (t : Ty). begins_array (class_name t)) is) ∙ plain k (number_within typed text k reported) (ap (λ (t : Ty). t.dims) is)) (array_begins n of))
   | inr array ↦ type_is typed k array.0 array.1 ∙ type_once array.0 ty array.2
 ] where
   ty : Ty
@@ -107,14 +107,14 @@ array_is typed plain n of k e = elim (typed_by typed.program typed.arrays k text
   text : Name
   text = type_text ty
 
-  told : text_number typed text ≡ Some k
-  told = ap (text_number typed) (sym (array_text n of)) ∙ e
+  reported : text_number typed text ≡ Some k
+  reported = ap (text_number typed) (sym (array_text n of)) ∙ e
 
 -- ---- classes
 
 -- a class of the program has a number
-class_told : (typed : Typed) (name : Name) → is_class_of typed.program (class_type name) ≡ true → (k : ℕ) × (type_number typed (class_type name) ≡ Some k) × (type_at typed k ≡ class_type name)
-class_told typed name known = by (class_number typed.program name) refl where
+class_reported : (typed : Typed) (name : Name) → is_class_of typed.program (class_type name) ≡ true → (k : ℕ) × (type_number typed (class_type name) ≡ Some k) × (type_at typed k ≡ class_type name)
+class_reported typed name known = by (class_number typed.program name) refl where
   by : (o : Option ℕ) → class_number typed.program name ≡ o → (k : ℕ) × (type_number typed (class_type name) ≡ Some k) × (type_at typed k ≡ class_type name)
   by None e =
       let none : class_at typed.program name ≡ None = class_at-number typed.program name ∙ ap (option_and_then (slice_get typed.program)) e in
@@ -132,9 +132,9 @@ class_told typed name known = by (class_number typed.program name) refl where
 -- ---- subtypes
 
 -- what the test on numbers says of a class, and of none
-abbrev pub told_by : Typed → ℕ → Option ℕ → Bool
-told_by typed class None = false
-told_by typed class (Some k) = is_subtype_at typed class k
+abbrev pub reported_by : Typed → ℕ → Option ℕ → Bool
+reported_by typed class None = false
+reported_by typed class (Some k) = is_subtype_at typed class k
 
 -- a class is below no array
 no_array : (program : Program) (prefix : Prefix) (a : Ty) (n : ℕ) (of : Of) → a.dims ≡ 0 → is_subtype program prefix a (record { dims = suc n; of = of }) ≡ false
@@ -145,19 +145,19 @@ no_array program prefix a n of plain =
     let none : (if nat_lt (suc n) 0 then takes_arrays prefix of else nat_eq 0 (suc n) && is_below program a.of of) ≡ false = rw (less, equal) refl in
     ap (λ (dims : ℕ). if nat_lt (suc n) dims then takes_arrays prefix of else nat_eq dims (suc n) && is_below program a.of of) plain ∙ none
 
-below_told : (typed : Typed) → ArePlain (types_of typed) → (class : ℕ) → IsClassNumber typed class → (dims : ℕ) (of : Of) → is_class_of typed.program (record { dims = dims; of = of }) ≡ true
-    → (o : Option ℕ) → o ≡ type_number typed (record { dims = dims; of = of }) → told_by typed class o ≡ is_subtype typed.program typed.prefix (type_at typed class) (record { dims = dims; of = of })
-below_told typed plain class is zero (ofs.Base base) known o e = absurd (false≢true known)
-below_told typed plain class is zero (ofs.Class name) known o e =
-    let found = class_told typed name known in
-    ap (told_by typed class) (e ∙ found.1) ∙ ap (is_subtype typed.program typed.prefix (type_at typed class)) found.2
-below_told typed plain class is (suc n) of known None e = sym (no_array typed.program typed.prefix (type_at typed class) n of is.plain)
-below_told typed plain class is (suc n) of known (Some k) e =
+below_reported : (typed : Typed) → ArePlain (types_of typed) → (class : ℕ) → IsClassNumber typed class → (dims : ℕ) (of : Of) → is_class_of typed.program (record { dims = dims; of = of }) ≡ true
+    → (o : Option ℕ) → o ≡ type_number typed (record { dims = dims; of = of }) → reported_by typed class o ≡ is_subtype typed.program typed.prefix (type_at typed class) (record { dims = dims; of = of })
+below_reported typed plain class is zero (ofs.Base base) known o e = absurd (false≢true known)
+below_reported typed plain class is zero (ofs.Class name) known o e =
+    let found = class_reported typed name known in
+    ap (reported_by typed class) (e ∙ found.1) ∙ ap (is_subtype typed.program typed.prefix (type_at typed class)) found.2
+below_reported typed plain class is (suc n) of known None e = sym (no_array typed.program typed.prefix (type_at typed class) n of is.plain)
+below_reported typed plain class is (suc n) of known (Some k) e =
     ap (is_subtype typed.program typed.prefix (type_at typed class)) (array_is typed plain n of k (sym e))
 
-pub caught_told : (imaged : Imaged) → ArePlain (types_of (typed_of imaged)) → (class : ℕ) → IsClassNumber (typed_of imaged) class → (named : Option Named) → is_caught (program_of imaged) named ≡ true
+pub caught_reported : (imaged : Imaged) → ArePlain (types_of (typed_of imaged)) → (class : ℕ) → IsClassNumber (typed_of imaged) class → (named : Option Named) → is_caught (program_of imaged) named ≡ true
     → (named ≡ None → ⊥) → (caught : Option ℕ) → caught ≡ option_and_then (named_class imaged) named
-    → told_by (typed_of imaged) class caught ≡ catches (program_of imaged) imaged.prefix (type_at (typed_of imaged) class) named
-caught_told imaged plain class is None known some caught e = absurd (some refl)
-caught_told imaged plain class is (Some (AClass ty)) known some caught e = below_told (typed_of imaged) plain class is ty.dims ty.of known caught e
-caught_told imaged plain class is (Some named) known some caught e = absurd (false≢true known)
+    → reported_by (typed_of imaged) class caught ≡ catches (program_of imaged) imaged.prefix (type_at (typed_of imaged) class) named
+caught_reported imaged plain class is None known some caught e = absurd (some refl)
+caught_reported imaged plain class is (Some (AClass ty)) known some caught e = below_reported (typed_of imaged) plain class is ty.dims ty.of known caught e
+caught_reported imaged plain class is (Some named) known some caught e = absurd (false≢true known)

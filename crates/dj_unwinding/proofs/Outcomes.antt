@@ -24,28 +24,28 @@ use Rattle.dj_unwinding.specs.Results.{contents_in, array_outcome, object_outcom
 
 -- ---- classes by their types
 
-bytes_told : (element : Element) (contents : List ℤ) (class : Ty) → array_outcome element contents ≡ bytes_in (array_in (Some (Array class element contents)))
-bytes_told elements.Byte contents class = refl
-bytes_told elements.Boolean contents class = refl
-bytes_told elements.Char contents class = refl
-bytes_told elements.Short contents class = refl
-bytes_told elements.Int contents class = refl
-bytes_told elements.Long contents class = refl
-bytes_told elements.Ref contents class = refl
+bytes_reported : (element : Element) (contents : List ℤ) (class : Ty) → array_outcome element contents ≡ bytes_in (array_in (Some (Array class element contents)))
+bytes_reported elements.Byte contents class = refl
+bytes_reported elements.Boolean contents class = refl
+bytes_reported elements.Char contents class = refl
+bytes_reported elements.Short contents class = refl
+bytes_reported elements.Int contents class = refl
+bytes_reported elements.Long contents class = refl
+bytes_reported elements.Ref contents class = refl
 
-object_told : (type_of : ℕ → Ty) (o : Option (Object ℕ)) → object_outcome o ≡ bytes_in (array_in (option_map (object_map type_of) o))
-object_told type_of None = refl
-object_told type_of (Some (Instance class fields)) = refl
-object_told type_of (Some (Array class element contents)) = bytes_told element contents (type_of class)
-object_told type_of (Some (Text class units)) = refl
+object_reported : (type_of : ℕ → Ty) (o : Option (Object ℕ)) → object_outcome o ≡ bytes_in (array_in (option_map (object_map type_of) o))
+object_reported type_of None = refl
+object_reported type_of (Some (Instance class fields)) = refl
+object_reported type_of (Some (Array class element contents)) = bytes_reported element contents (type_of class)
+object_reported type_of (Some (Text class units)) = refl
 
-pub outcome_told : (heap : Heap ℕ) (type_of : ℕ → Ty) (value : Option Value) → value_outcome heap value ≡ result_outcome (heap_map type_of heap) value
-outcome_told heap type_of None = refl
-outcome_told heap type_of (Some (values.Int z)) = refl
-outcome_told heap type_of (Some (values.Long z)) = refl
-outcome_told heap type_of (Some (values.Ref r)) = elim (either (nat_eq r 0)) [
+pub outcome_reported : (heap : Heap ℕ) (type_of : ℕ → Ty) (value : Option Value) → value_outcome heap value ≡ result_outcome (heap_map type_of heap) value
+outcome_reported heap type_of None = refl
+outcome_reported heap type_of (Some (values.Int z)) = refl
+outcome_reported heap type_of (Some (values.Long z)) = refl
+outcome_reported heap type_of (Some (values.Ref r)) = elim (either (nat_eq r 0)) [
   | inl e ↦ rw e refl
-  | inr e ↦ rw e (object_told type_of (slice_get heap.objects (r - 1)) ∙ sym (ap (λ (o : Option (Object Ty)). bytes_in (array_in o)) (slice_get-map (object_map type_of) heap.objects (r - 1))))
+  | inr e ↦ rw e (object_reported type_of (slice_get heap.objects (r - 1)) ∙ sym (ap (λ (o : Option (Object Ty)). bytes_in (array_in o)) (slice_get-map (object_map type_of) heap.objects (r - 1))))
 ]
 
 -- ---- what a reference is
@@ -121,8 +121,8 @@ outcome_of_array h r element some has =
 contents_are : (h : LimitedHeap) (r : ℕ) (element : Element) (has : HasElements h r element) → contents_at h r ≡ has.contents
 contents_are h r element has = ap contents_in has.there
 
-pub length_told : (h : LimitedHeap) (r count : ℕ) (element : Element) → HasElements h r element → option_map object_length (object_in h r) ≡ Some count → count ≡ length (contents_at h r)
-length_told h r count element has e =
+pub length_reported : (h : LimitedHeap) (r count : ℕ) (element : Element) → HasElements h r element → option_map object_length (object_in h r) ≡ Some count → count ≡ length (contents_at h r)
+length_reported h r count element has e =
     let is : Some (length has.contents) ≡ Some count = sym (ap (option_map object_length) has.there) ∙ e in
     let same : length has.contents ≡ count = cc in
     sym same ∙ ap (λ (xs : List ℤ). length xs) (sym (contents_are h r element has))
@@ -142,9 +142,9 @@ unsigned : (z : ℤ) → int_wrap w8 z ≡ z → unsigned_abs (int_rem_euclid z 
 unfolding int_wrap
 unsigned z kept = sym (of_z-to_z w8 (unsigned_abs (int_rem_euclid z (pos 256))) (abs_small z)) ∙ ap (cast_unsigned w8) kept
 
-pub byte_told : (h : LimitedHeap) (r at : ℕ) (z : ℤ) → HasElements h r elements.Byte → element_in h r at ≡ Some z → IsKeptIn (object_in h r) z
+pub byte_reported : (h : LimitedHeap) (r at : ℕ) (z : ℤ) → HasElements h r elements.Byte → element_in h r at ≡ Some z → IsKeptIn (object_in h r) z
     → slice_get (map (cast_unsigned w8) (contents_at h r)) at ≡ Some (unsigned_abs (int_rem_euclid z (pos 256)))
-byte_told h r at z has e kept =
+byte_reported h r at z has e kept =
     let own : low_bits elements.Byte z ≡ z = subst (λ (o : Option (Object ℕ)). IsKeptIn o z) has.there kept in
     slice_get-map (cast_unsigned w8) (contents_at h r) at
     ∙ (ap (λ (xs : List ℤ). option_map (cast_unsigned w8) (slice_get xs at)) (contents_are h r elements.Byte has)

@@ -12,7 +12,7 @@ use Rattle.dj_image.specs.Sources.{class_of_source}
 use Rattle.dj_image.specs.Imaged.{Imaged}
 use Rattle.dj_image.specs.Codes.{PooledCode, all_codes}
 use Rattle.dj_activations.specs.Activations.{declared_at}
-use Rattle.dj_activations.specs.Told.{IsCodeOf}
+use Rattle.dj_activations.specs.Reported.{IsCodeOf}
 use Rattle.dj_unwinding.specs.HandlerRows.{IsRowOf, HasRow}
 
 abbrev row : ℕ → Protected
@@ -48,26 +48,26 @@ unfolding declared_at all_methods class_of_source all_codes code_of
 code_there = record { pool = []; own = refl; is = refl }
 
 first_row : HasRow image 0 0
-first_row = record { row = row 3; is = record { code = own; told = code_there; stands = refl } }
+first_row = record { row = row 3; is = record { code = own; reported = code_there; stands = refl } }
 
 -- the row at a place is the one of the method's code
-ranges_of_told : (at : ℕ) (r : Protected) → IsRowOf image 0 at r → slice_get (row 3 ∷ []) at ≡ Some r
+ranges_of_reported : (at : ℕ) (r : Protected) → IsRowOf image 0 at r → slice_get (row 3 ∷ []) at ≡ Some r
 unfolding all_codes
-ranges_of_told at r is =
+ranges_of_reported at r is =
     let first : PooledCode = record { pool = []; parts = parts_of own } in
-    let told : PooledCode = record { pool = is.told.pool; parts = parts_of is.code } in
-    let same : first ≡ told = same_Some first told is.told.own in
+    let reported : PooledCode = record { pool = is.reported.pool; parts = parts_of is.code } in
+    let same : first ≡ reported = same_Some first reported is.reported.own in
     subst (λ (c : PooledCode). slice_get c.parts.labelled.ranges at ≡ Some r) (sym same) is.stands
 
 not_other_row : IsRowOf image 0 0 (row 4) → ⊥
 not_other_row is =
-    let same : row 3 ≡ row 4 = same_Some (row 3) (row 4) (ranges_of_told 0 (row 4) is) in
+    let same : row 3 ≡ row 4 = same_Some (row 3) (row 4) (ranges_of_reported 0 (row 4) is) in
     let handler : 3 ≡ 4 = ap (λ (r : Protected). r.handler) same in
     omega (arith, handler)
 
 no_second_row : HasRow image 0 1 → ⊥
-no_second_row has = none-some has.row (ranges_of_told 1 has.row has.is)
+no_second_row has = none-some has.row (ranges_of_reported 1 has.row has.is)
 
 no_row_elsewhere : HasRow image 1 0 → ⊥
 unfolding all_codes
-no_row_elsewhere has = none-some (record { pool = has.is.told.pool; parts = parts_of has.is.code }) has.is.told.own
+no_row_elsewhere has = none-some (record { pool = has.is.reported.pool; parts = parts_of has.is.code }) has.is.reported.own

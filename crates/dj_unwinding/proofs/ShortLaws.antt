@@ -33,10 +33,10 @@ pub row_numbered : (imaged : Imaged) → IsProgram (program_of imaged) → AreSh
 unfolding code_in
 row_numbered imaged formed short method at row within is =
     let found = found_at imaged method within in
-    let own : Code = code_in is.told.pool (parts_of is.code) in
-    let body : found.0.method.body ≡ Runs own = body_is found.0.method.body own (sym (code_of_number (program_of imaged) formed method found.0 found.1) ∙ is.told.is) in
+    let own : Code = code_in is.reported.pool (parts_of is.code) in
+    let body : found.0.method.body ≡ Runs own = body_is found.0.method.body own (sym (code_of_number (program_of imaged) formed method found.0 found.1) ∙ is.reported.is) in
     let fits : length own.ranges < 2 ^ 32 = (short method found.0 own found.1 body).ranges in
-    let count : length own.ranges ≡ length is.code.code.ranges = length-map is.code.code.ranges (range_in is.told.pool) in
+    let count : length own.ranges ≡ length is.code.code.ranges = length-map is.code.code.ranges (range_in is.reported.pool) in
     let less : at < length is.code.code.ranges = slice_get_within is.code.code.ranges at row is.stands in
     omega (arith, fits, count, less)
 

@@ -26,8 +26,8 @@ use Rattle.dj_unwinding.specs.declared.returning.Returned.TheVariants as returns
 use Rattle.dj_unwinding.specs.declared.unwinding.Unwound.TheVariants as unwinds
 use Rattle.dj_unwinding.specs.Results.{value_outcome, contents_at, HasElements}
 use Rattle.dj_unwinding.specs.Resuming.{HasRoom, Resumes}
-use Rattle.dj_unwinding.specs.Returns.{HasRoomBelow, top_returned, returned_told, IsReturned}
-use Rattle.dj_unwinding.specs.Unwinding.{ranges_at, is_handling, IsClassNumber, class_name_at, unwound_told, frames_unwound, IsUnwound, IsKnown}
+use Rattle.dj_unwinding.specs.Returns.{HasRoomBelow, top_returned, returned_reported, IsReturned}
+use Rattle.dj_unwinding.specs.Unwinding.{ranges_at, is_handling, IsClassNumber, class_name_at, unwound_reported, frames_unwound, IsUnwound, IsKnown}
 
 -- ---- classes T, U below it and V; and A, with an initialiser and a method whose instructions 0 and 1 have handlers for T and for all
 
@@ -99,9 +99,9 @@ no_elements = refl
 
 -- ---- rows
 
-rows_told : ranges_at image 1 ≡ t_row ∷ any_row ∷ []
+rows_reported : ranges_at image 1 ≡ t_row ∷ any_row ∷ []
 unfolding declared_at all_methods class_of_source code_of
-rows_told = refl
+rows_reported = refl
 
 -- from the start on, and no longer at the end
 held : map (λ number. is_handling program [] t number (record t_row { start = 1 })) (0 ∷ 1 ∷ 2 ∷ 3 ∷ []) ≡ false ∷ true ∷ false ∷ false ∷ []
@@ -130,9 +130,9 @@ no_number : IsClassNumber (typed_of image) 5 → ⊥
 unfolding class_of_source
 no_number is = let within : 5 < 5 = is.within in omega (arith, within)
 
-names_told : map (class_name_at program) (0 ∷ 3 ∷ 4 ∷ []) ≡ codes "A" ∷ codes "V" ∷ [] ∷ []
+names_reported : map (class_name_at program) (0 ∷ 3 ∷ 4 ∷ []) ≡ codes "A" ∷ codes "V" ∷ [] ∷ []
 unfolding class_of_source
-names_told = refl
+names_reported = refl
 
 known : IsKnown image (unwinds.Init 3)
 known = omega arith
@@ -166,16 +166,16 @@ s = record {
 }
 
 -- the first row is taken, not the last one that catches; its operands are the exception alone
-first_row : frames_unwound image s u 2 (busy 1 ∷ initialiser ∷ []) ≡ unwound_told image s u 2 (frame 1 3 (values.Ref 2 ∷ []) ∷ initialiser ∷ []) unwinds.Caught
+first_row : frames_unwound image s u 2 (busy 1 ∷ initialiser ∷ []) ≡ unwound_reported image s u 2 (frame 1 3 (values.Ref 2 ∷ []) ∷ initialiser ∷ []) unwinds.Caught
 unfolding unwound most_classes chain_of interfaces_from interfaces_above is_subclass is_subtype class_of_source declared_at all_methods code_of
 first_row = refl
 
-last_row : frames_unwound image s v 2 (busy 1 ∷ []) ≡ unwound_told image s v 2 (frame 1 4 (values.Ref 2 ∷ []) ∷ []) unwinds.Caught
+last_row : frames_unwound image s v 2 (busy 1 ∷ []) ≡ unwound_reported image s v 2 (frame 1 4 (values.Ref 2 ∷ []) ∷ []) unwinds.Caught
 unfolding unwound most_classes chain_of interfaces_from interfaces_above is_subclass is_subtype class_of_source declared_at all_methods code_of
 last_row = refl
 
 -- it goes by a frame without a handler to one with it
-goes_down : frames_unwound image s t 2 (busy 2 ∷ busy 0 ∷ []) ≡ unwound_told image s t 2 (frame 1 3 (values.Ref 2 ∷ []) ∷ []) unwinds.Caught
+goes_down : frames_unwound image s t 2 (busy 2 ∷ busy 0 ∷ []) ≡ unwound_reported image s t 2 (frame 1 3 (values.Ref 2 ∷ []) ∷ []) unwinds.Caught
 unfolding unwound most_classes chain_of interfaces_from interfaces_above is_subclass is_subtype class_of_source declared_at all_methods code_of
 goes_down = refl
 
@@ -184,9 +184,9 @@ stops_there : frames_unwound image s t 2 (busy 2 ∷ initialiser ∷ busy 0 ∷ 
 unfolding unwound most_classes chain_of interfaces_from interfaces_above is_subclass is_subtype class_of_source declared_at all_methods code_of
 stops_there = refl
 
-told_of_initialiser : unwound_told image s t 2 [] (unwinds.Init 0) ≡ Ended (outcomes.Init (codes "A") (codes "T") (messages.Text (104 ∷ []))) s
+reported_of_initialiser : unwound_reported image s t 2 [] (unwinds.Init 0) ≡ Ended (outcomes.Init (codes "A") (codes "T") (messages.Text (104 ∷ []))) s
 unfolding class_of_source
-told_of_initialiser = refl
+reported_of_initialiser = refl
 
 leaves_all : frames_unwound image s t 5 (busy 2 ∷ busy 3 ∷ []) ≡ Ended (outcomes.Threw (codes "T") messages.Null) s
 unfolding unwound most_classes chain_of interfaces_from interfaces_above is_subclass is_subtype class_of_source declared_at all_methods code_of
@@ -200,24 +200,24 @@ not_caught is = let e : Ended (outcomes.Threw (codes "T") messages.Null) s ≡ W
 
 -- a caller goes on at the next instruction, with the result
 pushed : top_returned program s (busy 2 ∷ busy 0 ∷ initialiser ∷ []) (Some (values.Ref 5))
-    ≡ returned_told program s (frame 1 1 (values.Ref 5 ∷ values.Int (pos 6) ∷ []) ∷ initialiser ∷ []) (Some (values.Ref 5)) returns.Back
+    ≡ returned_reported program s (frame 1 1 (values.Ref 5 ∷ values.Int (pos 6) ∷ []) ∷ initialiser ∷ []) (Some (values.Ref 5)) returns.Back
 unfolding class_of_source declared_at all_methods
 pushed = refl
 
-no_result : top_returned program s (busy 2 ∷ busy 0 ∷ []) None ≡ returned_told program s (busy 1 ∷ []) None returns.Back
+no_result : top_returned program s (busy 2 ∷ busy 0 ∷ []) None ≡ returned_reported program s (busy 1 ∷ []) None returns.Back
 unfolding class_of_source declared_at all_methods
 no_result = refl
 
 -- that of an initialiser does its instruction
-same_instruction : top_returned program s (initialiser ∷ busy 0 ∷ []) None ≡ returned_told program s (busy 0 ∷ []) None returns.Back
+same_instruction : top_returned program s (initialiser ∷ busy 0 ∷ []) None ≡ returned_reported program s (busy 0 ∷ []) None returns.Back
 unfolding class_of_source declared_at all_methods
 same_instruction = refl
 
 last_one : top_returned program s (busy 2 ∷ []) (Some (values.Ref 3)) ≡ Ended (outcomes.OkBytes (255 ∷ 5 ∷ [])) s
 last_one = refl
 
-last_told : returned_told program s [] (Some (values.Ref 3)) returns.Last ≡ Ended (outcomes.OkBytes (255 ∷ 5 ∷ [])) s
-last_told = refl
+last_reported : returned_reported program s [] (Some (values.Ref 3)) returns.Last ≡ Ended (outcomes.OkBytes (255 ∷ 5 ∷ [])) s
+last_reported = refl
 
 not_last : IsReturned program (busy 2 ∷ busy 0 ∷ []) (busy 2 ∷ busy 0 ∷ []) None returns.Last → ⊥
 not_last is = let e = is s in absurd cc

@@ -3,12 +3,12 @@ use Rattle.std.specs.Prelude.{◌≡◌, ℕ, Some, slice_get}
 use Rattle.dj_labels.specs.declared.labelled.Protected.{Protected}
 use Rattle.dj_program.specs.declared.code.MethodCode.{MethodCode}
 use Rattle.dj_image.specs.Imaged.{Imaged}
-use Rattle.dj_activations.specs.Told.{IsCodeOf}
+use Rattle.dj_activations.specs.Reported.{IsCodeOf}
 
 -- the code of the method of this number has the row at that place
 pub record IsRowOf (imaged : Imaged) (method at : ℕ) (row : Protected) : Type 0 where
   pub code : MethodCode
-  pub told : IsCodeOf imaged method code
+  pub reported : IsCodeOf imaged method code
   pub stands : slice_get code.code.ranges at ≡ Some row
 
 -- some row of the code is such

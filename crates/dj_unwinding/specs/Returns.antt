@@ -22,10 +22,10 @@ top_returned program s [] value = IllFormed
 top_returned program s (f ∷ below) value = returned s (frame_seen program f) value (frames_seen program below)
 
 -- the run goes on with these frames, or ends with what is returned
-abbrev pub returned_told : Program → State → List StackFrame → Option Value → Returned → Answer
-returned_told program s frames value returns.Back = Went (record s { frames = frames_seen program frames })
-returned_told program s frames value returns.Last = Ended (result_outcome s.heap value) s
+abbrev pub returned_reported : Program → State → List StackFrame → Option Value → Returned → Answer
+returned_reported program s frames value returns.Back = Went (record s { frames = frames_seen program frames })
+returned_reported program s frames value returns.Last = Ended (result_outcome s.heap value) s
 
 -- in each state
 abbrev pub IsReturned : Program → List StackFrame → List StackFrame → Option Value → Returned → Type 0
-IsReturned program old new value returned = (s : State) → top_returned program s old value ≡ returned_told program s new value returned
+IsReturned program old new value returned = (s : State) → top_returned program s old value ≡ returned_reported program s new value returned

@@ -44,11 +44,11 @@ class_name_at program class = unwrap_or (name_at program class) []
 -- ---- where the exception went
 
 -- the run goes on at a handler with these frames, or it ends as the exception left an initialiser or the last frame
-abbrev pub unwound_told : Imaged → State → Ty → ℕ → List StackFrame → Unwound → Answer
-unwound_told imaged s class exception frames unwinds.Caught = Went (record s { frames = frames_seen (program_of imaged) frames })
-unwound_told imaged s class exception frames (unwinds.Init left) =
+abbrev pub unwound_reported : Imaged → State → Ty → ℕ → List StackFrame → Unwound → Answer
+unwound_reported imaged s class exception frames unwinds.Caught = Went (record s { frames = frames_seen (program_of imaged) frames })
+unwound_reported imaged s class exception frames (unwinds.Init left) =
     ends_with imaged.prefix s class (outcomes.Init (class_name_at (program_of imaged) left) (member_class imaged.prefix class) (message_of s.heap exception))
-unwound_told imaged s class exception frames unwinds.Threw = ends_with imaged.prefix s class (outcomes.Threw (member_class imaged.prefix class) (message_of s.heap exception))
+unwound_reported imaged s class exception frames unwinds.Threw = ends_with imaged.prefix s class (outcomes.Threw (member_class imaged.prefix class) (message_of s.heap exception))
 
 -- what the model answers where the exception leaves these frames
 abbrev pub frames_unwound : Imaged → State → Ty → ℕ → List StackFrame → Answer
@@ -56,7 +56,7 @@ frames_unwound imaged s class exception frames = unwound (program_of imaged) ima
 
 -- in each state
 abbrev pub IsUnwound : Imaged → Ty → ℕ → List StackFrame → List StackFrame → Unwound → Type 0
-IsUnwound imaged class exception old new how = (s : State) → frames_unwound imaged s class exception old ≡ unwound_told imaged s class exception new how
+IsUnwound imaged class exception old new how = (s : State) → frames_unwound imaged s class exception old ≡ unwound_reported imaged s class exception new how
 
 -- the class whose initialiser was left has a number
 abbrev pub IsKnown : Imaged → Unwound → Type 0

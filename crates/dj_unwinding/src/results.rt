@@ -11,7 +11,7 @@ use dj_names::{Bytes, Element, NoMemory, Outcome, Value};
 use std::alloc::Global;
 
 /// How a run ends with the last return, by what is returned: null, an array of bytes, or anything else.
-#[tactic(auto, using(crate::proofs::Outcomes::outcome_told))]
+#[tactic(auto, using(crate::proofs::Outcomes::outcome_reported))]
 pub fn result_outcome(alloc: Global, heap: &Heap, value: Option<Value>) -> Result<Outcome, NoMemory>
     ensures { (type_of : ℕ → Ty) → IfOk result (λ outcome. outcome ≡ model.result_outcome (heap_map type_of heap.now.heap) value) }
 {
@@ -64,7 +64,7 @@ fn array_outcome(alloc: Global, heap: &Heap, r: u32, element: Element) -> Result
 }
 
 // The elements of an array of bytes, without their sign.
-#[tactic(auto, using(crate::proofs::Outcomes::length_told))]
+#[tactic(auto, using(crate::proofs::Outcomes::length_reported))]
 fn bytes_at(alloc: Global, heap: &Heap, r: u32) -> Result<Bytes, NoMemory>
     requires { HasElements heap.now r elements.Byte }
     ensures { IfOk result (λ bytes. bytes ≡ map (cast_unsigned w8) (contents_at heap.now r)) }
@@ -77,7 +77,7 @@ fn bytes_at(alloc: Global, heap: &Heap, r: u32) -> Result<Bytes, NoMemory>
 }
 
 // An element of an array of bytes, without its sign.
-#[tactic(auto, using(crate::proofs::Outcomes::element_there, crate::proofs::Outcomes::byte_told))]
+#[tactic(auto, using(crate::proofs::Outcomes::element_there, crate::proofs::Outcomes::byte_reported))]
 fn byte_at(heap: &Heap, r: u32, at: u32) -> u8
     requires bytes { HasElements heap.now r elements.Byte }
     requires there { at < length (contents_at heap.now r) }

@@ -30,7 +30,7 @@ pub fn go_back(
     requires stand { AreActivations image.now frames.old }
     requires some { 0 < length frames.old }
     requires room { HasRoomBelow (program_of image.now) frames.old value }
-    ensures told { IfOk result (λ returned. IsReturned (program_of image.now) frames.old frames.new value returned) }
+    ensures reported { IfOk result (λ returned. IsReturned (program_of image.now) frames.old frames.new value returned) }
     ensures stand { IfOk result (λ returned. AreActivations image.now frames.new) }
     ensures frugal { HasNumberBelow frames.old → IfErr result (λ _. ⊥) }
 {

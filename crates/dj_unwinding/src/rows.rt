@@ -6,7 +6,7 @@ ghost use Rattle.dj_types.specs.Typed.{type_at};
 ghost use Rattle.dj_types.specs.Members.{all_methods};
 ghost use Rattle.dj_image.specs.Imaged.{program_of, typed_of};
 ghost use Rattle.dj_activations.specs.Activations.{declared_at};
-ghost use Rattle.dj_activations.specs.Told.{IsCodeOf};
+ghost use Rattle.dj_activations.specs.Reported.{IsCodeOf};
 ghost use Rattle.dj_unwinding.specs.HandlerRows.{HasRow, IsRowOf};
 ghost use Rattle.dj_unwinding.specs.Short.{AreShort};
 ghost use Rattle.dj_unwinding.specs.Unwinding.{IsClassNumber, is_handling, ranges_at};
@@ -47,7 +47,7 @@ fn handler_in(
 ) -> Result<Option<u32>, NoMemory>
     requires sound { IsSound (program_of image.now) image.now.prefix }
     requires there { method.number < length (all_methods (program_of image.now)) }
-    requires told { IsCodeOf image.now method.number code.now }
+    requires reported { IsCodeOf image.now method.number code.now }
     requires class { IsClassNumber (typed_of image.now) class }
     ensures found { IfOk result (λ handler. handler ≡ model.handler_in (program_of image.now) image.now.prefix (type_at (typed_of image.now) class) number (ranges_at image.now method.number)) }
     ensures frugal { AreShort image.now → IfErr result (λ _. ⊥) }
@@ -74,7 +74,7 @@ fn handles(
     requires there { method.number < length (all_methods (program_of image.now)) }
     requires row { IsRowOf image.now method.number at row.now }
     requires class { IsClassNumber (typed_of image.now) class }
-    ensures tells { IfOk result (λ handles. (range : Range) → slice_get (ranges_at image.now method.number) at ≡ Some range
+    ensures says { IfOk result (λ handles. (range : Range) → slice_get (ranges_at image.now method.number) at ≡ Some range
         → handles ≡ is_handling (program_of image.now) image.now.prefix (type_at (typed_of image.now) class) number range) }
     ensures frugal { AreShort image.now → IfErr result (λ _. ⊥) }
 {

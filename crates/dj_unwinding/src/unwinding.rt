@@ -35,7 +35,7 @@ pub fn unwind(
     requires sound { IsSound (program_of image.now) image.now.prefix }
     requires stand { AreActivations image.now frames.old }
     requires class { IsClassNumber (typed_of image.now) class }
-    ensures told { IfOk result (λ unwound. IsUnwound image.now (type_at (typed_of image.now) class) exception frames.old frames.new unwound) }
+    ensures reported { IfOk result (λ unwound. IsUnwound image.now (type_at (typed_of image.now) class) exception frames.old frames.new unwound) }
     ensures known { IfOk result (λ unwound. IsKnown image.now unwound) }
     ensures stand { IfOk result (λ unwound. AreActivations image.now frames.new) }
     ensures frugal { AreShort image.now → IfErr result (λ _. ⊥) }
@@ -60,7 +60,7 @@ fn pass(
     requires stand { AreActivations image.now frames.old }
     requires class { IsClassNumber (typed_of image.now) class }
     requires some { 0 < length frames.old }
-    ensures told { IfOk result (IsPassed image.now (type_at (typed_of image.now) class) exception frames.old frames.new) }
+    ensures reported { IfOk result (IsPassed image.now (type_at (typed_of image.now) class) exception frames.old frames.new) }
     ensures known { IfOk result (λ passed. IfSome passed (IsKnown image.now)) }
     ensures left { IfOk result (λ passed. passed ≡ None → frames.new ≡ below_top frames.old) }
     ensures stand { IfOk result (λ passed. AreActivations image.now frames.new) }

@@ -39,7 +39,7 @@ fn put_rows(out: &mut Vec<u8>, rows: &[CatchRow]) -> Result<(), WriteError>
 }
 
 // The stack, the locals and the code.
-fn put_front(out: &mut Vec<u8>, code: &CodeView<'_>) -> Result<(), WriteError>
+fn put_prefix(out: &mut Vec<u8>, code: &CodeView<'_>) -> Result<(), WriteError>
     ensures { OnOk result (out.new.items ≡ out.old.items ++ (u2 code.now.max_stack ++ u2 code.now.max_locals ++ u4 (length code.now.code.now) ++ code.now.code.now)) }
 {
     put_u2(out, code.max_stack)?;
@@ -51,7 +51,7 @@ fn put_front(out: &mut Vec<u8>, code: &CodeView<'_>) -> Result<(), WriteError>
 fn put_code(out: &mut Vec<u8>, code: &CodeView<'_>) -> Result<(), WriteError>
     ensures { OnOk result (out.new.items ≡ out.old.items ++ code_info_bytes (code_of code.now)) }
 {
-    put_front(out, code)?;
+    put_prefix(out, code)?;
     put_rows(out, code.table.as_slice())?;
     put_attributes(out, code.attributes.as_slice())
 }

@@ -37,15 +37,15 @@ cut_more folder files file within now cut grown is so_far =
 -- ---- order
 
 -- what both texts begin with doesn't say which is below
-same_front : (front a b : List ℕ) → slice_cmp nat_cmp (front ++ a) (front ++ b) ≡ slice_cmp nat_cmp a b
-same_front [] a b = refl
-same_front (x ∷ front) a b =
-    ap (λ r. ordering_then r (slice_cmp nat_cmp (front ++ a) (front ++ b))) (tied_itself nat_cmp_total x) ∙ same_front front a b
+same_prefix : (prefix a b : List ℕ) → slice_cmp nat_cmp (prefix ++ a) (prefix ++ b) ≡ slice_cmp nat_cmp a b
+same_prefix [] a b = refl
+same_prefix (x ∷ prefix) a b =
+    ap (λ r. ordering_then r (slice_cmp nat_cmp (prefix ++ a) (prefix ++ b))) (tied_itself nat_cmp_total x) ∙ same_prefix prefix a b
 
 -- of two paths that go on behind the folder and a slash the one is below the other where its rest is
 less_behind : (folder a b u v : List ℕ) → a ≡ folder ++ 47 ∷ u → b ≡ folder ++ 47 ∷ v → slice_cmp nat_cmp a b ≡ Less → slice_cmp nat_cmp u v ≡ Less
 less_behind folder a b u v first second less =
-    sym (same_front (47 ∷ []) u v) ∙ sym (same_front folder (47 ∷ u) (47 ∷ v))
+    sym (same_prefix (47 ∷ []) u v) ∙ sym (same_prefix folder (47 ∷ u) (47 ∷ v))
     ∙ subst (λ x. slice_cmp nat_cmp x (folder ++ 47 ∷ v) ≡ Less) first (subst (λ x. slice_cmp nat_cmp a x ≡ Less) second less)
 
 -- ---- the files of a folder

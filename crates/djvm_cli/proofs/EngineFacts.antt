@@ -11,7 +11,7 @@ use Rattle.dj_sandbox.specs.trusted.Limits.{AreWithin}
 use Rattle.dj_sandbox.specs.trusted.RawRules.{AreRawViolations}
 use Rattle.dj_running.specs.trusted.Runs.{IsRawRun}
 use Rattle.dj_words.specs.trusted.DoneJobs.{FolderJob, Check, Raw, OnFolder, Assemble, done_job_of}
-use Rattle.djvm_cli.specs.trusted.Engine.{AreRuns, AreRunsOf, AddsRuns, AddsFront, AddsFew, TellsNoRun}
+use Rattle.djvm_cli.specs.trusted.Engine.{AreRuns, AreRunsOf, AddsRuns, AddsPrefix, AddsFew, MakesNoRun}
 use Rattle.djvm_cli.specs.trusted.Jobs.{IsRawJob}
 use Rattle.djvm_cli.specs.trusted.Report.{FindsInput, ReadsInput, files_within, input_of}
 
@@ -124,7 +124,7 @@ not_forgotten held answers run adds = gone adds.0 adds.2 where
   gone runs none = absurd cc
 
 -- words of no job add none
-none_added : (held : Held) (answers : List HostAnswer) (run : Costs × ℕ) → AddsFront [] (Some held) answers [] (run ∷ []) → ⊥
+none_added : (held : Held) (answers : List HostAnswer) (run : Costs × ℕ) → AddsPrefix [] (Some held) answers [] (run ∷ []) → ⊥
 unfolding done_job_of
 none_added held answers run (inl same) = absurd cc
 none_added held answers run (inr adds) =
@@ -137,25 +137,25 @@ none_added held answers run (inr adds) =
 
 -- where a rule is violated
 no_run_where_rejected : (held : Held) (answers : List HostAnswer) → length (class_files (codes "c") held) ≡ 1 → FindsInput raw_job held None
-    → AreWithin (class_files (codes "c") held) → (AreRawViolations (files_within (codes "c") held) (entry_name (codes "A")) [] → ⊥) → TellsNoRun raw_words (Some held) answers
+    → AreWithin (class_files (codes "c") held) → (AreRawViolations (files_within (codes "c") held) (entry_name (codes "A")) [] → ⊥) → MakesNoRun raw_words (Some held) answers
 unfolding raw_words done_job_of
 no_run_where_rejected held answers one input within violated =
     let few : length (class_files (codes "c") held) ≤ 4096 = omega (arith, one) in
     inl (record { count = few; input = input; files = within }, violated)
 
 -- where the input isn't there
-no_run_where_absent : (held : Held) (answers : List HostAnswer) → bytes_at held (codes "in") ≡ None → TellsNoRun raw_words (Some held) answers
+no_run_where_absent : (held : Held) (answers : List HostAnswer) → bytes_at held (codes "in") ≡ None → MakesNoRun raw_words (Some held) answers
 unfolding raw_words done_job_of
 no_run_where_absent held answers absent = inr ((λ reaches. found_nowhere (bytes_at held (codes "in")) absent reaches.input), refl)
 
 -- where there are too many files
-no_run_where_many : (held : Held) (answers : List HostAnswer) → 4096 < length (class_files (codes "c") held) → TellsNoRun raw_words (Some held) answers
+no_run_where_many : (held : Held) (answers : List HostAnswer) → 4096 < length (class_files (codes "c") held) → MakesNoRun raw_words (Some held) answers
 unfolding raw_words done_job_of
 no_run_where_many held answers many = inr ((λ reaches. let few : length (class_files (codes "c") held) ≤ 4096 = reaches.count in omega (arith, many, few)), refl)
 
 -- one is made where no rule is violated
 a_run_where_accepted : (held : Held) (answers : List HostAnswer) → length (class_files (codes "c") held) ≡ 1 → FindsInput raw_job held None
-    → AreWithin (class_files (codes "c") held) → AreRawViolations (files_within (codes "c") held) (entry_name (codes "A")) [] → TellsNoRun raw_words (Some held) answers → ⊥
+    → AreWithin (class_files (codes "c") held) → AreRawViolations (files_within (codes "c") held) (entry_name (codes "A")) [] → MakesNoRun raw_words (Some held) answers → ⊥
 unfolding raw_words done_job_of
 a_run_where_accepted held answers one input within silent (inl made) = made.1 silent
 a_run_where_accepted held answers one input within silent (inr not_made) =
@@ -163,8 +163,8 @@ a_run_where_accepted held answers one input within silent (inr not_made) =
     not_made.0 (record { count = few; input = input; files = within })
 
 -- where the store's contents are unknown it isn't known that no run is made
-not_told : (answers : List HostAnswer) → TellsNoRun raw_words None answers → ⊥
-not_told answers none = none
+not_reported : (answers : List HostAnswer) → MakesNoRun raw_words None answers → ⊥
+not_reported answers none = none
 
 -- ---- the host's answers
 

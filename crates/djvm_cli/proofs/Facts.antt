@@ -29,9 +29,9 @@ asks_nothing held grows =
     let none : [] ≡ grows.0 ++ grows.1.0 = grows.1.1 in
     let some : codes "c" ∷ [] ≡ grows.0 = grows.2 in
     none_is_some grows.0 grows.1.0 none some where
-      none_is_some : (front rest : List (List ℕ)) → [] ≡ front ++ rest → codes "c" ∷ [] ≡ front → ⊥
+      none_is_some : (prefix rest : List (List ℕ)) → [] ≡ prefix ++ rest → codes "c" ∷ [] ≡ prefix → ⊥
       none_is_some [] rest none some = absurd cc
-      none_is_some (x ∷ front) rest none some = absurd cc
+      none_is_some (x ∷ prefix) rest none some = absurd cc
 
 statuses : map report_statuses (None ∷ Some (OnFolder (Check [])) ∷ Some (OnFolder (Verify [] [] [] (record { alloc = 0; invoke = 0; jump = 0; throw = 0 }))) ∷ Some (OnFolder (Raw [] [] [] 0)) ∷ Some (Assemble []) ∷ [])
     ≡ (64 ∷ []) ∷ (0 ∷ 2 ∷ 7 ∷ []) ∷ (0 ∷ 1 ∷ 2 ∷ 3 ∷ 7 ∷ 65 ∷ 75 ∷ []) ∷ (0 ∷ 1 ∷ 2 ∷ 4 ∷ 5 ∷ 6 ∷ 7 ∷ 8 ∷ 9 ∷ 65 ∷ []) ∷ (0 ∷ 7 ∷ 65 ∷ 68 ∷ []) ∷ []

@@ -3,7 +3,7 @@ use Rattle.std.proofs.Common.{◌≡◌, ℕ, List, [], ◌∷◌, ◌++◌, Opt
 use Rattle.std.specs.Prelude.{◌⊎◌, ⊤, IsSomeAnd}
 use Rattle.dj_edge.specs.trusted.Held.{File, Held}
 use Rattle.dj_edge.specs.declared.host.HostAnswer.{HostAnswer}
-use Rattle.dj_edge.proofs.Lists.{told_so}
+use Rattle.dj_edge.proofs.Lists.{reported_so}
 use Rattle.dj_names.specs.declared.run.Costs.{Costs}
 use Rattle.dj_names.specs.trusted.Types.{Name}
 use Rattle.dj_report.specs.declared.report.Report.{Report}
@@ -97,17 +97,17 @@ module _ (files : List File) (class name : Name) (same : class ≡ name) (input 
   few_of answers (run ∷ other ∷ more) are = are
 
   -- where there is a report
-  pub raw_told : (report : Report) → AddsTo (Ok report) class → LeavesRaw {T = Report} {E = Stop} files name input steps before after old new (Ok report)
-  raw_told report adds = record {
-    runs = told;
-    few = (told.0, few_of (given_since before after) told.0 told.1, told.2);
+  pub raw_reported : (report : Report) → AddsTo (Ok report) class → LeavesRaw {T = Report} {E = Stop} files name input steps before after old new (Ok report)
+  raw_reported report adds = record {
+    runs = reported;
+    few = (reported.0, few_of (given_since before after) reported.0 reported.1, reported.2);
     idle = λ other. absurd (other tt);
     quiet = λ other. absurd (other tt);
     unasked = quiet_by_name;
     gave = gave;
   } where
-    told : AddsTo (Ok report) name
-    told = subst (AddsTo (Ok report)) same adds
+    reported : AddsTo (Ok report) name
+    reported = subst (AddsTo (Ok report)) same adds
 
   -- there was no memory
   pub raw_stopped : (e : SandboxError) (r : Result Report Stop) (stop : Stop) → r ≡ Err stop → AddsTo (Err e) class → LeavesRaw files name input steps before after old new r
@@ -129,8 +129,8 @@ raw_unmade files name input steps given made r stop is =
 -- ---- a job on a folder
 
 module _ (job : FolderJob) where
-  abbrev told_runs : Option Held → List HostAnswer → Made → Type 0
-  told_runs held answers runs = IfSome held (λ h. AreFolderRuns job h answers runs)
+  abbrev reported_runs : Option Held → List HostAnswer → Made → Type 0
+  reported_runs held answers runs = IfSome held (λ h. AreFolderRuns job h answers runs)
 
   abbrev no_run : Option Held → List HostAnswer → Type 0
   no_run held answers = IsSomeAnd held (λ h. AreFolderRuns job h answers [])
@@ -139,13 +139,13 @@ module _ (job : FolderJob) where
   pub unreached : {E : Type 0} (held : Option Held) (given : List HostAnswer) (made : Made) (report : Report) → IfSome held (λ h. Reaches job h → ⊥)
       → LeavesJob {T = Report} {E = E} (Some (OnFolder job)) held given given made made (Ok report)
   unreached held given made report short =
-      leaves_all (told_runs held) (AreRunsOf (Some (OnFolder job))) (IsRawJob (Some (OnFolder job))) (no_run held) given made
+      leaves_all (reported_runs held) (AreRunsOf (Some (OnFolder job))) (IsRawJob (Some (OnFolder job))) (no_run held) given made
       (none_of_job (Some (OnFolder job)) (given_since given given)) (Ok report)
-      (told_so held (λ h. Reaches job h → ⊥) (λ h. AreFolderRuns job h (given_since given given) []) (λ h no. inr (no, refl)) short)
+      (reported_so held (λ h. Reaches job h → ⊥) (λ h. AreFolderRuns job h (given_since given given) []) (λ h no. inr (no, refl)) short)
 
   pub stopped : {T E : Type 0} (held : Option Held) (given : List HostAnswer) (made : Made) (r : Result T E) (stop : E) → r ≡ Err stop → LeavesJob (Some (OnFolder job)) held given given made made r
   stopped held given made r stop is =
-      leaves_stopped (told_runs held) (AreRunsOf (Some (OnFolder job))) (IsRawJob (Some (OnFolder job))) (no_run held) given made
+      leaves_stopped (reported_runs held) (AreRunsOf (Some (OnFolder job))) (IsRawJob (Some (OnFolder job))) (no_run held) given made
       (none_of_job (Some (OnFolder job)) (given_since given given)) r stop is
 
   -- the files and the input that are judged are those that are held
@@ -153,8 +153,8 @@ module _ (job : FolderJob) where
   IsReached set bytes h = Reaches job h × (set ≡ files_within (folder_of job) h) × (bytes ≡ input_of job h)
 
   module _ (set : List File) (bytes : List ℕ) where
-    runs_told : (h : Held) (answers : List HostAnswer) (runs : Made) → IsReached set bytes h → AreJudgedRuns job set bytes answers runs → AreFolderRuns job h answers runs
-    runs_told h answers runs there are =
+    runs_reported : (h : Held) (answers : List HostAnswer) (runs : Made) → IsReached set bytes h → AreJudgedRuns job set bytes answers runs → AreFolderRuns job h answers runs
+    runs_reported h answers runs there are =
         inl (there.0, subst (λ (files : List File). AreJudgedRuns job files (input_of job h) answers runs) there.1 (subst (λ (b : List ℕ). AreJudgedRuns job set b answers runs) there.2 are))
 
     none_judged : (h : Held) (answers : List HostAnswer) → IsReached set bytes h → AreFolderRuns job h answers [] → AreJudgedRuns job set bytes answers []
@@ -163,28 +163,28 @@ module _ (job : FolderJob) where
         (subst (λ (files : List File). AreJudgedRuns job files (input_of job h) answers []) (sym there.1) are.1)
     none_judged h answers there (inr none) = absurd (none.0 there.0)
 
-    all_told : (held : Option Held) (answers : List HostAnswer) (runs : Made) → IfSome held (IsReached set bytes) → AreJudgedRuns job set bytes answers runs → told_runs held answers runs
-    all_told None answers runs there are = tt
-    all_told (Some h) answers runs there are = runs_told h answers runs there are
+    all_reported : (held : Option Held) (answers : List HostAnswer) (runs : Made) → IfSome held (IsReached set bytes) → AreJudgedRuns job set bytes answers runs → reported_runs held answers runs
+    all_reported None answers runs there are = tt
+    all_reported (Some h) answers runs there are = runs_reported h answers runs there are
 
-    none_told : (held : Option Held) (answers : List HostAnswer) → IfSome held (IsReached set bytes) → no_run held answers → AreJudgedRuns job set bytes answers []
-    none_told None answers there none = absurd none
-    none_told (Some h) answers there none = none_judged h answers there none
+    none_reported : (held : Option Held) (answers : List HostAnswer) → IfSome held (IsReached set bytes) → no_run held answers → AreJudgedRuns job set bytes answers []
+    none_reported None answers there none = absurd none
+    none_reported (Some h) answers there none = none_judged h answers there none
 
     module _ {T E : Type 0} (held : Option Held) (there : IfSome held (IsReached set bytes)) where
-      adds_told : (answers : List HostAnswer) (old new : Made) (r : Result T E) → Adds (AreJudgedRuns job set bytes answers) old new r → Adds (told_runs held answers) old new r
-      adds_told answers old new (Ok x) adds = (adds.0, all_told held answers adds.0 there adds.1, adds.2)
-      adds_told answers old new (Err e) kept = kept
+      adds_reported : (answers : List HostAnswer) (old new : Made) (r : Result T E) → Adds (AreJudgedRuns job set bytes answers) old new r → Adds (reported_runs held answers) old new r
+      adds_reported answers old new (Ok x) adds = (adds.0, all_reported held answers adds.0 there adds.1, adds.2)
+      adds_reported answers old new (Err e) kept = kept
 
       -- they are judged
       pub reached : (before after : List HostAnswer) (old new : Made) (r : Result T E) → LeavesJudged job set bytes before after old new r
           → LeavesJob (Some (OnFolder job)) held before after old new r
       reached before after old new r left = record {
-        runs = adds_told (given_since before after) old new r left.runs;
+        runs = adds_reported (given_since before after) old new r left.runs;
         few = left.few;
         idle = left.idle;
         quiet = left.quiet;
-        unasked = λ none. left.unasked (none_told held (given_since before after) there none);
+        unasked = λ none. left.unasked (none_reported held (given_since before after) there none);
         gave = left.gave;
       }
 
@@ -217,17 +217,17 @@ no_words job held given made stop =
 -- ---- a call of the program
 
 module _ (job : Option DoneJob) (answers : List HostAnswer) (old new : Made) where
-  abbrev AreTold : Option Held → Made → Type 0
-  AreTold held runs = IfSome held (λ h. AreRuns job h answers runs)
+  abbrev AreReported : Option Held → Made → Type 0
+  AreReported held runs = IfSome held (λ h. AreRuns job h answers runs)
 
   abbrev AllAdded : Held → Type 0
   AllAdded h = (runs : Made) × AreRuns job h answers runs × (new ≡ old ++ runs)
 
-  pub all_added : (held : Option Held) → ((runs : Made) × AreTold held runs × (new ≡ old ++ runs)) → IfSome held AllAdded
+  pub all_added : (held : Option Held) → ((runs : Made) × AreReported held runs × (new ≡ old ++ runs)) → IfSome held AllAdded
   all_added None adds = tt
   all_added (Some h) adds = adds
 
-  pub front_added : (held : Option Held) (r : Result Report Stop) → Adds (AreTold held) old new r → IfSome held (λ h. (new ≡ old) ⊎ AllAdded h)
-  front_added None r adds = tt
-  front_added (Some h) (Ok report) adds = inr adds
-  front_added (Some h) (Err e) kept = inl kept
+  pub prefix_added : (held : Option Held) (r : Result Report Stop) → Adds (AreReported held) old new r → IfSome held (λ h. (new ≡ old) ⊎ AllAdded h)
+  prefix_added None r adds = tt
+  prefix_added (Some h) (Ok report) adds = inr adds
+  prefix_added (Some h) (Err e) kept = inl kept

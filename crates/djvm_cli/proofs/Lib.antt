@@ -12,4 +12,4 @@ pub mod TextReports
 mod Facts
 mod LimitFacts
 mod EngineFacts
-mod ToldFacts
+mod ReportedFacts

@@ -16,9 +16,9 @@ use Rattle.dj_source.specs.declared.error.AsmError.TheVariants as asm_errors
 use Rattle.dj_asm.specs.trusted.Texts.{IsTextOfBytes, TextFault}
 use Rattle.dj_words.specs.trusted.DoneJobs.{Check, Verify, OnFolder, done_job_of}
 use Rattle.djvm_cli.specs.trusted.Report.{CountsFiles, ReadsInput, ReadsText, FindsInput, ReadsFiles, Assembles, IsReport, files_within}
-use Rattle.djvm_cli.specs.trusted.Ends.{ReadEnds, OutOfMemory, TellsUsage}
-use Rattle.djvm_cli.specs.Ends.{WritesFront, IsReportStatus}
-use Rattle.djvm_cli.proofs.Same.{same_front}
+use Rattle.djvm_cli.specs.trusted.Ends.{ReadEnds, OutOfMemory, MeansUsage}
+use Rattle.djvm_cli.specs.Ends.{WritesPrefix, IsReportStatus}
+use Rattle.djvm_cli.proofs.Same.{same_prefix}
 
 -- ---- the number of files
 
@@ -94,7 +94,7 @@ file-past : (bytes : List ℕ) → length bytes ≡ 4194305 → ReadsFiles (one 
 file-past bytes is = inl (
   refl,
   record {
-    front = [];
+    prefix = [];
     file = (codes "A.class", bytes);
     rest = [];
     parts = refl;
@@ -104,14 +104,14 @@ file-past bytes is = inl (
 )
 
 -- a file that is too long is reported as such, and not as making the files too long together
-file-first : (front : List File) (path bytes : List ℕ) → length bytes ≡ 4194305 → IsTooMuch front (path, bytes) → ⊥
-file-first front path bytes is h = omega (arith, h.0)
+file-first : (prefix : List File) (path bytes : List ℕ) → length bytes ≡ 4194305 → IsTooMuch prefix (path, bytes) → ⊥
+file-first prefix path bytes is h = omega (arith, h.0)
 
-total-within : (front : List File) (path bytes : List ℕ) → total_bytes front ≡ 67108863 → length bytes ≡ 1 → IsTooMuch front (path, bytes) → ⊥
-total-within front path bytes sum is h = omega (arith, h.1)
+total-within : (prefix : List File) (path bytes : List ℕ) → total_bytes prefix ≡ 67108863 → length bytes ≡ 1 → IsTooMuch prefix (path, bytes) → ⊥
+total-within prefix path bytes sum is h = omega (arith, h.1)
 
-total-past : (front : List File) (path bytes : List ℕ) → total_bytes front ≡ 67108863 → length bytes ≡ 2 → IsTooMuch front (path, bytes)
-total-past front path bytes sum is = (omega arith, omega arith)
+total-past : (prefix : List File) (path bytes : List ℕ) → total_bytes prefix ≡ 67108863 → length bytes ≡ 2 → IsTooMuch prefix (path, bytes)
+total-past prefix path bytes sum is = (omega arith, omega arith)
 
 total-not_within : (files : List File) → total_bytes files ≡ 67108865 → AreWithin files → ⊥
 total-not_within files sum h = omega (arith, h.together)
@@ -183,32 +183,32 @@ order-words held answers = inl refl
 -- ---- how a call ends
 
 -- where the store's contents aren't known, 65 is answered only where it failed
-read-untold : (words : List (List ℕ)) (answers : List HostAnswer) (before now : ℕ) (old new : Option (List ℕ)) → ReadEnds words None answers before now old new → Rose before now
-read-untold words answers before now old new (inl fault) = fault.rose
-read-untold words answers before now old new (inr told) = let held = told.0 in absurd cc
+read-unreported : (words : List (List ℕ)) (answers : List HostAnswer) (before now : ℕ) (old new : Option (List ℕ)) → ReadEnds words None answers before now old new → Rose before now
+read-unreported words answers before now old new (inl fault) = fault.rose
+read-unreported words answers before now old new (inr reported) = let held = reported.0 in absurd cc
 
 -- and then nothing is written
 read-nothing : (words : List (List ℕ)) (answers : List HostAnswer) (before now : ℕ) (new : List ℕ) → ReadEnds words None answers before now (Some []) (Some new) → new ≡ []
 read-nothing words answers before now new (inl fault) = fault.written
-read-nothing words answers before now new (inr told) = let held = told.0 in absurd cc
+read-nothing words answers before now new (inr reported) = let held = reported.0 in absurd cc
 
-front-none : (old new : Option (List ℕ)) (text : List ℕ) → Appends old new [] → WritesFront old new text
-front-none old new text nothing = ([], (text, refl), nothing)
+prefix-none : (old new : Option (List ℕ)) (text : List ℕ) → Appends old new [] → WritesPrefix old new text
+prefix-none old new text nothing = ([], (text, refl), nothing)
 
 -- where memory ran out, a prefix of the right report was written
-memory-front : (words : List (List ℕ)) (held : Held) (answers : List HostAnswer) (report : Report) (old new : Option (List ℕ)) → IsReport words held answers report → OutOfMemory words (Some held) answers old new → WritesFront old new (report_text report)
-memory-front words held answers report old new right (inl broken) = same_front words held answers report old new right broken
-memory-front words held answers report old new right (inr nothing) = front-none old new (report_text report) nothing
+memory-prefix : (words : List (List ℕ)) (held : Held) (answers : List HostAnswer) (report : Report) (old new : Option (List ℕ)) → IsReport words held answers report → OutOfMemory words (Some held) answers old new → WritesPrefix old new (report_text report)
+memory-prefix words held answers report old new right (inl broken) = same_prefix words held answers report old new right broken
+memory-prefix words held answers report old new right (inr nothing) = prefix-none old new (report_text report) nothing
 
 -- only a store whose contents are known has a report with the status 65
-absent-untold : IsReportStatus (Some (OnFolder (Verify [] [] [] (record { alloc = 0; invoke = 0; jump = 0; throw = 0 })))) None 65 → ⊥
-absent-untold h = let held = h.1 refl in absurd cc
+absent-unreported : IsReportStatus (Some (OnFolder (Verify [] [] [] (record { alloc = 0; invoke = 0; jump = 0; throw = 0 })))) None 65 → ⊥
+absent-unreported h = let held = h.1 refl in absurd cc
 
 -- words of no job have the status 64 and no other
-usage-is : TellsUsage [] 64
+usage-is : MeansUsage [] 64
 unfolding done_job_of
 usage-is = (λ _. refl, λ _. refl)
 
-usage-only : TellsUsage [] 0 → ⊥
+usage-only : MeansUsage [] 0 → ⊥
 unfolding done_job_of
 usage-only h = absurd (cc (h.1 refl))

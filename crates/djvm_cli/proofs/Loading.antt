@@ -12,9 +12,9 @@ use Rattle.std.proofs.lemmas.List.Elements.{All-push, All-from_recursion, recurs
 use Rattle.std.proofs.lemmas.List.Sums.{sum_by-append}
 use Rattle.std.proofs.lemmas.List.Sorted.{All-permutation, length_permutation, ranks_by, IsPermutation-map}
 use Rattle.dj_edge.specs.trusted.Held.{File, Held, class_files, is_class_path, bytes_at}
-use Rattle.dj_edge.specs.trusted.Counts.{AllDiffer, GrowsByFront, IsFront}
+use Rattle.dj_edge.specs.trusted.Counts.{AllDiffer, GrowsByPrefix, IsPrefix}
 use Rattle.dj_edge.specs.trusted.Calls.{IsListing}
-use Rattle.dj_edge.proofs.Growth.{GrowsByFront-after, GrowsByFront-within, IsFront-more, grown_more}
+use Rattle.dj_edge.proofs.Growth.{GrowsByPrefix-after, GrowsByPrefix-within, IsPrefix-more, grown_more}
 use Rattle.dj_edge.proofs.Listings.{sorted_listing}
 use Rattle.dj_edge.proofs.Pairs.{AllPairs-map}
 use Rattle.dj_edge.proofs.Sorting.{pairs_from_sorted}
@@ -30,7 +30,7 @@ use Rattle.dj_sandbox.proofs.ByPath.{texts_rise}
 use Rattle.djvm_cli.specs.Steps.{files_at, IsLoaded}
 use Rattle.djvm_cli.specs.Next.{IsNextRead, IsNext}
 use Rattle.djvm_cli.specs.Views.{source_view}
-use Rattle.dj_edge.proofs.Lists.{both_told, All-unmap, mapped_at, mapped_more}
+use Rattle.dj_edge.proofs.Lists.{both_reported, All-unmap, mapped_at, mapped_more}
 
 -- ---- listing
 
@@ -41,7 +41,7 @@ many_in folder h paths listing many =
     elim (cases_lt 4097 (length files)) [
       | inl more ↦ omega arith
       | inr few ↦
-          let size : length (map (λ file. file.0) files) ≡ length paths = length_permutation paths (map (λ (file : File). file.0) files) (listing.told.0 few) in
+          let size : length (map (λ file. file.0) files) ≡ length paths = length_permutation paths (map (λ (file : File). file.0) files) (listing.reported.0 few) in
           let same : length (map (λ (file : File). file.0) files) ≡ length files = length-map files (λ file. file.0) in
           omega arith
     ]
@@ -50,7 +50,7 @@ many_in folder h paths listing many =
 few_in : (folder : List ℕ) (h : Held) (paths : List (List ℕ)) → IsListing (Some h) folder 4097 paths → length paths ≤ 4096 → length (class_files folder h) ≤ 4097
 few_in folder h paths listing few =
     elim (cases_lt 4097 (length (class_files folder h))) [
-      | inl more ↦ let size : length paths ≡ 4097 = listing.told.1 more in absurd (omega arith)
+      | inl more ↦ let size : length paths ≡ 4097 = listing.reported.1 more in absurd (omega arith)
       | inr within ↦ within
     ]
 
@@ -93,14 +93,14 @@ asked_more f xs i x y old mid new within is same before step =
     grown_more old mid new (map f xs) i (f x) inside before (step ∙ ap (λ z. mid ++ z ∷ []) (same ∙ sym (mapped_at f xs i x within is)))
 
 -- what was asked so far, and maybe one more path
-pub asked_front : {X Y : Type 0} (f : X → Y) (xs : List X) (i : ℕ) (x : X) (y : Y) (old mid new : List Y) → i < length xs → x ≡ get_or xs i x → y ≡ f x
-    → mid ≡ old ++ take i (map f xs) → GrowsByFront mid new (y ∷ []) → GrowsByFront old new (map f xs)
-asked_front {X} {Y} f xs i x y old mid new within is same before step =
+pub asked_prefix : {X Y : Type 0} (f : X → Y) (xs : List X) (i : ℕ) (x : X) (y : Y) (old mid new : List Y) → i < length xs → x ≡ get_or xs i x → y ≡ f x
+    → mid ≡ old ++ take i (map f xs) → GrowsByPrefix mid new (y ∷ []) → GrowsByPrefix old new (map f xs)
+asked_prefix {X} {Y} f xs i x y old mid new within is same before step =
     let inside : i < length (map f xs) = omega (arith, length-map xs f) in
     let part : List Y = take i (map f xs) ++ y ∷ [] in
-    let front : IsFront part (map f xs) =
-    subst (λ z. IsFront (take i (map f xs) ++ z ∷ []) (map f xs)) (mapped_at f xs i x within is ∙ sym same) (IsFront-more (map f xs) i (f x) inside) in
-    GrowsByFront-within old new part (map f xs) (GrowsByFront-after old mid new (take i (map f xs)) (y ∷ []) before step) front
+    let prefix : IsPrefix part (map f xs) =
+    subst (λ z. IsPrefix (take i (map f xs) ++ z ∷ []) (map f xs)) (mapped_at f xs i x within is ∙ sym same) (IsPrefix-more (map f xs) i (f x) inside) in
+    GrowsByPrefix-within old new part (map f xs) (GrowsByPrefix-after old mid new (take i (map f xs)) (y ∷ []) before step) prefix
 
 pub nothing_within : AreWithin []
 nothing_within = record { each = tt; together = omega arith }
@@ -126,10 +126,10 @@ pub first_past : (files : List File) (i : ℕ) (file : File) (total : ℕ) (limi
 first_past files i file total limits.FileCount within is before sum past = past
 first_past files i file total limits.Input within is before sum past = past
 first_past files i file total limits.File within is before sum past =
-    record { front = take i files; file = file; rest = drop (i + 1) files; parts = parts_at files i file within is; before = before; past = past }
+    record { prefix = take i files; file = file; rest = drop (i + 1) files; parts = parts_at files i file within is; before = before; past = past }
 first_past files i file total limits.Total within is before sum past =
     record {
-      front = take i files;
+      prefix = take i files;
       file = file;
       rest = drop (i + 1) files;
       parts = parts_at files i file within is;
@@ -151,28 +151,28 @@ module _ {Z : Type 0} (texts : List (String Z)) (i : ℕ) (s : String Z) (t : Li
   text_at = subst (λ u. get_or (map string_bytes texts) i u ≡ u) (sym same) (mapped_at string_bytes texts i s within is)
 
   -- the limit that the next file passes is the first of all
-  pub passed_told : (held mid : Option Held) (read : List SourceFile) (total : ℕ) (limit : Limit) (next : NextFile) → mid ≡ held → AreWithin (map source_view read)
+  pub passed_reported : (held mid : Option Held) (read : List SourceFile) (total : ℕ) (limit : Limit) (next : NextFile) → mid ≡ held → AreWithin (map source_view read)
       → total ≡ total_bytes (map source_view read) → IfSome held (λ h. map source_view read ≡ take i (all_at h)) → next ≡ next_files.Passed limit
       → IfSome mid (λ h. IsNext (file_at h t) total next) → IfSome held (λ h. IsLoaded (all_at h) (loads.Passed limit))
-  passed_told held mid read total limit next e before sum so_far passed told =
-      both_told held (λ h. map source_view read ≡ take i (all_at h)) (λ h. IsNext (file_at h t) total next) (λ h. IsLoaded (all_at h) (loads.Passed limit))
+  passed_reported held mid read total limit next e before sum so_far passed reported =
+      both_reported held (λ h. map source_view read ≡ take i (all_at h)) (λ h. IsNext (file_at h t) total next) (λ h. IsLoaded (all_at h) (loads.Passed limit))
       (λ h part past.
       let size : i < length (all_at h) = omega (arith, inside, length-map (map string_bytes texts) (file_at h)) in
       first_past (all_at h) i (file_at h t) total limit size (mapped_at (file_at h) (map string_bytes texts) i t inside (sym text_at))
       (subst AreWithin part before) (sum ∙ ap total_bytes part) (subst (IsNext (file_at h t) total) passed past))
-      so_far (subst (λ o. IfSome o (λ h. IsNext (file_at h t) total next)) e told)
+      so_far (subst (λ o. IfSome o (λ h. IsNext (file_at h t) total next)) e reported)
 
   -- the files that are read, and one more
-  pub read_told : (held mid : Option Held) (read now : List SourceFile) (file : SourceFile) (total : ℕ) (next : NextFile) → mid ≡ held → now ≡ read ++ file ∷ []
+  pub read_reported : (held mid : Option Held) (read now : List SourceFile) (file : SourceFile) (total : ℕ) (next : NextFile) → mid ≡ held → now ≡ read ++ file ∷ []
       → IfSome held (λ h. map source_view read ≡ take i (all_at h)) → next ≡ next_files.Read file
       → IfSome mid (λ h. IsNext (file_at h t) total next) → IfSome held (λ h. map source_view now ≡ take (i + 1) (all_at h))
-  read_told held mid read now file total next e grown so_far found told =
-      both_told held (λ h. map source_view read ≡ take i (all_at h)) (λ h. IsNext (file_at h t) total next) (λ h. map source_view now ≡ take (i + 1) (all_at h))
+  read_reported held mid read now file total next e grown so_far found reported =
+      both_reported held (λ h. map source_view read ≡ take i (all_at h)) (λ h. IsNext (file_at h t) total next) (λ h. map source_view now ≡ take (i + 1) (all_at h))
       (λ h part one.
       let view : source_view file ≡ file_at h t = subst (IsNext (file_at h t) total) found one in
       ap (map source_view) grown ∙ map-append source_view read (file ∷ []) ∙ ap (λ f. map source_view read ++ f ∷ []) view
       ∙ mapped_more (file_at h) (map string_bytes texts) i t (map source_view read) inside (sym text_at) part)
-      so_far (subst (λ o. IfSome o (λ h. IsNext (file_at h t) total next)) e told)
+      so_far (subst (λ o. IfSome o (λ h. IsNext (file_at h t) total next)) e reported)
 
   pub read_paths : (read now : List SourceFile) (file : SourceFile) (total : ℕ) (next : NextFile) → now ≡ read ++ file ∷ []
       → map (λ file. string_bytes file.path) read ≡ take i (map string_bytes texts) → next ≡ next_files.Read file → IsNextRead t total next

@@ -8,10 +8,10 @@ use Rattle.std.proofs.lemmas.List.{length-map}
 use Rattle.std.proofs.lemmas.Simd.{map-map}
 use Rattle.std.proofs.lemmas.List.Elements.{All-head, All-tail, All-map, All-weaker}
 use Rattle.dj_edge.specs.trusted.Held.{File, Held, class_files, is_class_path, bytes_at}
-use Rattle.dj_edge.specs.trusted.Counts.{GrowsByFront}
-use Rattle.dj_edge.proofs.Growth.{IsFront-append, GrowsByFront-after, GrowsByFront-within}
+use Rattle.dj_edge.specs.trusted.Counts.{GrowsByPrefix}
+use Rattle.dj_edge.proofs.Growth.{IsPrefix-append, GrowsByPrefix-after, GrowsByPrefix-within}
 use Rattle.dj_edge.proofs.Listings.{class_files_held}
-use Rattle.dj_edge.proofs.Lists.{told_so, both_told, All-unmap}
+use Rattle.dj_edge.proofs.Lists.{reported_so, both_reported, All-unmap}
 use Rattle.dj_report.specs.trusted.Stages.{IsDecided}
 use Rattle.dj_report.specs.declared.report.Report.{Report}
 use Rattle.dj_report.specs.declared.report.Report.TheVariants as reports
@@ -76,8 +76,8 @@ AreTheirs folder paths h = map string_bytes paths ≡ class_paths folder h
 
 module _ (folder : List ℕ) (list : List String) (paths : Vec String) (listing : Listing) (items : list ≡ paths.items) (is : listing ≡ listings.Paths paths) where
   pub paths_listed : (held : Option Held) → IfSome held (λ h. IsListed folder h listing) → IfSome held (AreTheirs folder list)
-  paths_listed held told =
-      subst (λ l. IfSome held (AreTheirs folder l)) (sym items) (subst (λ l. IfSome held (λ h. IsListed folder h l)) is told)
+  paths_listed held reported =
+      subst (λ l. IfSome held (AreTheirs folder l)) (sym items) (subst (λ l. IfSome held (λ h. IsListed folder h l)) is reported)
 
   pub few_listed : AreClassPaths folder listing → vec_len paths ≤ most_files
   few_listed listed = (subst (AreClassPaths folder) is listed).0
@@ -93,7 +93,7 @@ pub paths_held : (held mid : Option Held) (folder : List ℕ) (paths : List Stri
     → IfSome mid (λ h. All (λ path. IsSome (bytes_at h (string_bytes path))) paths)
 paths_held held mid folder paths same theirs =
     subst (λ o. IfSome o (λ h. All (λ path. IsSome (bytes_at h (string_bytes path))) paths)) (sym same)
-    (told_so held (AreTheirs folder paths) (λ h. All (λ path. IsSome (bytes_at h (string_bytes path))) paths) (λ h is. all_held folder h paths is) theirs)
+    (reported_so held (AreTheirs folder paths) (λ h. All (λ path. IsSome (bytes_at h (string_bytes path))) paths) (λ h is. all_held folder h paths is) theirs)
 
 -- ---- the files that were read
 
@@ -124,25 +124,25 @@ module _ (paths : List String) (sources : Vec SourceFile) (loaded : Loaded) (is 
 
 -- the folder, and then a prefix of what the input asks
 pub asks_input : (job : FolderJob) (folder : List ℕ) (held : Option Held) (list : List String) (old mid new : List (List ℕ)) → folder ≡ folder_of job → IfSome held (AreTheirs folder list)
-    → mid ≡ old ++ folder ∷ [] → GrowsByFront mid new (input_asks job)
-    → IfSome held (λ h. GrowsByFront old new (folder_of job ∷ (input_asks job ++ class_paths (folder_of job) h)))
+    → mid ≡ old ++ folder ∷ [] → GrowsByPrefix mid new (input_asks job)
+    → IfSome held (λ h. GrowsByPrefix old new (folder_of job ∷ (input_asks job ++ class_paths (folder_of job) h)))
 asks_input job folder held list old mid new same theirs is grows =
-    told_so held (AreTheirs folder list) (λ h. GrowsByFront old new (folder_of job ∷ (input_asks job ++ class_paths (folder_of job) h)))
+    reported_so held (AreTheirs folder list) (λ h. GrowsByPrefix old new (folder_of job ∷ (input_asks job ++ class_paths (folder_of job) h)))
     (λ h are.
-    GrowsByFront-after old mid new (folder_of job ∷ []) (input_asks job ++ class_paths (folder_of job) h) (is ∙ ap (λ (f : List ℕ). old ++ f ∷ []) same)
-    (GrowsByFront-within mid new (input_asks job) (input_asks job ++ class_paths (folder_of job) h) grows (IsFront-append (input_asks job) (class_paths (folder_of job) h))))
+    GrowsByPrefix-after old mid new (folder_of job ∷ []) (input_asks job ++ class_paths (folder_of job) h) (is ∙ ap (λ (f : List ℕ). old ++ f ∷ []) same)
+    (GrowsByPrefix-within mid new (input_asks job) (input_asks job ++ class_paths (folder_of job) h) grows (IsPrefix-append (input_asks job) (class_paths (folder_of job) h))))
     theirs
 
 -- the folder, what the input asks, and then a prefix of the paths
 pub asks_files : (job : FolderJob) (folder : List ℕ) (held : Option Held) (list : List String) (old mid next new : List (List ℕ)) → folder ≡ folder_of job → IfSome held (AreTheirs folder list)
-    → mid ≡ old ++ folder ∷ [] → next ≡ mid ++ input_asks job → GrowsByFront next new (map string_bytes list)
-    → IfSome held (λ h. GrowsByFront old new (folder_of job ∷ (input_asks job ++ class_paths (folder_of job) h)))
+    → mid ≡ old ++ folder ∷ [] → next ≡ mid ++ input_asks job → GrowsByPrefix next new (map string_bytes list)
+    → IfSome held (λ h. GrowsByPrefix old new (folder_of job ∷ (input_asks job ++ class_paths (folder_of job) h)))
 asks_files job folder held list old mid next new same theirs is then_is grows =
-    told_so held (AreTheirs folder list) (λ h. GrowsByFront old new (folder_of job ∷ (input_asks job ++ class_paths (folder_of job) h)))
+    reported_so held (AreTheirs folder list) (λ h. GrowsByPrefix old new (folder_of job ∷ (input_asks job ++ class_paths (folder_of job) h)))
     (λ h are.
-    let paths : GrowsByFront next new (class_paths (folder_of job) h) = subst (λ (f : List ℕ). GrowsByFront next new (class_paths f h)) same (subst (GrowsByFront next new) are grows) in
-    GrowsByFront-after old mid new (folder_of job ∷ []) (input_asks job ++ class_paths (folder_of job) h) (is ∙ ap (λ (f : List ℕ). old ++ f ∷ []) same)
-    (GrowsByFront-after mid next new (input_asks job) (class_paths (folder_of job) h) then_is paths))
+    let paths : GrowsByPrefix next new (class_paths (folder_of job) h) = subst (λ (f : List ℕ). GrowsByPrefix next new (class_paths f h)) same (subst (GrowsByPrefix next new) are grows) in
+    GrowsByPrefix-after old mid new (folder_of job ∷ []) (input_asks job ++ class_paths (folder_of job) h) (is ∙ ap (λ (f : List ℕ). old ++ f ∷ []) same)
+    (GrowsByPrefix-after mid next new (input_asks job) (class_paths (folder_of job) h) then_is paths))
     theirs
 
 -- ---- stage by stage, where the store's contents are known
@@ -165,39 +165,39 @@ module _ (job : FolderJob) (held : Option Held) where
 
   pub too_many : (answers : List HostAnswer) (folder : List ℕ) (listing : Listing) → folder ≡ folder_of job → listing ≡ listings.TooMany → IfSome held (λ h. IsListed folder h listing)
       → Decides answers (reports.Limited limits.FileCount)
-  too_many answers folder listing same is told =
-      told_so held (λ h. IsListed folder h listing) (λ h. IsDecided (folder_stages job h answers) (reports.Limited limits.FileCount))
-      (λ h listed. inl (refl, subst (λ f. IsListed f h listings.TooMany) same (subst (IsListed folder h) is listed))) told
+  too_many answers folder listing same is reported =
+      reported_so held (λ h. IsListed folder h listing) (λ h. IsDecided (folder_stages job h answers) (reports.Limited limits.FileCount))
+      (λ h listed. inl (refl, subst (λ f. IsListed f h listings.TooMany) same (subst (IsListed folder h) is listed))) reported
 
   abbrev pub Unreached : Type 0
   Unreached = IfSome held (λ h. Reaches job h → ⊥)
 
   pub too_many_unreached : (folder : List ℕ) (listing : Listing) → folder ≡ folder_of job → listing ≡ listings.TooMany → IfSome held (λ h. IsListed folder h listing) → Unreached
-  too_many_unreached folder listing same is told =
-      told_so held (λ h. IsListed folder h listing) (λ h. Reaches job h → ⊥)
+  too_many_unreached folder listing same is reported =
+      reported_so held (λ h. IsListed folder h listing) (λ h. Reaches job h → ⊥)
       (λ h listed there.
       let many : most_files < length (class_files (folder_of job) h) = subst (λ f. IsListed f h listings.TooMany) same (subst (IsListed folder h) is listed) in
       let few : length (class_files (folder_of job) h) ≤ most_files = there.count in
-      absurd (omega (arith, many, few))) told
+      absurd (omega (arith, many, few))) reported
 
   pub counted : (folder : List ℕ) (list : List String) → folder ≡ folder_of job → length list ≤ 4096 → IfSome held (AreTheirs folder list) → Counted
   counted folder list same few theirs =
-      told_so held (AreTheirs folder list) (λ h. CountsFiles (class_files (folder_of job) h) None)
+      reported_so held (AreTheirs folder list) (λ h. CountsFiles (class_files (folder_of job) h) None)
       (λ h are. subst (λ f. length (class_files f h) ≤ most_files) same (few_class_files folder h list are few)) theirs
 
   module _ (mid : Option Held) (same_held : mid ≡ held) (input : Input) (read : IfSome mid (λ h. IsJobInput job h input)) where
-    input_told : (other : Input) → input ≡ other → IfSome held (λ h. IsJobInput job h other)
-    input_told other is = subst (λ i. IfSome held (λ h. IsJobInput job h i)) is (subst (λ o. IfSome o (λ h. IsJobInput job h input)) same_held read)
+    input_reported : (other : Input) → input ≡ other → IfSome held (λ h. IsJobInput job h other)
+    input_reported other is = subst (λ i. IfSome held (λ h. IsJobInput job h i)) is (subst (λ o. IfSome o (λ h. IsJobInput job h input)) same_held read)
 
     pub absent : (answers : List HostAnswer) (path : List ℕ) → Counted → input ≡ inputs.Absent path → Decides answers (reports.Absent path)
     absent answers path few is =
-        both_told held (λ h. CountsFiles (class_files (folder_of job) h) None) (λ h. IsJobInput job h (inputs.Absent path)) (λ h. IsDecided (folder_stages job h answers) (reports.Absent path))
-        (λ h on here. inr (on, inl here)) few (input_told (inputs.Absent path) is)
+        both_reported held (λ h. CountsFiles (class_files (folder_of job) h) None) (λ h. IsJobInput job h (inputs.Absent path)) (λ h. IsDecided (folder_stages job h answers) (reports.Absent path))
+        (λ h on here. inr (on, inl here)) few (input_reported (inputs.Absent path) is)
 
     pub too_long : (answers : List HostAnswer) → Counted → input ≡ inputs.TooLong → Decides answers (reports.Limited limits.Input)
     too_long answers few is =
-        both_told held (λ h. CountsFiles (class_files (folder_of job) h) None) (λ h. IsJobInput job h inputs.TooLong) (λ h. IsDecided (folder_stages job h answers) (reports.Limited limits.Input))
-        (λ h on here. inr (on, inl here)) few (input_told inputs.TooLong is)
+        both_reported held (λ h. CountsFiles (class_files (folder_of job) h) None) (λ h. IsJobInput job h inputs.TooLong) (λ h. IsDecided (folder_stages job h answers) (reports.Limited limits.Input))
+        (λ h on here. inr (on, inl here)) few (input_reported inputs.TooLong is)
 
     input_unreached : (h : Held) (report : Report) → FindsInput job h (Some report) → Reaches job h → ⊥
     input_unreached h report decided there =
@@ -206,20 +206,20 @@ module _ (job : FolderJob) (held : Option Held) where
 
     pub absent_unreached : (path : List ℕ) → input ≡ inputs.Absent path → Unreached
     absent_unreached path is =
-        told_so held (λ h. IsJobInput job h (inputs.Absent path)) (λ h. Reaches job h → ⊥) (λ h here. input_unreached h (reports.Absent path) here) (input_told (inputs.Absent path) is)
+        reported_so held (λ h. IsJobInput job h (inputs.Absent path)) (λ h. Reaches job h → ⊥) (λ h here. input_unreached h (reports.Absent path) here) (input_reported (inputs.Absent path) is)
 
     pub too_long_unreached : input ≡ inputs.TooLong → Unreached
     too_long_unreached is =
-        told_so held (λ h. IsJobInput job h inputs.TooLong) (λ h. Reaches job h → ⊥) (λ h here. input_unreached h (reports.Limited limits.Input) here) (input_told inputs.TooLong is)
+        reported_so held (λ h. IsJobInput job h inputs.TooLong) (λ h. Reaches job h → ⊥) (λ h here. input_unreached h (reports.Limited limits.Input) here) (input_reported inputs.TooLong is)
 
     pub found : (bytes : Vec ℕ) → input ≡ inputs.Bytes bytes → IfSome held (λ h. FindsInput job h None × (bytes.items ≡ input_of job h))
-    found bytes is = input_told (inputs.Bytes bytes) is
+    found bytes is = input_reported (inputs.Bytes bytes) is
 
   module _ (mid : Option Held) (same_held : mid ≡ held) (folder : List ℕ) (same : folder ≡ folder_of job) (list : List String) (theirs : IfSome held (AreTheirs folder list)) (loaded : Loaded) (read : IfSome mid (λ h. IsLoaded (files_at h (map string_bytes list)) loaded)) where
     -- the files are read, under the paths that were listed
-    files_told : (other : Loaded) → loaded ≡ other → IfSome held (λ h. IsLoaded (class_files (folder_of job) h) other)
-    files_told other is =
-        both_told held (AreTheirs folder list) (λ h. IsLoaded (files_at h (map string_bytes list)) loaded) (λ h. IsLoaded (class_files (folder_of job) h) other)
+    files_reported : (other : Loaded) → loaded ≡ other → IfSome held (λ h. IsLoaded (class_files (folder_of job) h) other)
+    files_reported other is =
+        both_reported held (AreTheirs folder list) (λ h. IsLoaded (files_at h (map string_bytes list)) loaded) (λ h. IsLoaded (class_files (folder_of job) h) other)
         (λ h are here.
         subst (λ f. IsLoaded (class_files f h) other) same
         (subst (λ files. IsLoaded files other) (files_same folder h (map string_bytes list) are) (subst (IsLoaded (files_at h (map string_bytes list))) is here)))
@@ -227,26 +227,26 @@ module _ (job : FolderJob) (held : Option Held) where
 
     pub passed : (answers : List HostAnswer) (limit : Limit) → Counted → Found → loaded ≡ loads.Passed limit → Decides answers (reports.Limited limit)
     passed answers limit few there is =
-        both_told held (λ h. CountsFiles (class_files (folder_of job) h) None × FindsInput job h None) (λ h. IsLoaded (class_files (folder_of job) h) (loads.Passed limit))
+        both_reported held (λ h. CountsFiles (class_files (folder_of job) h) None × FindsInput job h None) (λ h. IsLoaded (class_files (folder_of job) h) (loads.Passed limit))
         (λ h. IsDecided (folder_stages job h answers) (reports.Limited limit))
         (λ h on past. inr (on.0, inr (on.1, inl (passed_stage limit (class_files (folder_of job) h) past))))
-        (both_told held (λ h. CountsFiles (class_files (folder_of job) h) None) (λ h. FindsInput job h None)
+        (both_reported held (λ h. CountsFiles (class_files (folder_of job) h) None) (λ h. FindsInput job h None)
         (λ h. CountsFiles (class_files (folder_of job) h) None × FindsInput job h None) (λ h a b. (a, b)) few there)
-        (files_told (loads.Passed limit) is)
+        (files_reported (loads.Passed limit) is)
 
     pub passed_unreached : (limit : Limit) → loaded ≡ loads.Passed limit → Unreached
     passed_unreached limit is =
-        told_so held (λ h. IsLoaded (class_files (folder_of job) h) (loads.Passed limit)) (λ h. Reaches job h → ⊥)
+        reported_so held (λ h. IsLoaded (class_files (folder_of job) h) (loads.Passed limit)) (λ h. Reaches job h → ⊥)
         (λ h past there.
         let files : List File = class_files (folder_of job) h in
         let same : Some (reports.Limited limit) ≡ None = files_one files (Some (reports.Limited limit)) None (passed_stage limit files past) there.files in
-        absurd cc) (files_told (loads.Passed limit) is)
+        absurd cc) (files_reported (loads.Passed limit) is)
 
     pub judged : (answers : List HostAnswer) (sources : Vec SourceFile) (set : List File) (bytes : Vec ℕ) (report : Report) → Counted → IfSome held (λ h. FindsInput job h None × (bytes.items ≡ input_of job h))
         → loaded ≡ loads.Files sources → AreRead (map string_bytes list) loaded → set ≡ map (within_folder folder) (map source_view sources.items)
         → IsDecided (judging job set bytes.items answers) report → Decides answers report
     judged answers sources set bytes report few there is all cut decided =
-        both_told held (λ h. CountsFiles (class_files (folder_of job) h) None × (FindsInput job h None × (bytes.items ≡ input_of job h)))
+        both_reported held (λ h. CountsFiles (class_files (folder_of job) h) None × (FindsInput job h None × (bytes.items ≡ input_of job h)))
         (λ h. IsLoaded (class_files (folder_of job) h) (loads.Files sources)) (λ h. IsDecided (folder_stages job h answers) report)
         (λ h on view. inr (
           on.0,
@@ -260,22 +260,22 @@ module _ (job : FolderJob) (held : Option Held) where
             ),
           ),
         ))
-        (both_told held (λ h. CountsFiles (class_files (folder_of job) h) None) (λ h. FindsInput job h None × (bytes.items ≡ input_of job h))
+        (both_reported held (λ h. CountsFiles (class_files (folder_of job) h) None) (λ h. FindsInput job h None × (bytes.items ≡ input_of job h))
         (λ h. CountsFiles (class_files (folder_of job) h) None × (FindsInput job h None × (bytes.items ≡ input_of job h))) (λ h a b. (a, b)) few there)
-        (files_told (loads.Files sources) is)
+        (files_reported (loads.Files sources) is)
 
     -- what is judged are the held files and input
     pub read_whole : (sources : Vec SourceFile) (set : List File) (bytes : Vec ℕ) → Counted → IfSome held (λ h. FindsInput job h None × (bytes.items ≡ input_of job h))
         → loaded ≡ loads.Files sources → AreRead (map string_bytes list) loaded → set ≡ map (within_folder folder) (map source_view sources.items)
         → IfSome held (IsReached job set bytes.items)
     read_whole sources set bytes few there is all cut =
-        both_told held (λ h. CountsFiles (class_files (folder_of job) h) None × (FindsInput job h None × (bytes.items ≡ input_of job h)))
+        both_reported held (λ h. CountsFiles (class_files (folder_of job) h) None × (FindsInput job h None × (bytes.items ≡ input_of job h)))
         (λ h. IsLoaded (class_files (folder_of job) h) (loads.Files sources)) (IsReached job set bytes.items)
         (λ h on view. (
           record { count = on.0; input = on.1.0; files = subst AreWithin view (subst (AreRead (map string_bytes list)) is all).1 },
           cut ∙ ap (λ f. map (within_folder f) (map source_view sources.items)) same ∙ ap (map (within_folder (folder_of job))) view,
           on.1.1,
         ))
-        (both_told held (λ h. CountsFiles (class_files (folder_of job) h) None) (λ h. FindsInput job h None × (bytes.items ≡ input_of job h))
+        (both_reported held (λ h. CountsFiles (class_files (folder_of job) h) None) (λ h. FindsInput job h None × (bytes.items ≡ input_of job h))
         (λ h. CountsFiles (class_files (folder_of job) h) None × (FindsInput job h None × (bytes.items ≡ input_of job h))) (λ h a b. (a, b)) few there)
-        (files_told (loads.Files sources) is)
+        (files_reported (loads.Files sources) is)

@@ -7,7 +7,7 @@ use Rattle.dj_asm.proofs.OneFault.{one_fault, no_file_where_fault}
 use Rattle.dj_asm.proofs.OneFile.{one_file}
 use Rattle.dj_edge.specs.trusted.Held.{File, Held, bytes_at, class_files}
 use Rattle.dj_edge.specs.declared.host.HostAnswer.{HostAnswer}
-use Rattle.dj_edge.specs.trusted.Counts.{IsFront}
+use Rattle.dj_edge.specs.trusted.Counts.{IsPrefix}
 use Rattle.dj_edge.proofs.Lists.{cut_cases, at_cut}
 use Rattle.dj_report.specs.trusted.Stages.{IsDecided}
 use Rattle.dj_report.specs.Stages.{DecidesOne, DecideOne}
@@ -25,34 +25,34 @@ use Rattle.dj_source.specs.declared.error.AsmError.{AsmError}
 use Rattle.dj_source.specs.declared.error.AsmError.TheVariants as asm_errors
 use Rattle.dj_words.specs.trusted.DoneJobs.{DoneJob, FolderJob, Check, Verify, Raw, OnFolder, Assemble, done_job_of}
 use Rattle.djvm_cli.specs.trusted.Jobs.{folder_of, IsRawJob}
-use Rattle.djvm_cli.specs.trusted.Report.{RefusesWords, CountsFiles, ReadsWhole, FindsInput, ReadsFiles, TellsFault, Assembles, judging, folder_stages, text_stages, stages, files_within, input_of}
-use Rattle.djvm_cli.specs.OneReport.{HasOneReport, HasOneEnd, HasOneFront, HasOneAnswer}
+use Rattle.djvm_cli.specs.trusted.Report.{RefusesWords, CountsFiles, ReadsWhole, FindsInput, ReadsFiles, NamesFault, Assembles, judging, folder_stages, text_stages, stages, files_within, input_of}
+use Rattle.djvm_cli.specs.OneReport.{HasOneReport, HasOneEnd, HasOnePrefix, HasOneAnswer}
 
 -- ---- the limits
 
-short_at : (files front : List File) (file : File) (rest : List File) → AreWithin files → files ≡ front ++ file ∷ rest → length file.1 ≤ most_file_bytes
-short_at files front file rest within parts =
-    at_cut (λ f. length f.1 ≤ most_file_bytes) front file rest (subst (AllByRecursion (λ f. length f.1 ≤ most_file_bytes)) parts within.each)
+short_at : (files prefix : List File) (file : File) (rest : List File) → AreWithin files → files ≡ prefix ++ file ∷ rest → length file.1 ≤ most_file_bytes
+short_at files prefix file rest within parts =
+    at_cut (λ f. length f.1 ≤ most_file_bytes) prefix file rest (subst (AllByRecursion (λ f. length f.1 ≤ most_file_bytes)) parts within.each)
 
-few_at : (files front : List File) (file : File) (rest : List File) → AreWithin files → files ≡ front ++ file ∷ rest → total_bytes front + length file.1 ≤ most_total_bytes
-few_at files front file rest within parts =
+few_at : (files prefix : List File) (file : File) (rest : List File) → AreWithin files → files ≡ prefix ++ file ∷ rest → total_bytes prefix + length file.1 ≤ most_total_bytes
+few_at files prefix file rest within parts =
     let size : File → ℕ = λ f. length f.1 in
-    let sum : total_bytes files ≡ total_bytes front + total_bytes (file ∷ rest) = ap total_bytes parts ∙ sum_by-append size front (file ∷ rest) in
+    let sum : total_bytes files ≡ total_bytes prefix + total_bytes (file ∷ rest) = ap total_bytes parts ∙ sum_by-append size prefix (file ∷ rest) in
     omega (arith, sum_by-cons size file rest, within.together)
 
 not_long : (files : List File) → AreWithin files → IsFirstPast IsTooLong files → ⊥
-not_long files within past = omega (arith, short_at files past.front past.file past.rest within past.parts, past.past)
+not_long files within past = omega (arith, short_at files past.prefix past.file past.rest within past.parts, past.past)
 
 not_much : (files : List File) → AreWithin files → IsFirstPast IsTooMuch files → ⊥
-not_much files within past = omega (arith, few_at files past.front past.file past.rest within past.parts, past.past.1)
+not_much files within past = omega (arith, few_at files past.prefix past.file past.rest within past.parts, past.past.1)
 
 not_both : (files : List File) → IsFirstPast IsTooLong files → IsFirstPast IsTooMuch files → ⊥
 not_both files long much =
-    elim (cut_cases long.front much.front long.file much.file long.rest much.rest (sym long.parts ∙ much.parts)) [
-      | inl p ↦ omega (arith, short_at much.front long.front long.file p.0 much.before p.1, long.past)
+    elim (cut_cases long.prefix much.prefix long.file much.file long.rest much.rest (sym long.parts ∙ much.parts)) [
+      | inl p ↦ omega (arith, short_at much.prefix long.prefix long.file p.0 much.before p.1, long.past)
       | inr q ↦ elim q [
         | inl same ↦ omega (arith, long.past, much.past.0, ap (λ (f : File). length f.1) same)
-        | inr p ↦ omega (arith, few_at long.front much.front much.file p.0 long.before p.1, much.past.1)
+        | inr p ↦ omega (arith, few_at long.prefix much.prefix much.file p.0 long.before p.1, much.past.1)
       ]
     ]
 
@@ -109,7 +109,7 @@ folder_stages_one job held answers =
 -- ---- a text that is assembled
 
 -- a fault has one report
-fault_one : (e : AsmError) (r s : Report) → TellsFault e r → TellsFault e s → r ≡ s
+fault_one : (e : AsmError) (r s : Report) → NamesFault e r → NamesFault e s → r ≡ s
 fault_one (asm_errors.Syntax line column) r s a b = a ∙ sym b
 fault_one (asm_errors.Label line) r s a b = a ∙ sym b
 fault_one (asm_errors.Large line) r s a b = a ∙ sym b
@@ -121,7 +121,7 @@ text_one text (Some r) (Some s) (inl a) (inr b) = absurd (no_file_where_fault te
 text_one text (Some r) (Some s) (inr a) (inl b) = absurd (no_file_where_fault text b.0 a.0 b.2 a.2)
 text_one text (Some r) (Some s) (inr a) (inr b) =
     let same : a.0 ≡ b.0 = one_fault text a.0 b.0 a.2 b.2 in
-    ap Some (fault_one b.0 r s (subst (λ e. TellsFault e r) same a.1) b.1)
+    ap Some (fault_one b.0 r s (subst (λ e. NamesFault e r) same a.1) b.1)
 text_one text (Some r) None a b = absurd b
 text_one text None s a b = absurd a
 
@@ -148,10 +148,10 @@ same_end words held answers a b old_a new_a old_b new_b first second =
       second = subst (λ r. Appends old_b new_b (report_text r)) (sym same) second.written;
     }
 
-pub same_front : HasOneFront
-same_front words held answers report old new right broken =
+pub same_prefix : HasOnePrefix
+same_prefix words held answers report old new right broken =
     let same : broken.report ≡ report = same_report words held answers broken.report report broken.right right in
-    (broken.front, subst (λ (r : Report). IsFront broken.front (report_text r)) same broken.is_front, broken.written)
+    (broken.prefix, subst (λ (r : Report). IsPrefix broken.prefix (report_text r)) same broken.is_prefix, broken.written)
 
 -- ---- of jobs that aren't raw runs
 

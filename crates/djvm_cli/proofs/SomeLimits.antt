@@ -14,26 +14,26 @@ each_pushed P [] x all p = (p, tt)
 each_pushed P (y ∷ ys) x all p = (all.0, each_pushed P ys x all.1 p)
 
 -- one more file that is within them
-within_pushed : (front : List File) (file : File) → AreWithin front → length file.1 ≤ most_file_bytes → total_bytes front + length file.1 ≤ most_total_bytes
-    → AreWithin (front ++ file ∷ [])
-within_pushed front file within short few =
+within_pushed : (prefix : List File) (file : File) → AreWithin prefix → length file.1 ≤ most_file_bytes → total_bytes prefix + length file.1 ≤ most_total_bytes
+    → AreWithin (prefix ++ file ∷ [])
+within_pushed prefix file within short few =
     let size : File → ℕ = λ f. length f.1 in
     record {
-      each = each_pushed (λ f. length f.1 ≤ most_file_bytes) front file within.each short;
-      together = omega (arith, sum_by-append size front (file ∷ []), sum_by-cons size file [], few);
+      each = each_pushed (λ f. length f.1 ≤ most_file_bytes) prefix file within.each short;
+      together = omega (arith, sum_by-append size prefix (file ∷ []), sum_by-cons size file [], few);
     }
 
 abbrev Limited : List File → Type 0
 Limited files = AreWithin files ⊎ (IsFirstPast IsTooLong files ⊎ IsFirstPast IsTooMuch files)
 
-limited_from : (rest front : List File) → AreWithin front → Limited (front ++ rest)
-limited_from [] front within = subst Limited (sym (append-nil front)) (inl within)
-limited_from (file ∷ rest) front within =
+limited_from : (rest prefix : List File) → AreWithin prefix → Limited (prefix ++ rest)
+limited_from [] prefix within = subst Limited (sym (append-nil prefix)) (inl within)
+limited_from (file ∷ rest) prefix within =
     elim (cases_lt most_file_bytes (length file.1)) [
-      | inl long ↦ inr (inl (record { front = front; file = file; rest = rest; parts = refl; before = within; past = long }))
-      | inr short ↦ elim (cases_lt most_total_bytes (total_bytes front + length file.1)) [
-        | inl much ↦ inr (inr (record { front = front; file = file; rest = rest; parts = refl; before = within; past = (short, much) }))
-        | inr few ↦ subst Limited (append_assoc front (file ∷ []) rest) (limited_from rest (front ++ file ∷ []) (within_pushed front file within short few))
+      | inl long ↦ inr (inl (record { prefix = prefix; file = file; rest = rest; parts = refl; before = within; past = long }))
+      | inr short ↦ elim (cases_lt most_total_bytes (total_bytes prefix + length file.1)) [
+        | inl much ↦ inr (inr (record { prefix = prefix; file = file; rest = rest; parts = refl; before = within; past = (short, much) }))
+        | inr few ↦ subst Limited (append_assoc prefix (file ∷ []) rest) (limited_from rest (prefix ++ file ∷ []) (within_pushed prefix file within short few))
       ]
     ]
 

@@ -122,11 +122,11 @@ some_folder runs (Raw folder entry path steps) held none = raw_report runs folde
 
 -- want of memory is no fault of a text
 pub no_memory_fault : (text : List ℕ) → TextFault text asm_errors.Memory → ⊥
-no_memory_fault text (inl (inl fault)) = let told = fault.told in absurd cc
-no_memory_fault text (inl (inr (inl fault))) = let told = fault.told in absurd cc
-no_memory_fault text (inl (inr (inr fault))) = let told = fault.told in absurd cc
-no_memory_fault text (inr (inl fault)) = let told = fault.told in absurd cc
-no_memory_fault text (inr (inr fault)) = let told = fault.told in absurd cc
+no_memory_fault text (inl (inl fault)) = let reported = fault.reported in absurd cc
+no_memory_fault text (inl (inr (inl fault))) = let reported = fault.reported in absurd cc
+no_memory_fault text (inl (inr (inr fault))) = let reported = fault.reported in absurd cc
+no_memory_fault text (inr (inl fault)) = let reported = fault.reported in absurd cc
+no_memory_fault text (inr (inr fault)) = let reported = fault.reported in absurd cc
 
 fault_answers : (text : List ℕ) (e : AsmError) → TextFault text e → Answers (Assembles text)
 fault_answers text (asm_errors.Syntax line column) fault none = none (Some (reports.Syntax line column)) (inr (asm_errors.Syntax line column, refl, fault))

@@ -3,7 +3,7 @@ use Rattle.std.proofs.Common.{◌≡◌, ℕ, List, [], Option, Some, None, IfSo
 use Rattle.std.specs.Global.{Vec}
 use Rattle.std.specs.Prelude.{Result}
 use Rattle.dj_edge.specs.trusted.Held.{Held, bytes_at}
-use Rattle.dj_edge.proofs.Lists.{told_so, ok_so}
+use Rattle.dj_edge.proofs.Lists.{reported_so, ok_so}
 use Rattle.dj_report.specs.trusted.Stages.{IsDecided}
 use Rattle.dj_report.specs.declared.report.Report.{Report}
 use Rattle.dj_sandbox.specs.trusted.Limits.{most_file_bytes}
@@ -23,7 +23,7 @@ pub text_assembled : (path : List ℕ) (held : Option Held) (input : Input) → 
 text_assembled path held input read bytes text result is short same assembled =
     ok_so result (λ report. Assembles text (Some report)) (λ report. IfSome held (λ h. IsDecided (text_stages path h) report))
     (λ report right.
-    told_so held (Reads path (inputs.Bytes bytes)) (λ h. IsDecided (text_stages path h) report)
+    reported_so held (Reads path (inputs.Bytes bytes)) (λ h. IsDecided (text_stages path h) report)
     (λ h found. inr (
       subst (λ (f : Option (List ℕ)). ReadsText path f None) (sym found) (subst (IsShortInput most_file_bytes) is short),
       inl (subst (λ (f : Option (List ℕ)). Assembles (unwrap_or f []) (Some report)) (sym found) (subst (λ (t : List ℕ). Assembles t (Some report)) same right)),

@@ -2,14 +2,14 @@
 use Rattle.std.specs.Prelude.{◌≡◌, ℕ, List, [], ◌∷◌, Option, IsSome}
 use Rattle.std.specs.Io.KnownBytes.{Appends}
 use Rattle.dj_edge.specs.trusted.Held.{Held}
-use Rattle.dj_edge.specs.trusted.Counts.{IsFront}
+use Rattle.dj_edge.specs.trusted.Counts.{IsPrefix}
 use Rattle.dj_sandbox.specs.trusted.Statuses.{IsAmong}
 use Rattle.dj_words.specs.trusted.DoneJobs.{DoneJob}
 use Rattle.djvm_cli.specs.trusted.Ends.{read_fault, write_fault, no_memory, report_statuses}
 
 -- a prefix of the text was written
-abbrev pub WritesFront : Option (List ℕ) → Option (List ℕ) → List ℕ → Type 0
-WritesFront old new text = (front : List ℕ) × IsFront front text × Appends old new front
+abbrev pub WritesPrefix : Option (List ℕ) → Option (List ℕ) → List ℕ → Type 0
+WritesPrefix old new text = (prefix : List ℕ) × IsPrefix prefix text × Appends old new prefix
 
 -- the status is that of a report of the job; ABSENT is reported only where the store's contents are known
 abbrev pub IsReportStatus : Option DoneJob → Option Held → ℕ → Type 0

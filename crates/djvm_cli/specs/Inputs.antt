@@ -14,9 +14,9 @@ IsShortInput most (inputs.Bytes bytes) = length bytes.items ≤ most
 IsShortInput most _ = ⊤
 
 -- a file is reported absent only where the store's contents are known
-abbrev pub IsAbsentWhereTold : Option Held → Input → Type 0
-IsAbsentWhereTold held (inputs.Absent path) = IsSome held
-IsAbsentWhereTold held _ = ⊤
+abbrev pub IsAbsentWhereKnown : Option Held → Input → Type 0
+IsAbsentWhereKnown held (inputs.Absent path) = IsSome held
+IsAbsentWhereKnown held _ = ⊤
 
 -- the answer for what the store holds under the path
 abbrev pub IsReadInput : ℕ → List ℕ → Option (List ℕ) → Input → Type 0

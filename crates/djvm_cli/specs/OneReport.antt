@@ -10,7 +10,7 @@ use Rattle.dj_words.specs.trusted.DoneJobs.{done_job_of}
 use Rattle.djvm_cli.specs.trusted.Jobs.{IsRawJob}
 use Rattle.djvm_cli.specs.trusted.Report.{IsReport}
 use Rattle.djvm_cli.specs.trusted.Ends.{Finished, Broken}
-use Rattle.djvm_cli.specs.Ends.{WritesFront}
+use Rattle.djvm_cli.specs.Ends.{WritesPrefix}
 use Rattle.djvm_cli.specs.trusted.Engine.{AreRuns}
 
 -- two right reports under the same answers are equal
@@ -34,9 +34,9 @@ HasOneEnd = (words : List (List ℕ)) (held : Held) (answers : List HostAnswer) 
     → Finished words (Some held) answers a old_a new_a → Finished words (Some held) answers b old_b new_b → IsSameEnd a b old_a new_a old_b new_b
 
 -- what a call wrote before the sink failed or memory ran out is a prefix of the right report's text
-abbrev pub HasOneFront : Type 0
-HasOneFront = (words : List (List ℕ)) (held : Held) (answers : List HostAnswer) (report : Report) (old new : Option (List ℕ))
-    → IsReport words held answers report → Broken words (Some held) answers old new → WritesFront old new (report_text report)
+abbrev pub HasOnePrefix : Type 0
+HasOnePrefix = (words : List (List ℕ)) (held : Held) (answers : List HostAnswer) (report : Report) (old new : Option (List ℕ))
+    → IsReport words held answers report → Broken words (Some held) answers old new → WritesPrefix old new (report_text report)
 
 -- the answers matter to `raw` alone: any other job has the same report whatever the host answers
 abbrev pub HasOneAnswer : Type 0

@@ -2,6 +2,7 @@ use crate::clock_host::ClockHost;
 use crate::djvm::djvm;
 use crate::notes::Notes;
 use crate::out_sink::OutSink;
+use crate::texts::{TIMES, class_file};
 use dj_edge::{MemFiles, Order, paths_differ};
 use dj_running::PlainEngine;
 use std::alloc::{AllocError, Global};
@@ -13,16 +14,6 @@ use std::rc::Rc;
 use std::rt::Clock;
 use std::test::Fail;
 use std::time::Duration;
-
-// The class A that asks the time twice, and returns the last byte of the nanoseconds between.
-const TIMES: &[u8] =
-    b"\xca\xfe\xba\xbe\0\0\04\0\x0e\x01\0\x01A\x07\0\x01\x01\0\x10java/lang/Object\x07\0\x03\x01\0\x06veri\
-    fy\x01\0\x06([B)[B\x01\0\x04Code\x01\0\x10java/lang/System\x07\0\x08\x01\0\x08nanoTime\x01\0\x03()J\
-    \x0c\0\x0a\0\x0b\x0a\0\x09\0\x0c\0\x21\0\x02\0\x04\0\0\0\0\0\x01\0\x09\0\x05\0\x06\0\x01\0\x07\0\0\0\
-    \x1e\0\x04\0\x02\0\0\0\x12\xb8\0\x0d\xb8\0\x0d\x65\x75\x88\x3c\x04\xbc\x08\x59\x03\x1b\x54\xb0\0\0\0\0\
-    \0\0";
-
-const FILES: [(&str, &[u8]); 2] = [("c/A.class", TIMES), ("in", b"")];
 
 /// Clocks that go on by so many nanoseconds whenever one of them is read.
 #[derive(Drop)]
@@ -106,10 +97,9 @@ impl Eprint for Narrow {
 
 fn held(alloc: Global) -> Result<Vec<(String, Vec<u8>)>, AllocError> {
     let mut held = Vec::new(alloc);
-    for (path, bytes) in &FILES {
-        let bytes = Vec::from_slice(alloc, bytes)?;
-        held.push((String::from_str(alloc, path)?, bytes))?;
-    }
+    let class = class_file(alloc, TIMES)?;
+    held.push((String::from_str(alloc, "c/A.class")?, class))?;
+    held.push((String::from_str(alloc, "in")?, Vec::new(alloc)))?;
     Ok(held)
 }
 
@@ -139,7 +129,7 @@ fn are_same(some: &[u8], other: &[u8]) -> bool {
 }
 
 // Whether the run under such clocks is reported so, through the adapters that the program has.
-fn is_told(alloc: Global, run: &Run) -> Result<bool, AllocError> {
+fn is_reported(alloc: Global, run: &Run) -> Result<bool, AllocError> {
     let held = held(alloc)?;
     if !paths_differ(&held) {
         return Ok(false);
@@ -167,7 +157,7 @@ fn is_told(alloc: Global, run: &Run) -> Result<bool, AllocError> {
 #[test]
 fn runs_through_the_adapters(rt: HostRuntime) -> Result<(), Fail> {
     for run in &RUNS {
-        assert!(rt; is_told(rt.alloc(), run)?);
+        assert!(rt; is_reported(rt.alloc(), run)?);
     }
     Ok(())
 }

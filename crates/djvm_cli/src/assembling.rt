@@ -1,5 +1,5 @@
 ghost use Rattle.std.specs.Prelude.{◌≡◌, ◌≤◌, [], ◌∷◌, Some, None, length, IfOk, IfErr, IfSome};
-ghost use Rattle.dj_edge.specs.trusted.Counts.{GrowsByFront};
+ghost use Rattle.dj_edge.specs.trusted.Counts.{GrowsByPrefix};
 ghost use Rattle.dj_report.specs.trusted.Stages.{IsDecided};
 ghost use Rattle.dj_report.specs.trusted.Text.{report_status};
 ghost use Rattle.dj_sandbox.specs.trusted.Limits.{most_file_bytes};
@@ -35,7 +35,7 @@ fn assemble_text(alloc: Global, text: &[u8]) -> Result<Report, Stop>
 pub fn report_of_text<F: Files>(alloc: Global, path: &str, files: &mut F) -> Result<Report, Stop>
     ensures held { F.held files.new ≡ F.held files.old }
     ensures counts { Counted (F.faults files.old) (F.faults files.new) result }
-    ensures asks { GrowsByFront (F.asked files.old) (F.asked files.new) (path.now ∷ []) }
+    ensures asks { GrowsByPrefix (F.asked files.old) (F.asked files.new) (path.now ∷ []) }
     ensures right { IfOk result (λ report. IfSome (F.held files.old) (λ h. IsDecided (text_stages path.now h) report)) }
     ensures status { IfOk result (λ report. IsReportStatus (Some (Assemble path.now)) (F.held files.old) (report_status report)) }
 {

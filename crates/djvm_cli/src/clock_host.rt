@@ -86,7 +86,7 @@ mod tests {
     use std::test::Fail;
     use std::time::Duration;
 
-    fn clocks_tell<A: Abort, R: Clock + AllocGlobal + Drop>(
+    fn clocks_answer<A: Abort, R: Clock + AllocGlobal + Drop>(
         rt: &A,
         host: &mut ClockHost<R>,
     ) -> Result<(), Fail> {
@@ -105,7 +105,7 @@ mod tests {
     #[test]
     fn real_clocks(rt: HostRuntime) -> Result<(), Fail> {
         let mut host = ClockHost::new(&rt);
-        clocks_tell(&rt, &mut host)
+        clocks_answer(&rt, &mut host)
     }
 
     // Clocks that can't be read.

@@ -1,6 +1,6 @@
 ghost use Rattle.std.specs.Prelude.{◌≡◌, ◌≢◌, ◌≤◌, ◌++◌, Some, None, length, map, IfOk, IfErr, IfSome, string_bytes};
 ghost use Rattle.std.specs.Io.KnownBytes.{Appends};
-ghost use Rattle.dj_edge.specs.trusted.Counts.{Rose, GrowsByFront};
+ghost use Rattle.dj_edge.specs.trusted.Counts.{Rose, GrowsByPrefix};
 ghost use Rattle.dj_report.specs.trusted.Stages.{IsDecided};
 ghost use Rattle.dj_report.specs.trusted.Text.{report_text, report_status};
 ghost use Rattle.dj_host.specs.trusted.Hosted.{given_since};
@@ -11,13 +11,13 @@ ghost use Rattle.dj_sandbox.specs.trusted.Statuses.{IsAmong};
 ghost use Rattle.dj_sandbox.specs.Statuses.{raw_statuses};
 ghost use Rattle.djvm_cli.specs.declared.load.Stop.TheVariants.{Memory};
 ghost use Rattle.dj_words.specs.trusted.DoneJobs.{OnFolder, done_job_of};
-ghost use Rattle.djvm_cli.specs.trusted.Engine.{AddsRuns, AddsFront, AddsFew, TellsNoRun};
+ghost use Rattle.djvm_cli.specs.trusted.Engine.{AddsRuns, AddsPrefix, AddsFew, MakesNoRun};
 ghost use Rattle.djvm_cli.specs.Engine.{LeavesRaw, LeavesJudged, LeavesJob};
 ghost use Rattle.djvm_cli.specs.trusted.Jobs.{folder_of, IsRawJob};
 ghost use Rattle.djvm_cli.specs.Jobs.{IsAllowed, IsAllowedJob};
 ghost use Rattle.djvm_cli.specs.trusted.Report.{judging, folder_stages, folder_asks, stages, job_asks};
-ghost use Rattle.djvm_cli.specs.trusted.Ends.{IsStatus, read_fault, write_fault, no_memory, IsRight, Finished, ReadEnds, WriteFault, OutOfMemory, AsksInOrder, TellsUsage};
-ghost use Rattle.djvm_cli.specs.Ends.{IsReportStatus, IsWritten, WritesFront};
+ghost use Rattle.djvm_cli.specs.trusted.Ends.{IsStatus, read_fault, write_fault, no_memory, IsRight, Finished, ReadEnds, WriteFault, OutOfMemory, AsksInOrder, MeansUsage};
+ghost use Rattle.djvm_cli.specs.Ends.{IsReportStatus, IsWritten, WritesPrefix};
 ghost use Rattle.djvm_cli.specs.Steps.{Counted};
 ghost use Rattle.dj_words.specs.Views.{folder_job_view, job_view};
 
@@ -105,7 +105,7 @@ fn report_of_folder<F: Files, H: Host, E: Engine>(
     requires allowed { IsAllowed (folder_job_view command) }
     ensures held { F.held files.new ≡ F.held files.old }
     ensures counts { Counted (F.faults files.old) (F.faults files.new) result }
-    ensures asks { IfSome (F.held files.old) (λ h. GrowsByFront (F.asked files.old) (F.asked files.new) (folder_asks (folder_job_view command.entry) h)) }
+    ensures asks { IfSome (F.held files.old) (λ h. GrowsByPrefix (F.asked files.old) (F.asked files.new) (folder_asks (folder_job_view command.entry) h)) }
     ensures right { IfOk result (λ report. IfSome (F.held files.old) (λ h. IsDecided (folder_stages (folder_job_view command.entry) h (given_since (H.given host.old) (H.given host.new))) report)) }
     ensures status { IfOk result (λ report. IsReportStatus (Some (OnFolder (folder_job_view command.entry))) (F.held files.old) (report_status report)) }
     ensures leaves { LeavesJob (Some (OnFolder (folder_job_view command.entry))) (F.held files.old) (H.given host.old) (H.given host.new) (E.runs engine.old) (E.runs engine.new) result }
@@ -138,7 +138,7 @@ fn report_of_job<F: Files, H: Host, E: Engine>(
     requires allowed { IsAllowedJob (job_view command) }
     ensures held { F.held files.new ≡ F.held files.old }
     ensures counts { Counted (F.faults files.old) (F.faults files.new) result }
-    ensures asks { IfSome (F.held files.old) (λ h. GrowsByFront (F.asked files.old) (F.asked files.new) (job_asks (Some (job_view command.entry)) h)) }
+    ensures asks { IfSome (F.held files.old) (λ h. GrowsByPrefix (F.asked files.old) (F.asked files.new) (job_asks (Some (job_view command.entry)) h)) }
     ensures right { IfOk result (λ report. IfSome (F.held files.old) (λ h. IsDecided (stages (Some (job_view command.entry)) h (given_since (H.given host.old) (H.given host.new))) report)) }
     ensures status { IfOk result (λ report. IsReportStatus (Some (job_view command.entry)) (F.held files.old) (report_status report)) }
     ensures leaves { LeavesJob (Some (job_view command.entry)) (F.held files.old) (H.given host.old) (H.given host.new) (E.runs engine.old) (E.runs engine.new) result }
@@ -161,7 +161,7 @@ fn report_of<F: Files, H: Host, E: Engine>(
     ensures counts { Counted (F.faults files.old) (F.faults files.new) result }
     ensures asks { AsksInOrder (map string_bytes words.now) (F.held files.old) (F.asked files.old) (F.asked files.new) }
     ensures right { IfOk result (IsRight (map string_bytes words.now) (F.held files.old) (given_since (H.given host.old) (H.given host.new))) }
-    ensures usage { IfOk result (λ report. TellsUsage (map string_bytes words.now) (report_status report)) }
+    ensures usage { IfOk result (λ report. MeansUsage (map string_bytes words.now) (report_status report)) }
     ensures status { IfOk result (λ report. IsReportStatus (done_job_of (map string_bytes words.now)) (F.held files.old) (report_status report)) }
     ensures leaves { LeavesJob (done_job_of (map string_bytes words.now)) (F.held files.old) (H.given host.old) (H.given host.new) (E.runs engine.old) (E.runs engine.new) result }
 {
@@ -178,7 +178,7 @@ fn write_report<S: Sink>(alloc: Global, report: &Report, sink: &mut S) -> u8
     ensures finished { result ≢ write_fault → result ≢ no_memory → Appends (S.written sink.old) (S.written sink.new) (report_text report.now) }
     ensures status { result ≢ write_fault → result ≢ no_memory → result ≡ report_status report.now }
     ensures write_fault { result ≡ write_fault → Rose (S.faults sink.old) (S.faults sink.new) }
-    ensures broken { WritesFront (S.written sink.old) (S.written sink.new) (report_text report.now) }
+    ensures broken { WritesPrefix (S.written sink.old) (S.written sink.new) (report_text report.now) }
 {
     let bytes = match bytes_of(alloc, report) {
         Ok(bytes) => bytes,
@@ -206,7 +206,7 @@ pub fn djvm<F: Files, H: Host, S: Sink, E: Engine>(
     ensures finished { result ≢ read_fault → result ≢ write_fault → result ≢ no_memory
         → Finished (map string_bytes words.now) (F.held files.old) (given_since (H.given host.old) (H.given host.new)) result (S.written sink.old) (S.written sink.new) }
     ensures usage { result ≢ read_fault → result ≢ write_fault → result ≢ no_memory
-        → TellsUsage (map string_bytes words.now) result }
+        → MeansUsage (map string_bytes words.now) result }
     ensures read_fault { result ≡ read_fault
         → ReadEnds (map string_bytes words.now) (F.held files.old) (given_since (H.given host.old) (H.given host.new))
         (F.faults files.old) (F.faults files.new) (S.written sink.old) (S.written sink.new) }
@@ -221,13 +221,13 @@ pub fn djvm<F: Files, H: Host, S: Sink, E: Engine>(
     ensures held { F.held files.new ≡ F.held files.old }
     ensures given { (IsRawJob (done_job_of (map string_bytes words.now)) → ⊥) → H.given host.new ≡ H.given host.old }
     ensures gave { H.given host.new ≡ H.given host.old ++ given_since (H.given host.old) (H.given host.new) }
-    ensures unasked { TellsNoRun (map string_bytes words.now) (F.held files.old) (given_since (H.given host.old) (H.given host.new)) → H.given host.new ≡ H.given host.old }
+    ensures unasked { MakesNoRun (map string_bytes words.now) (F.held files.old) (given_since (H.given host.old) (H.given host.new)) → H.given host.new ≡ H.given host.old }
 
     // The engine made the runs that the report is about, and no others. Whatever is known of the store, it made at most one run, of the class that the words name on some
     // input, and none where the job isn't `raw`.
     ensures runs { result ≢ read_fault → result ≢ write_fault → result ≢ no_memory
         → AddsRuns (map string_bytes words.now) (F.held files.old) (given_since (H.given host.old) (H.given host.new)) (E.runs engine.old) (E.runs engine.new) }
-    ensures front { IfSome (F.held files.old) (λ h. AddsFront (map string_bytes words.now) (Some h) (given_since (H.given host.old) (H.given host.new)) (E.runs engine.old) (E.runs engine.new)) }
+    ensures prefix { IfSome (F.held files.old) (λ h. AddsPrefix (map string_bytes words.now) (Some h) (given_since (H.given host.old) (H.given host.new)) (E.runs engine.old) (E.runs engine.new)) }
     ensures few { AddsFew (map string_bytes words.now) (given_since (H.given host.old) (H.given host.new)) (E.runs engine.old) (E.runs engine.new) }
     ensures idle { (IsRawJob (done_job_of (map string_bytes words.now)) → ⊥) → E.runs engine.new ≡ E.runs engine.old }
 {

@@ -1,4 +1,4 @@
-ghost use Rattle.djvm_cli.specs.OneReport.{HasOneAnswer, HasOneFront, HasOneReport, HasSomeReport, HasOneEnd, HasSameRuns};
+ghost use Rattle.djvm_cli.specs.OneReport.{HasOneAnswer, HasOnePrefix, HasOneReport, HasSomeReport, HasOneEnd, HasSameRuns};
 
 /// The words and the store's contents have at most one report, under the same answers of the host.
 pub fn one_report()
@@ -16,8 +16,8 @@ pub fn one_end()
 {}
 
 /// What a call wrote before the sink failed or memory ran out is a prefix of the right report's text.
-pub fn one_front()
-    ensures { HasOneFront }
+pub fn one_prefix()
+    ensures { HasOnePrefix }
 {}
 
 /// The host's answers matter to `raw` alone.

@@ -2,10 +2,10 @@ ghost use Rattle.std.specs.Prelude.{◌≡◌, ◌≤◌, [], ◌∷◌, ◌++�
 ghost use Rattle.djvm_cli.specs.declared.load.Stop.TheVariants.{Memory};
 ghost use Rattle.djvm_cli.specs.declared.load.Input.TheVariants.{Absent};
 ghost use Rattle.dj_edge.specs.trusted.Held.{bytes_at};
-ghost use Rattle.dj_edge.specs.trusted.Counts.{GrowsByFront};
+ghost use Rattle.dj_edge.specs.trusted.Counts.{GrowsByPrefix};
 ghost use Rattle.dj_sandbox.specs.trusted.Limits.{most_total_bytes, most_input_bytes};
 ghost use Rattle.djvm_cli.specs.Steps.{Counted, IsListed, AreClassPaths, AreRising, AreRead, IsLoaded, files_at};
-ghost use Rattle.djvm_cli.specs.Inputs.{IsShortInput, IsAbsentWhereTold, IsReadInput, IsJobInput, IsInputOf};
+ghost use Rattle.djvm_cli.specs.Inputs.{IsShortInput, IsAbsentWhereKnown, IsReadInput, IsJobInput, IsInputOf};
 ghost use Rattle.djvm_cli.specs.trusted.Report.{input_asks};
 ghost use Rattle.dj_words.specs.Views.{folder_job_view};
 ghost use Rattle.djvm_cli.specs.Next.{IsNextRead, IsNext};
@@ -107,11 +107,11 @@ const MOST_TOTAL_BYTES: u64 = 67_108_864;
 pub fn list_paths<F: Files>(alloc: Global, files: &mut F, folder: &str) -> Result<Listing, Stop>
     ensures held { F.held files.new ≡ F.held files.old }
     ensures counts { Counted (F.faults files.old) (F.faults files.new) result }
-    ensures asks { GrowsByFront (F.asked files.old) (F.asked files.new) (folder.now ∷ []) }
+    ensures asks { GrowsByPrefix (F.asked files.old) (F.asked files.new) (folder.now ∷ []) }
     ensures asked { OnOk result (F.asked files.new ≡ F.asked files.old ++ folder.now ∷ []) }
     ensures class_paths { IfOk result (AreClassPaths folder.now) }
     ensures rise { IfOk result AreRising }
-    ensures told { IfSome (F.held files.old) (λ h. IfOk result (IsListed folder.now h)) }
+    ensures reported { IfSome (F.held files.old) (λ h. IfOk result (IsListed folder.now h)) }
 {
     let mut paths = match files.list(alloc, folder, MOST_FILES + 1) {
         Ok(paths) => paths,
@@ -147,11 +147,11 @@ pub fn read_whole<F: Files>(
 ) -> Result<Input, Stop>
     ensures held { F.held files.new ≡ F.held files.old }
     ensures counts { Counted (F.faults files.old) (F.faults files.new) result }
-    ensures asks { GrowsByFront (F.asked files.old) (F.asked files.new) (path.now ∷ []) }
+    ensures asks { GrowsByPrefix (F.asked files.old) (F.asked files.new) (path.now ∷ []) }
     ensures asked { OnOk result (F.asked files.new ≡ F.asked files.old ++ path.now ∷ []) }
     ensures short { IfOk result (IsShortInput most) }
-    ensures absent { IfOk result (IsAbsentWhereTold (F.held files.old)) }
-    ensures told { IfSome (F.held files.old) (λ h. IfOk result (IsReadInput most path.now (bytes_at h path.now))) }
+    ensures absent { IfOk result (IsAbsentWhereKnown (F.held files.old)) }
+    ensures reported { IfSome (F.held files.old) (λ h. IfOk result (IsReadInput most path.now (bytes_at h path.now))) }
 {
     match files.read(alloc, path, most) {
         Ok(bytes) => Ok(Input::Bytes(bytes)),
@@ -170,11 +170,11 @@ pub fn read_job_input<F: Files>(
 ) -> Result<Input, Stop>
     ensures held { F.held files.new ≡ F.held files.old }
     ensures counts { Counted (F.faults files.old) (F.faults files.new) result }
-    ensures asks { GrowsByFront (F.asked files.old) (F.asked files.new) (input_asks (folder_job_view command.entry)) }
+    ensures asks { GrowsByPrefix (F.asked files.old) (F.asked files.new) (input_asks (folder_job_view command.entry)) }
     ensures asked { OnOk result (F.asked files.new ≡ F.asked files.old ++ input_asks (folder_job_view command.entry)) }
     ensures short { IfOk result (IsShortInput most_input_bytes) }
     ensures of_job { IfOk result (IsInputOf (folder_job_view command.entry) (F.held files.old)) }
-    ensures told { IfSome (F.held files.old) (λ h. IfOk result (IsJobInput (folder_job_view command.entry) h)) }
+    ensures reported { IfSome (F.held files.old) (λ h. IfOk result (IsJobInput (folder_job_view command.entry) h)) }
 {
     match command {
         FolderCommand::Check { .. } => Ok(Input::Bytes(Vec::new(alloc))),
@@ -195,10 +195,10 @@ fn read_next<F: Files>(
     requires total { total ≤ most_total_bytes }
     ensures held { F.held files.new ≡ F.held files.old }
     ensures counts { Counted (F.faults files.old) (F.faults files.new) result }
-    ensures asks { GrowsByFront (F.asked files.old) (F.asked files.new) (path.now ∷ []) }
+    ensures asks { GrowsByPrefix (F.asked files.old) (F.asked files.new) (path.now ∷ []) }
     ensures asked { OnOk result (F.asked files.new ≡ F.asked files.old ++ path.now ∷ []) }
     ensures read { IfOk result (IsNextRead path.now total) }
-    ensures told { IfSome (F.held files.old) (λ h. IfOk result (IsNext (path.now, unwrap_or (bytes_at h path.now) []) total)) }
+    ensures reported { IfSome (F.held files.old) (λ h. IfOk result (IsNext (path.now, unwrap_or (bytes_at h path.now) []) total)) }
 {
     let bytes = match files.read(alloc, path, MOST_FILE_BYTES) {
         Ok(bytes) => bytes,
@@ -221,9 +221,9 @@ pub fn read_files<F: Files>(alloc: Global, files: &mut F, paths: &[String]) -> R
     requires { IfSome (F.held files.old) (λ h. All (λ path. IsSome (bytes_at h (string_bytes path))) paths.now) }
     ensures held { F.held files.new ≡ F.held files.old }
     ensures counts { Counted (F.faults files.old) (F.faults files.new) result }
-    ensures asks { GrowsByFront (F.asked files.old) (F.asked files.new) (map string_bytes paths.now) }
+    ensures asks { GrowsByPrefix (F.asked files.old) (F.asked files.new) (map string_bytes paths.now) }
     ensures read { IfOk result (AreRead (map string_bytes paths.now)) }
-    ensures told { IfSome (F.held files.old) (λ h. IfOk result (IsLoaded (files_at h (map string_bytes paths.now)))) }
+    ensures reported { IfSome (F.held files.old) (λ h. IfOk result (IsLoaded (files_at h (map string_bytes paths.now)))) }
 {
     let mut read = Vec::new(alloc);
     let mut total = 0;

@@ -14,6 +14,8 @@ mod out_sink;
 mod system;
 #[cfg(test)]
 mod tests;
+#[cfg(test)]
+mod texts;
 
 use clock_host::ClockHost;
 use dj_edge::FolderFiles;

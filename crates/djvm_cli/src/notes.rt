@@ -1,6 +1,6 @@
 //! What is written to standard error beside a report: one line at most, which says why there is no report or what the user may have meant.
 
-use dj_edge::{Entry, EntryKind};
+use dj_edge::{EntryKind, FolderEntry};
 use std::alloc::Global;
 use std::cell::{Cell, RefCell};
 use std::fmt::Display;
@@ -44,7 +44,7 @@ impl NameLines {
 pub struct Notes<R: Eprint + Drop> {
     rt: R,
     // Whether the line was written.
-    is_told: Cell<bool>,
+    is_reported: Cell<bool>,
     // The folder that was opened last.
     folder: RefCell<String>,
     // How many class files were met, or none where no folder was opened.
@@ -57,7 +57,7 @@ impl<R: Eprint + Drop> Notes<R> {
     pub fn new(alloc: Global, rt: R) -> Notes<R> {
         Notes {
             rt,
-            is_told: Cell::new(false),
+            is_reported: Cell::new(false),
             folder: RefCell::new(String::new(alloc)),
             class_files: Cell::new(None),
             name_lines: Cell::new(NameLines {
@@ -76,7 +76,7 @@ impl<R: Eprint + Drop> Notes<R> {
     }
 
     /// An entry was met in the folder that is open.
-    pub fn see_entry(&self, entry: &Entry) {
+    pub fn see_entry(&self, entry: &FolderEntry) {
         if !entry.path.as_bytes().ends_with(b".class") {
             return;
         }
@@ -86,7 +86,7 @@ impl<R: Eprint + Drop> Notes<R> {
                 let before = self.class_files.get().unwrap_or(0);
                 self.class_files.set(Some(before.saturating_add(1)));
             }
-            EntryKind::Other => self.tell_path(
+            EntryKind::Other => self.say_path(
                 entry.path.as_str(),
                 &"it has a class file's name and is no file",
             ),
@@ -104,47 +104,49 @@ impl<R: Eprint + Drop> Notes<R> {
 
     /// Whether the line wasn't written yet; it counts as written from now on.
     fn is_first(&self) -> bool {
-        !self.is_told.replace(true)
+        !self.is_reported.replace(true)
     }
 
     /// Writes that what is at the path can't be read, and why.
-    pub fn tell_path<D: Display>(&self, path: &str, cause: &D) {
+    pub fn say_path<D: Display>(&self, path: &str, cause: &D) {
         if self.is_first() {
             let _ = eprintln!(self.rt; "djvm: {path:?}: {cause}");
         }
     }
 
     /// Writes that the folder that was opened last can't be read, and why.
-    pub fn tell_folder<D: Display>(&self, cause: &D) {
+    pub fn say_folder<D: Display>(&self, cause: &D) {
         if let Ok(folder) = self.folder.try_borrow() {
-            self.tell_path(folder.as_str(), cause);
+            self.say_path(folder.as_str(), cause);
         }
     }
 
     /// Writes why standard output can't be written.
-    pub fn tell_output<D: Display>(&self, cause: &D) {
+    pub fn say_output<D: Display>(&self, cause: &D) {
         if self.is_first() {
             let _ = eprintln!(self.rt; "djvm: standard output: {cause}");
         }
     }
 
     /// Writes this line, where none was written for the job.
-    fn tell(&self, line: &str) {
+    fn say(&self, line: &str) {
         if self.is_first() {
             let _ = eprintln!(self.rt; "djvm: {line}");
         }
     }
 
     /// Writes that the folder that was given may be the wrong one, where it seems so.
-    fn tell_wrong_folder(&self) {
+    fn say_wrong_folder(&self) {
         match self.class_files.get() {
             None => {}
-            Some(0) => self.tell(
+            Some(0) => self.say(
                 "the folder has no class file: give the folder that javac -d wrote",
             ),
             Some(count) => {
                 if self.name_lines.get().count == count {
-                    self.tell("no path is that of its class: give the folder that javac -d wrote");
+                    self.say(
+                        "no class file is at the path of its class: give the folder that javac -d wrote",
+                    );
                 }
             }
         }
@@ -153,16 +155,16 @@ impl<R: Eprint + Drop> Notes<R> {
     /// The job ended with this status: writes what belongs to it.
     pub fn end(&self, status: u8) {
         match status {
-            0 | 2 => self.tell_wrong_folder(),
+            0 | 2 => self.say_wrong_folder(),
             64 => {
                 if self.is_first() {
                     let _ = eprintln!(self.rt; "{VERSION}; {USAGE}");
                 }
             }
             // A walk ends with 65 where a folder is too deep or an entry too many, though no call of the system failed.
-            65 => self.tell_folder(&"it has a folder of level 65 or the 1048577th entry"),
-            66 => self.tell_output(&"it takes no more bytes"),
-            67 => self.tell("there was not enough memory"),
+            65 => self.say_folder(&"it has a folder of level 65 or the 1048577th entry"),
+            66 => self.say_output(&"it takes no more bytes"),
+            67 => self.say("there was not enough memory"),
             _ => {}
         }
     }

@@ -20,7 +20,7 @@ impl<R: Print + Eprint + Drop> Write for NotedOutput<'_, R> {
         let written = self.rt.write_some(buf);
         match &written {
             Ok(taken) => self.notes.see_written(buf.get(..*taken).unwrap_or(buf)),
-            Err(error) => self.notes.tell_output(error),
+            Err(error) => self.notes.say_output(error),
         }
         written
     }

@@ -3,7 +3,7 @@ ghost use Rattle.std.specs.Prelude.{◌≡◌, ◌↔◌, None};
 ghost use Rattle.std.specs.IoError.{error_kind};
 
 use crate::notes::Notes;
-use dj_edge::{Entry, EntryKind, Folders, ListError, OpensFiles, ReadError, read_error};
+use dj_edge::{EntryKind, FolderEntry, Folders, ListError, OpensFiles, ReadError, read_error};
 use std::alloc::Global;
 use std::fs::{OpenFile, ReadDir};
 use std::io::{ErrorKind, Read};
@@ -24,7 +24,7 @@ impl<R: System + Eprint + Drop> Read for NotedFile<R> {
         let read = self.file.read(buf);
         if let Err(error) = &read {
             if error.kind() != ErrorKind::Interrupted {
-                self.notes.tell_path(self.path.as_str(), error);
+                self.notes.say_path(self.path.as_str(), error);
             }
         }
         read
@@ -67,7 +67,7 @@ fn owned(alloc: Global, path: &str) -> Result<String, ListError> {
 }
 
 /// The entry at the path.
-fn entry_at<R: System>(rt: &R, alloc: Global, path: &str) -> io::Result<Entry> {
+fn entry_at<R: System>(rt: &R, alloc: Global, path: &str) -> io::Result<FolderEntry> {
     let path = String::from_str(alloc, path)?;
     let found = fs::metadata(rt, path.as_str())?;
     let kind = if found.is_dir() {
@@ -77,7 +77,7 @@ fn entry_at<R: System>(rt: &R, alloc: Global, path: &str) -> io::Result<Entry> {
     } else {
         EntryKind::Other
     };
-    Ok(Entry { path, kind })
+    Ok(FolderEntry { path, kind })
 }
 
 impl<R: System + Eprint + AllocGlobal + Clone + Drop> Folders for SystemFiles<R> {
@@ -94,18 +94,18 @@ impl<R: System + Eprint + AllocGlobal + Clone + Drop> Folders for SystemFiles<R>
                 Ok(())
             }
             Err(error) => {
-                self.notes.tell_path(folder, &error);
+                self.notes.say_path(folder, &error);
                 Err(list_error(error))
             }
         }
     }
 
-    fn next(&mut self, alloc: Global) -> Result<Option<Entry>, ListError> {
+    fn next(&mut self, alloc: Global) -> Result<Option<FolderEntry>, ListError> {
         let met = match self.open.as_mut().and_then(|open| open.next()) {
             None => return Ok(None),
             Some(Ok(met)) => met,
             Some(Err(error)) => {
-                self.notes.tell_folder(&error);
+                self.notes.say_folder(&error);
                 return Err(list_error(error));
             }
         };
@@ -115,7 +115,7 @@ impl<R: System + Eprint + AllocGlobal + Clone + Drop> Folders for SystemFiles<R>
                 Ok(Some(entry))
             }
             Err(error) => {
-                self.notes.tell_path(met.path().as_str(), &error);
+                self.notes.say_path(met.path().as_str(), &error);
                 Err(list_error(error))
             }
         }
@@ -132,7 +132,7 @@ impl<R: System + Eprint + AllocGlobal + Clone + Drop> OpensFiles for SystemFiles
         let own = String::from_str(self.rt.alloc(), path).map_err(|_| ReadError::Memory)?;
         match fs::open(&self.rt, path) {
             Ok(file) => {
-                let expected = file.metadata().map_or(0, |told| told.len());
+                let expected = file.metadata().map_or(0, |reported| reported.len());
                 let file = NotedFile {
                     notes,
                     path: own,
@@ -141,7 +141,7 @@ impl<R: System + Eprint + AllocGlobal + Clone + Drop> OpensFiles for SystemFiles
                 Ok((file, expected))
             }
             Err(error) => {
-                self.notes.tell_path(path, &error);
+                self.notes.say_path(path, &error);
                 Err(read_error(error))
             }
         }

@@ -1,111 +1,102 @@
 use crate::djvm::djvm;
+use crate::texts;
+use crate::texts::class_file;
 use dj_edge::{Host, HostError, MemFiles, MemHost, MemSink, Order, paths_differ};
 use dj_names::Costs;
 use dj_running::PlainEngine;
 use std::alloc::{AllocError, Global};
 use std::test::Fail;
 
-// The class A, whose one method returns its argument.
-const A: &[u8] =
-    b"\xca\xfe\xba\xbe\0\0\04\0\x08\x01\0\x01A\x07\0\x01\x01\0\x10java/lang/Object\x07\0\x03\x01\0\x06veri\
-    fy\x01\0\x06([B)[B\x01\0\x04Code\0\x21\0\x02\0\x04\0\0\0\0\0\x01\0\x09\0\x05\0\x06\0\x01\0\x07\0\0\0\
-    \x0e\0\x01\0\x01\0\0\0\x02\x2a\xb0\0\0\0\0\0\0";
+// Tags of constants (JVMS 4.4). After UTF8 comes the length of the text, after CLASS the index of the name.
+const UTF8: u8 = 1;
 
-// The same without its last byte.
-const CUT: &[u8] =
-    b"\xca\xfe\xba\xbe\0\0\04\0\x08\x01\0\x01A\x07\0\x01\x01\0\x10java/lang/Object\x07\0\x03\x01\0\x06veri\
-    fy\x01\0\x06([B)[B\x01\0\x04Code\0\x21\0\x02\0\x04\0\0\0\0\0\x01\0\x09\0\x05\0\x06\0\x01\0\x07\0\0\0\
-    \x0e\0\x01\0\x01\0\0\0\x02\x2a\xb0\0\0\0\0\0";
+const CLASS: u8 = 7;
 
-// The class B, which has a native n()V, and a finalize()V with code.
-const NATIVE: &[u8] =
-    b"\xca\xfe\xba\xbe\0\0\04\0\x09\x01\0\x01B\x07\0\x01\x01\0\x10java/lang/Object\x07\0\x03\x01\0\x01n\
-    \x01\0\x03()V\x01\0\x08finalize\x01\0\x04Code\0\x21\0\x02\0\x04\0\0\0\0\0\x02\x01\x01\0\x05\0\x06\0\
-    \0\0\x01\0\x07\0\x06\0\x01\0\x08\0\0\0\x0d\0\0\0\x01\0\0\0\x01\xb1\0\0\0\0\0\0";
+// Access flags (JVMS 4.1, 4.6).
+const PUBLIC: u8 = 0x01;
 
-// The class A that makes two objects, and returns the last byte of the hash of the second.
-const HASH: &[u8] =
-    b"\xca\xfe\xba\xbe\0\0\0\x34\0\x10\x01\0\x01A\x07\0\x01\x01\0\x10java/lang/Object\x07\0\x03\x01\0\x06ve\
-    rify\x01\0\x06([B)[B\x01\0\x04Code\x01\0\x06<init>\x01\0\x03()V\x0c\0\x08\0\x09\x0a\0\x04\0\x0a\x01\0\
-    \x08hashCode\x01\0\x03()I\x0c\0\x0c\0\x0d\x0a\0\x04\0\x0e\0\x21\0\x02\0\x04\0\0\0\0\0\x01\0\x09\0\x05\
-    \0\x06\0\x01\0\x07\0\0\0\x27\0\x09\0\x09\0\0\0\x1b\xbb\0\x04\x59\xb7\0\x0b\x57\xbb\0\x04\x59\xb7\0\
-    \x0b\xb6\0\x0f\x3c\x04\xbc\x08\x59\x03\x1b\x54\xb0\0\0\0\0\0\0";
+const STATIC: u8 = 0x08;
 
-// The class A that returns the sum of its argument.
-const SUM: &[u8] =
-    b"\xca\xfe\xba\xbe\0\0\0\x34\0\x09\x01\0\x01A\x07\0\x01\x01\0\x10java/lang/Object\x07\0\x03\x01\0\x06ve\
-    rify\x01\0\x06([B)[B\x01\0\x04Code\x01\0\x0dStackMapTable\0\x21\0\x02\0\x04\0\0\0\0\0\x01\0\x09\0\x05\
-    \0\x06\0\x01\0\x07\0\0\0\x38\0\x04\0\x03\0\0\0\x1e\x03\x3c\x03\x3d\x1c\x2a\xbe\xa2\0\x0f\x1b\x2a\x1c\
-    \x33\x60\x3c\x84\x02\x01\xa7\xff\xf1\x04\xbc\x08\x59\x03\x1b\x54\xb0\0\0\0\x01\0\x08\0\0\0\x08\0\x02\
-    \xfd\0\x04\x01\x01\x11\0\0";
+const SUPER: u8 = 0x20;
 
-// The class A that makes an array of as many bytes as all objects may take.
-const HEAP: &[u8] =
-    b"\xca\xfe\xba\xbe\0\0\0\x34\0\x09\x01\0\x01A\x07\0\x01\x01\0\x10java/lang/Object\x07\0\x03\x01\0\x06ve\
-    rify\x01\0\x06([B)[B\x01\0\x04Code\x03\x04\0\0\0\0\x21\0\x02\0\x04\0\0\0\0\0\x01\0\x09\0\x05\0\x06\0\
-    \x01\0\x07\0\0\0\x11\0\x09\0\x09\0\0\0\x05\x12\x08\xbc\x08\xb0\0\0\0\0\0\0";
+// Opcodes (JVMS 6.5).
+const ALOAD_0: u8 = 42;
 
-// The class A that jumps for ever.
-const LOOP: &[u8] =
-    b"\xca\xfe\xba\xbe\0\0\0\x34\0\x09\x01\0\x01A\x07\0\x01\x01\0\x10java/lang/Object\x07\0\x03\x01\0\x06ve\
-    rify\x01\0\x06([B)[B\x01\0\x04Code\x01\0\x0dStackMapTable\0\x21\0\x02\0\x04\0\0\0\0\0\x01\0\x09\0\x05\
-    \0\x06\0\x01\0\x07\0\0\0\x18\0\x09\0\x09\0\0\0\x03\xa7\0\0\0\0\0\x01\0\x08\0\0\0\x03\0\x01\0\0\0";
+const ARETURN: u8 = 176;
 
-// The class A that throws null.
-const THROW: &[u8] =
-    b"\xca\xfe\xba\xbe\0\0\0\x34\0\x08\x01\0\x01A\x07\0\x01\x01\0\x10java/lang/Object\x07\0\x03\x01\0\
-    \x06verify\x01\0\x06([B)[B\x01\0\x04Code\0\x21\0\x02\0\x04\0\0\0\0\0\x01\0\x09\0\x05\0\x06\0\
-    \x01\0\x07\0\0\0\x0e\0\x01\0\x01\0\0\0\x02\x01\xbf\0\0\0\0\0\0";
+const MAGIC: &[u8] = b"\xca\xfe\xba\xbe";
 
-// The class A whose method calls itself for ever.
-const CALL: &[u8] =
-    b"\xca\xfe\xba\xbe\0\0\0\x34\0\x0a\x01\0\x01A\x07\0\x01\x01\0\x10java/lang/Object\x07\0\x03\x01\0\
-    \x06verify\x01\0\x06([B)[B\x01\0\x04Code\x0c\0\x05\0\x06\x0a\0\x02\0\x08\0\x21\0\x02\0\x04\0\0\
-    \0\0\0\x01\0\x09\0\x05\0\x06\0\x01\0\x07\0\0\0\x11\0\x01\0\x01\0\0\0\x05\x2a\xb8\0\x09\xb0\0\0\
-    \0\0\0\0";
+// The class file that the text of the class A means, by its parts (JVMS 4.1).
+const FILE_OF_A: &[&[u8]] = &[
+    MAGIC,
+    // The minor version and the major one.
+    &[0, 0, 0, 52],
+    // Seven constants, from 1 on.
+    &[0, 8],
+    &[UTF8, 0, 1],
+    b"A",
+    &[CLASS, 0, 1],
+    &[UTF8, 0, 16],
+    b"java/lang/Object",
+    &[CLASS, 0, 3],
+    &[UTF8, 0, 6],
+    b"verify",
+    &[UTF8, 0, 6],
+    b"([B)[B",
+    &[UTF8, 0, 4],
+    b"Code",
+    // The class and its superclass, no interfaces, no fields, one method.
+    &[0, PUBLIC | SUPER],
+    &[0, 2, 0, 4],
+    &[0, 0],
+    &[0, 0],
+    &[0, 1],
+    // The flags, the name and the descriptor of the method, and one attribute.
+    &[0, PUBLIC | STATIC],
+    &[0, 5, 0, 6],
+    &[0, 1],
+    // Code, of 14 bytes: a stack of one, one local variable, the code, no rows and no attributes.
+    &[0, 7, 0, 0, 0, 14],
+    &[0, 1, 0, 1],
+    &[0, 0, 0, 2],
+    &[ALOAD_0, ARETURN],
+    &[0, 0],
+    &[0, 0],
+    // The class has no attributes.
+    &[0, 0],
+];
 
-// The class A whose initialiser throws null.
-const BEGIN: &[u8] =
-    b"\xca\xfe\xba\xbe\0\0\0\x34\0\x0a\x01\0\x01A\x07\0\x01\x01\0\x10java/lang/Object\x07\0\x03\x01\0\
-    \x06verify\x01\0\x06([B)[B\x01\0\x04Code\x01\0\x08<clinit>\x01\0\x03()V\0\x21\0\x02\0\x04\0\0\0\
-    \0\0\x02\0\x09\0\x05\0\x06\0\x01\0\x07\0\0\0\x0e\0\x01\0\x01\0\0\0\x02\x2a\xb0\0\0\0\0\0\x08\0\
-    \x08\0\x09\0\x01\0\x07\0\0\0\x0e\0\x01\0\0\0\0\0\x02\x01\xbf\0\0\0\0\0\0";
-
-// The class A that returns an object.
-const OBJECT: &[u8] =
-    b"\xca\xfe\xba\xbe\0\0\0\x34\0\x08\x01\0\x01A\x07\0\x01\x01\0\x10java/lang/Object\x07\0\x03\x01\0\
-    \x06verify\x01\0\x06([B)[B\x01\0\x04Code\0\x21\0\x02\0\x04\0\0\0\0\0\x01\0\x09\0\x05\0\x06\0\
-    \x01\0\x07\0\0\0\x10\0\x01\0\x01\0\0\0\x04\xbb\0\x04\xb0\0\0\0\0\0\0";
-
-// The text of the class A, and one that lacks the class's name.
-const TEXT: &[u8] =
-    b".class 21 A\n.super java/lang/Object\n.method 9 verify ([B)[B\n.stack 1\n.locals 1\n\
-    aload_0\nareturn\n.end\n";
-
-const NO_NAME: &[u8] = b".class 21\n";
+// What a file holds.
+enum Content {
+    Bytes(&'static [u8]),
+    // The class file of a text.
+    Class(&'static [u8]),
+    // The same without its last byte.
+    Cut(&'static [u8]),
+}
 
 // A file that was cut and one with two violations in the folder c, a good one in each other folder, inputs, and two texts.
-const FILES: [(&str, &[u8]); 16] = [
-    ("c/B.class", NATIVE),
-    ("c/A.class", CUT),
-    ("d/A.class", A),
-    ("hash/A.class", HASH),
-    ("heap/A.class", HEAP),
-    ("loop/A.class", LOOP),
-    ("sum/A.class", SUM),
-    ("throw/A.class", THROW),
-    ("call/A.class", CALL),
-    ("begin/A.class", BEGIN),
-    ("object/A.class", OBJECT),
-    ("in", b"\x0a\x0b"),
-    ("empty", b""),
-    ("three", b"\x01\x02\x03"),
-    ("t", TEXT),
-    ("u", NO_NAME),
+const FILES: [(&str, Content); 16] = [
+    ("c/B.class", Content::Class(texts::NATIVE)),
+    ("c/A.class", Content::Cut(texts::A)),
+    ("d/A.class", Content::Class(texts::A)),
+    ("hash/A.class", Content::Class(texts::HASH)),
+    ("heap/A.class", Content::Class(texts::HEAP)),
+    ("loop/A.class", Content::Class(texts::LOOP)),
+    ("sum/A.class", Content::Class(texts::SUM)),
+    ("throw/A.class", Content::Class(texts::THROW)),
+    ("call/A.class", Content::Class(texts::CALL)),
+    ("begin/A.class", Content::Class(texts::BEGIN)),
+    ("object/A.class", Content::Class(texts::OBJECT)),
+    ("in", Content::Bytes(b"\x0a\x0b")),
+    ("empty", Content::Bytes(b"")),
+    ("three", Content::Bytes(b"\x01\x02\x03")),
+    ("t", Content::Bytes(texts::A)),
+    ("u", Content::Bytes(texts::NO_NAME)),
 ];
 
 // The words, the order of listings, the number of the store's call that fails, how many bytes the sink takes, the status, and what is written.
-type Row = (&'static [&'static str], Order, u64, u64, u8, &'static [u8]);
+type Row<'a> = (&'static [&'static str], Order, u64, u64, u8, &'a [u8]);
 
 const NONE: u64 = 99;
 
@@ -126,7 +117,7 @@ const REJECTED: &[u8] =
 
 const RETURNED: &[u8] = b"OK 2 0a0b\ncosts alloc 0 invoke 0 jump 0 throw 0\n";
 
-const ENDS: [Row; 19] = [
+const ENDS: [Row<'static>; 18] = [
     (CHECK, Order::Given, NONE, 999, 2, REJECTED),
     (CHECK, Order::Reversed, NONE, 999, 2, REJECTED),
     (CHECK, Order::Given, 0, 999, 65, b""),
@@ -143,8 +134,7 @@ const ENDS: [Row; 19] = [
     (LACKING, Order::Given, NONE, 999, 65, b"ABSENT none\n"),
     (NO_TEXT, Order::Given, NONE, 999, 65, b"ABSENT none\n"),
     (NO_TEXT, Order::Given, 0, 999, 65, b""),
-    (ASSEMBLE, Order::Given, NONE, 999, 0, A),
-    (ASSEMBLE, Order::Given, NONE, 4, 66, b"\xca\xfe\xba\xbe"),
+    (ASSEMBLE, Order::Given, NONE, 4, 66, MAGIC),
     (REFUSED, Order::Given, NONE, 999, 68, b"ASM SYNTAX 1 10\n"),
 ];
 
@@ -232,15 +222,15 @@ const NOTHING: Costs = Costs {
 
 // A host in memory that keeps how many answers it gave, and the last of its words for hashes.
 #[derive(Drop)]
-struct ToldHost {
+struct ReportedHost {
     host: MemHost,
     count: u64,
     word: Option<i32>,
 }
 
-impl ToldHost {
-    fn new(alloc: Global, word: i32) -> ToldHost {
-        ToldHost {
+impl ReportedHost {
+    fn new(alloc: Global, word: i32) -> ReportedHost {
+        ReportedHost {
             host: MemHost::new(alloc, word, 5),
             count: 0,
             word: None,
@@ -253,10 +243,10 @@ impl ToldHost {
     }
 }
 
-impl Host for ToldHost {
+impl Host for ReportedHost {
     ghost use Rattle.dj_edge.specs.Hosts.{given_of};
 
-    ghost given = { λ told. given_of told.host };
+    ghost given = { λ reported. given_of reported.host };
 
     fn hash_word(&mut self) -> Result<i32, HostError> {
         let word = self.host.hash_word()?;
@@ -286,17 +276,29 @@ fn words_of(alloc: Global, words: &[&str]) -> Result<Vec<String>, AllocError> {
     Ok(all)
 }
 
+fn bytes_of(alloc: Global, content: &Content) -> Result<Vec<u8>, AllocError> {
+    match content {
+        Content::Bytes(bytes) => Vec::from_slice(alloc, bytes),
+        Content::Class(text) => class_file(alloc, text),
+        Content::Cut(text) => {
+            let mut file = class_file(alloc, text)?;
+            let _ = file.pop();
+            Ok(file)
+        }
+    }
+}
+
 fn held(alloc: Global) -> Result<Vec<(String, Vec<u8>)>, AllocError> {
     let mut held = Vec::new(alloc);
-    for (path, bytes) in &FILES {
-        let bytes = Vec::from_slice(alloc, bytes)?;
+    for (path, content) in &FILES {
+        let bytes = bytes_of(alloc, content)?;
         held.push((String::from_str(alloc, path)?, bytes))?;
     }
     Ok(held)
 }
 
 // Whether the job of the row's words ends as the row says.
-fn ends(alloc: Global, row: &Row) -> Result<bool, AllocError> {
+fn ends(alloc: Global, row: &Row<'_>) -> Result<bool, AllocError> {
     let words = words_of(alloc, row.0)?;
     let held = held(alloc)?;
     if !paths_differ(&held) {
@@ -310,13 +312,22 @@ fn ends(alloc: Global, row: &Row) -> Result<bool, AllocError> {
     Ok(status == row.4 && sink.bytes() == row.5)
 }
 
-fn all_end(alloc: Global, rows: &[Row]) -> Result<bool, AllocError> {
+fn all_end(alloc: Global, rows: &[Row<'_>]) -> Result<bool, AllocError> {
     for row in rows {
         if !ends(alloc, row)? {
             return Ok(false);
         }
     }
     Ok(true)
+}
+
+// Whether the text of the class A becomes its class file.
+fn is_assembled(alloc: Global) -> Result<bool, AllocError> {
+    let mut file = Vec::new(alloc);
+    for part in FILE_OF_A {
+        file.extend_from_slice(part)?;
+    }
+    ends(alloc, &(ASSEMBLE, Order::Given, NONE, 999, 0, &file))
 }
 
 // Whether these are all the runs that the engine made.
@@ -337,12 +348,12 @@ fn ends_raw(alloc: Global, row: &RawRow) -> Result<bool, AllocError> {
         return Ok(false);
     }
     let mut files = MemFiles::new(alloc, held, Order::Given, vec![in alloc; row.1]?);
-    let mut host = ToldHost::new(alloc, row.2);
+    let mut host = ReportedHost::new(alloc, row.2);
     let mut sink = MemSink::new(alloc, 1, row.3);
     let mut engine = PlainEngine::new(alloc);
     let status = djvm(alloc, &words, &mut files, &mut host, &mut sink, &mut engine);
-    let told = status == row.4 && sink.bytes() == row.5;
-    Ok(told && host.gave(row.6) && made(&engine, row.7))
+    let reported = status == row.4 && sink.bytes() == row.5;
+    Ok(reported && host.gave(row.6) && made(&engine, row.7))
 }
 
 // Where there is ample memory a job ends with its report: a body that is always out of memory is refused, and so is one that is out of memory
@@ -350,6 +361,7 @@ fn ends_raw(alloc: Global, row: &RawRow) -> Result<bool, AllocError> {
 #[test]
 fn always_out_of_memory(rt: HostRuntime) -> Result<(), Fail> {
     assert!(rt; all_end(rt.alloc(), &ENDS)?);
+    assert!(rt; is_assembled(rt.alloc())?);
     Ok(())
 }
 

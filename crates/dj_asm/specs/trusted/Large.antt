@@ -17,20 +17,20 @@ use Rattle.dj_asm.specs.trusted.Files.{places_of}
 -- ---- instructions and code
 
 -- a line of a method, with the lines of the body before it; place is its place among the lines of the source
-pub record IsMethodLine (s : Source) (place : ℕ) (body : List Line) (front : List Line) (line : Line) : Type 0 where
+pub record IsMethodLine (s : Source) (place : ℕ) (body : List Line) (prefix : List Line) (line : Line) : Type 0 where
   pub before : ℕ
   pub in_method : AreMethodLines s before body
   pub rest : List Line
-  pub parts : body ≡ front ++ line ∷ rest
-  pub place_is : place ≡ before + length front
+  pub parts : body ≡ prefix ++ line ∷ rest
+  pub place_is : place ≡ before + length prefix
 
 -- the instruction isn't proper: a table without targets or with numbers of more than 32 bits, matches that don't rise, too many slots for a count,
 -- no dimensions, or an index of more than one byte where there is one byte for it
 pub record IsImproper (s : Source) (place : ℕ) : Type 0 where
   pub body : List Line
-  pub front : List Line
+  pub prefix : List Line
   pub operation : Operation
-  pub at : IsMethodLine s place body front (Does operation)
+  pub at : IsMethodLine s place body prefix (Does operation)
   pub instr : Instr
   pub is_instr : IsInstrOf (places_of (index_in s) body) operation instr
   pub improper : IsProper instr → ⊥
@@ -38,20 +38,20 @@ pub record IsImproper (s : Source) (place : ℕ) : Type 0 where
 -- a jump whose offset doesn't fit
 pub record IsFarJump (s : Source) (place : ℕ) : Type 0 where
   pub body : List Line
-  pub front : List Line
+  pub prefix : List Line
   pub operation : Operation
-  pub at : IsMethodLine s place body front (Does operation)
+  pub at : IsMethodLine s place body prefix (Does operation)
   pub instrs : List Instr
   pub are_instrs : AreInstrsOf (places_of (index_in s) body) body instrs
   pub jump : ℕ × Instr
-  pub number : slice_get (placed (starts_from 0 instrs) instrs) (instruction_count front) ≡ Some jump
+  pub number : slice_get (placed (starts_from 0 instrs) instrs) (instruction_count prefix) ≡ Some jump
   pub far : Reaches jump → ⊥
 
 -- the `.end` of code with too many bytes
 pub record IsEndOfLongCode (s : Source) (place : ℕ) : Type 0 where
   pub body : List Line
-  pub front : List Line
-  pub at : IsMethodLine s place body front End
+  pub prefix : List Line
+  pub at : IsMethodLine s place body prefix End
   pub instrs : List Instr
   pub are_instrs : AreInstrsOf (places_of (index_in s) body) body instrs
   pub long : most_bytes < end_from 0 instrs
@@ -98,10 +98,10 @@ pub record IsPastTable (s : Source) (place : ℕ) : Type 0 where
 -- one `.catch` too many for its method
 pub record IsPastCatches (s : Source) (place : ℕ) : Type 0 where
   pub body : List Line
-  pub front : List Line
+  pub prefix : List Line
   pub line : Line
-  pub at : IsMethodLine s place body front line
-  pub too_many : IsOneTooMany is_catch (count_by is_catch front) line
+  pub at : IsMethodLine s place body prefix line
+  pub too_many : IsOneTooMany is_catch (count_by is_catch prefix) line
 
 -- JVMS 4.7.4: a list of types has a count of two bytes
 abbrev pub HasTooMany : {A : Type 0} → List A → Type 0

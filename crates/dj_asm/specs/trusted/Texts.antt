@@ -30,7 +30,7 @@ pub record LargeFault (text : List ℕ) (e : AsmError) : Type 0 where
   pub first : (earlier : ℕ) → earlier < place → IsTooLarge source earlier → ⊥
   pub line : ℕ
   pub number : slice_get (line_numbers text) place ≡ Some line
-  pub told : e ≡ asm_errors.Large line
+  pub reported : e ≡ asm_errors.Large line
 
 abbrev pub TextFault : List ℕ → AsmError → Type 0
 TextFault text e = WordFault text e ⊎ (LabelFault text e ⊎ LargeFault text e)

@@ -46,7 +46,7 @@ names_at pool _ = None
 
 -- the text begins with these bytes
 abbrev pub BeginsWith : List ℕ → List ℕ → Type 0
-BeginsWith text front = IsTrue (starts_with nat_eq text front)
+BeginsWith text prefix = IsTrue (starts_with nat_eq text prefix)
 
 -- rule 4, SANDBOX_PACKAGE: names in the packages of the sandbox and of the library
 abbrev pub IsReserved : List ℕ → Type 0

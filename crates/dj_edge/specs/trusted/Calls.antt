@@ -24,7 +24,7 @@ pub record IsListing (held : Option Held) (folder : List ℕ) (most : ℕ) (path
   pub differ : AllDiffer paths
   pub bounded : length paths ≤ most
   pub class_paths : All (λ path. IsTrue (is_class_path folder path)) paths
-  pub told : IfSome held (λ h. AreAmong paths most (class_files folder h))
+  pub reported : IfSome held (λ h. AreAmong paths most (class_files folder h))
   pub held_paths : IfSome held (λ h. All (λ path. IsSome (bytes_at h path)) paths)
 
 -- the folder is added to what was asked for, unless memory ran out
@@ -48,12 +48,12 @@ ReadCounts before now (Err read_errors.Failed) = Rose before now
 ReadCounts before now _ = before ≤ now
 
 -- what a read answers, where the store's contents are known; bytes_of gives the bytes of what was read
-abbrev pub ReadTells : {T : Type 0} → (T → List ℕ) → Option Held → List ℕ → ℕ → Result T ReadError → Type 0
-ReadTells bytes_of held path most (Ok read) = (length (bytes_of read) ≤ most) × IfSome held (λ h. bytes_at h path ≡ Some (bytes_of read))
-ReadTells bytes_of held path most (Err read_errors.Failed) = ⊤
-ReadTells bytes_of held path most (Err read_errors.Absent) = IsSomeAnd held (λ h. bytes_at h path ≡ None)
-ReadTells bytes_of held path most (Err read_errors.TooLong) = IfSome held (λ h. IsSomeAnd (bytes_at h path) (λ bytes. most < length bytes))
-ReadTells bytes_of held path most (Err read_errors.Memory) = ⊤
+abbrev pub AnswersRead : {T : Type 0} → (T → List ℕ) → Option Held → List ℕ → ℕ → Result T ReadError → Type 0
+AnswersRead bytes_of held path most (Ok read) = (length (bytes_of read) ≤ most) × IfSome held (λ h. bytes_at h path ≡ Some (bytes_of read))
+AnswersRead bytes_of held path most (Err read_errors.Failed) = ⊤
+AnswersRead bytes_of held path most (Err read_errors.Absent) = IsSomeAnd held (λ h. bytes_at h path ≡ None)
+AnswersRead bytes_of held path most (Err read_errors.TooLong) = IfSome held (λ h. IsSomeAnd (bytes_at h path) (λ bytes. most < length bytes))
+AnswersRead bytes_of held path most (Err read_errors.Memory) = ⊤
 
 -- the host's answer is added to those given; an error adds none
 abbrev pub Gives : {T : Type 0} → (T → HostAnswer) → List HostAnswer → List HostAnswer → Result T HostError → Type 0

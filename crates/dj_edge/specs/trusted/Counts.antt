@@ -6,12 +6,12 @@ abbrev pub Rose : ℕ → ℕ → Type 0
 Rose before now = (before ≤ now) × (min (before + 1) (2 ^ 64 - 1) ≤ now)
 
 -- xs is a prefix of ys
-abbrev pub IsFront : {A : Type 0} → List A → List A → Type 0
-IsFront {A} xs ys = (rest : List A) × (ys ≡ xs ++ rest)
+abbrev pub IsPrefix : {A : Type 0} → List A → List A → Type 0
+IsPrefix {A} xs ys = (rest : List A) × (ys ≡ xs ++ rest)
 
 -- the new list is the old one with a prefix of these after it
-abbrev pub GrowsByFront : {A : Type 0} → List A → List A → List A → Type 0
-GrowsByFront {A} old new all = (grown : List A) × IsFront grown all × (new ≡ old ++ grown)
+abbrev pub GrowsByPrefix : {A : Type 0} → List A → List A → List A → Type 0
+GrowsByPrefix {A} old new all = (grown : List A) × IsPrefix grown all × (new ≡ old ++ grown)
 
 -- no two of the texts are equal
 abbrev pub AllDiffer : List (List ℕ) → Type 0

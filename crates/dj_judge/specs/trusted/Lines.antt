@@ -12,7 +12,7 @@ use Rattle.dj_link.specs.trusted.Lines.{MethodLinkViolates, IsLinkLine}
 use Rattle.dj_shape.specs.trusted.Rule.{LacksShape}
 
 -- the method violates none of the rules 7 to 18
-pub record IsUntold (program : Program) (c : ClassFile) (m : MemberInfo) : Type 0 where
+pub record IsUnreported (program : Program) (c : ClassFile) (m : MemberInfo) : Type 0 where
   pub native : IsNative m → ⊥
   pub finalizer : IsFinalizer c.pool m → ⊥
   pub early : (number : Option ℕ) (rule : ℕ) → MethodViolates c m number rule → ⊥
@@ -20,7 +20,7 @@ pub record IsUntold (program : Program) (c : ClassFile) (m : MemberInfo) : Type 
 
 -- rule 19, for a method that violates none of the rules 7 to 18
 pub record MethodShapeViolates (program : Program) (c : ClassFile) (m : MemberInfo) (number : Option ℕ) (rule : ℕ) : Type 0 where
-  pub untold : IsUntold program c m
+  pub unreported : IsUnreported program c m
   pub lacks : LacksShape c.pool m number
   pub rule_is : rule ≡ 19
 

@@ -24,12 +24,12 @@ IsFirstOf Foreign Unlinked rule = (Foreign × (rule ≡ 17)) ⊎ ((Foreign → �
 -- ---- instructions
 
 -- the instruction violates none of the rules 9 to 15
-abbrev pub IsUntold : List Constant → Instr → Type 0
-IsUntold pool instr = (rule : ℕ) → InstrViolates pool instr rule → ⊥
+abbrev pub IsUnreported : List Constant → Instr → Type 0
+IsUnreported pool instr = (rule : ℕ) → InstrViolates pool instr rule → ⊥
 
 abbrev pub LinkViolates : Program → Name → List Constant → Instr → ℕ → Type 0
 LinkViolates program own pool instr rule =
-    IsUntold pool instr × IsFirstOf (IsForeign program pool instr) (IsUnlinked program own pool instr) rule
+    IsUnreported pool instr × IsFirstOf (IsForeign program pool instr) (IsUnlinked program own pool instr) rule
 
 -- rule 17 or 18, for the instruction of this number in a method of the class own
 pub record LinkViolatesAt (program : Program) (own : Name) (pool : List Constant) (labelled : Labelled) (number rule : ℕ) : Type 0 where

@@ -126,33 +126,33 @@ after signature code (Other op named) k = None
 -- each local variable for which the frame has a kind is of that kind
 abbrev pub locals_flow : List (Option Kind) → List (Option Kind) → Bool
 locals_flow locals [] = true
-locals_flow [] (None ∷ told) = locals_flow [] told
-locals_flow [] (Some kind ∷ told) = false
-locals_flow (local ∷ locals) (None ∷ told) = locals_flow locals told
-locals_flow (local ∷ locals) (Some kind ∷ told) = is_kind kind local && locals_flow locals told
+locals_flow [] (None ∷ reported) = locals_flow [] reported
+locals_flow [] (Some kind ∷ reported) = false
+locals_flow (local ∷ locals) (None ∷ reported) = locals_flow locals reported
+locals_flow (local ∷ locals) (Some kind ∷ reported) = is_kind kind local && locals_flow locals reported
 
 -- with these kinds left, the run may go on at a frame with those
 abbrev pub flows_into : Kinds → Kinds → Bool
-flows_into left told = locals_flow left.locals told.locals && pointwise same_kind left.stack told.stack
+flows_into left reported = locals_flow left.locals reported.locals && pointwise same_kind left.stack reported.stack
 
 -- the same; where there is no frame, the run may go on too
 abbrev pub flows_to : Kinds → Option Kinds → Bool
 flows_to left None = true
-flows_to left (Some told) = flows_into left told
+flows_to left (Some reported) = flows_into left reported
 
 -- the same; where there is no frame, the run may not go on
 abbrev pub flows_to_frame : Kinds → Option Kinds → Bool
 flows_to_frame left None = false
-flows_to_frame left (Some told) = flows_into left told
+flows_to_frame left (Some reported) = flows_into left reported
 
 abbrev pub locals_flow_to : Kinds → Option Kinds → Bool
 locals_flow_to before None = true
-locals_flow_to before (Some told) = locals_flow before.locals told.locals
+locals_flow_to before (Some reported) = locals_flow before.locals reported.locals
 
 -- the frame of a handler has one operand, the exception
 abbrev pub is_handler_frame : Option Kinds → Bool
 is_handler_frame None = false
-is_handler_frame (Some told) = pointwise same_kind told.stack (kinds.Ref ∷ [])
+is_handler_frame (Some reported) = pointwise same_kind reported.stack (kinds.Ref ∷ [])
 
 -- the kinds that an instruction leaves for the next one; none where the run never goes on there
 abbrev pub goes_on_with : Signature → Code → Option Kinds → Option Instruction → Option Kinds

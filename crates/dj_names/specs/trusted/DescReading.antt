@@ -30,8 +30,8 @@ dims_read n (b ∷ more) = if nat_eq b 91 then (if nat_lt n 255 then dims_read (
 
 -- the bytes up to the first semicolon, with front before them, and those after it
 unfoldable pub name_read : List ℕ → List ℕ → Option (List ℕ × List ℕ)
-name_read front [] = None
-name_read front (b ∷ more) = if nat_eq b 59 then Some (front, more) else name_read (front ++ b ∷ []) more
+name_read prefix [] = None
+name_read prefix (b ∷ more) = if nat_eq b 59 then Some (prefix, more) else name_read (prefix ++ b ∷ []) more
 
 unfoldable pub class_read : List ℕ → Option (Of × List ℕ)
 class_read bytes = name_read [] bytes >>= λ x. if reads_class_name true x.0 then Some (ofs.Class x.0, x.1) else None

@@ -17,10 +17,10 @@ use Rattle.dj_sandbox.specs.trusted.Judging.{raw_terms}
 -- the costs and the steps of a run of the files' entry that takes exactly these answers
 abbrev pub IsRawRun : List File → Name → List ℕ → ℕ → List HostAnswer → Costs × ℕ → Type 0
 IsRawRun files class input steps answers run =
-    (classes : List ClassFile) × (program : Program) × (told : model_runs.Report)
+    (classes : List ClassFile) × (program : Program) × (reported : model_runs.Report)
     × AreGoodFiles files classes × IsProgramIn raw_library classes program
-    × (plain_run program [] raw_terms (entry_of class) input answers steps ≡ Some told) × (told.taken ≡ length answers)
-    × (run ≡ (told.costs, told.steps))
+    × (plain_run program [] raw_terms (entry_of class) input answers steps ≡ Some reported) × (reported.taken ≡ length answers)
+    × (run ≡ (reported.costs, reported.steps))
 
 -- one run where no rule is violated, and none where one is
 abbrev pub AreRawRuns : List File → Name → List ℕ → ℕ → List HostAnswer → List (Costs × ℕ) → Type 0

@@ -30,17 +30,17 @@ pub record AreWithin (files : List File) : Type 0 where
 
 -- the files before this one are within the limits, and at this file Past holds
 pub record IsFirstPast (Past : List File → File → Type 0) (files : List File) : Type 0 where
-  pub front : List File
+  pub prefix : List File
   pub file : File
   pub rest : List File
-  pub parts : files ≡ front ++ file ∷ rest
-  pub before : AreWithin front
-  pub past : Past front file
+  pub parts : files ≡ prefix ++ file ∷ rest
+  pub before : AreWithin prefix
+  pub past : Past prefix file
 
 -- the file is too long
 abbrev pub IsTooLong : List File → File → Type 0
-IsTooLong front file = most_file_bytes < length file.1
+IsTooLong prefix file = most_file_bytes < length file.1
 
 -- the file is within the limit on one file, but with those before it passes the limit on their sum
 abbrev pub IsTooMuch : List File → File → Type 0
-IsTooMuch front file = (length file.1 ≤ most_file_bytes) × (most_total_bytes < total_bytes front + length file.1)
+IsTooMuch prefix file = (length file.1 ≤ most_file_bytes) × (most_total_bytes < total_bytes prefix + length file.1)

@@ -13,33 +13,33 @@ pub record Begins (IsSuch : Source → Type 0) (tokens : List Token) : Type 0 wh
   pub read : Reads source (tokens ++ rest)
 
 -- the tokens before this one begin a source in which all numbers fit their fields
-pub record IsAt (text : List ℕ) (front : List Placed) (here : Placed) : Type 0 where
+pub record IsAt (text : List ℕ) (prefix : List Placed) (here : Placed) : Type 0 where
   pub rest : List Placed
-  pub parts : tokens_of text ≡ front ++ here ∷ rest
-  pub good : Begins IsSizedSource (map token_of front)
+  pub parts : tokens_of text ≡ prefix ++ here ∷ rest
+  pub good : Begins IsSizedSource (map token_of prefix)
 
 -- no source has this token here: the fault is at its line and column
 pub record IsMisplaced (text : List ℕ) (e : AsmError) : Type 0 where
-  pub front : List Placed
+  pub prefix : List Placed
   pub here : Placed
-  pub at : IsAt text front here
-  pub none : Begins IsSource (map token_of (front ++ here ∷ [])) → ⊥
-  pub told : e ≡ asm_errors.Syntax here.line here.column
+  pub at : IsAt text prefix here
+  pub none : Begins IsSource (map token_of (prefix ++ here ∷ [])) → ⊥
+  pub reported : e ≡ asm_errors.Syntax here.line here.column
 
 -- a source may have this token here, but its number doesn't fit its field: the fault is in its line
 pub record IsLargeNumber (text : List ℕ) (e : AsmError) : Type 0 where
-  pub front : List Placed
+  pub prefix : List Placed
   pub here : Placed
-  pub at : IsAt text front here
-  pub some : Begins IsSource (map token_of (front ++ here ∷ []))
-  pub none : Begins IsSizedSource (map token_of (front ++ here ∷ [])) → ⊥
-  pub told : e ≡ asm_errors.Large here.line
+  pub at : IsAt text prefix here
+  pub some : Begins IsSource (map token_of (prefix ++ here ∷ []))
+  pub none : Begins IsSizedSource (map token_of (prefix ++ here ∷ [])) → ⊥
+  pub reported : e ≡ asm_errors.Large here.line
 
 -- all tokens begin a source, but lines are missing: the fault is in the line after the last
 pub record IsUnfinished (text : List ℕ) (e : AsmError) : Type 0 where
   pub good : Begins IsSizedSource (map token_of (tokens_of text))
   pub none : (s : Source) → IsTextOf text s → ⊥
-  pub told : e ≡ asm_errors.Syntax (end_line text) 1
+  pub reported : e ≡ asm_errors.Syntax (end_line text) 1
 
 -- the first fault of the text's words
 abbrev pub WordFault : List ℕ → AsmError → Type 0

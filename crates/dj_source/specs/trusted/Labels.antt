@@ -19,11 +19,11 @@ instruction_count lines = count_by is_instruction lines
 
 -- the first line that defines the label comes right before the instruction of this number, or at the end of the code
 pub record IsLabelAt (body : List Line) (label : Label) (number : ℕ) : Type 0 where
-  pub front : List Line
+  pub prefix : List Line
   pub rest : List Line
-  pub parts : body ≡ front ++ Beside (Labelled label) ∷ rest
-  pub first : AllByRecursion (λ line. line ≢ Beside (Labelled label)) front
-  pub number_is : number ≡ instruction_count front
+  pub parts : body ≡ prefix ++ Beside (Labelled label) ∷ rest
+  pub first : AllByRecursion (λ line. line ≢ Beside (Labelled label)) prefix
+  pub number_is : number ≡ instruction_count prefix
 
 abbrev pub marks : Label → Line → Bool
 marks label (Beside (Labelled other)) = same_name other label
@@ -85,16 +85,16 @@ IsMet body (Range from to) = IsRange body from to
 
 -- a line before this one defines the label too
 abbrev pub IsDoubled : List Line → Line → Type 0
-IsDoubled front (Beside (Labelled label)) = Contains front (Beside (Labelled label))
-IsDoubled front line = ⊥
+IsDoubled prefix (Beside (Labelled label)) = Contains prefix (Beside (Labelled label))
+IsDoubled prefix line = ⊥
 
 -- the lines of a method, which come after n lines of the source
 pub record AreMethodLines (s : Source) (before : ℕ) (lines : List Line) : Type 0 where
-  pub front : List MethodSource
+  pub prefix : List MethodSource
   pub method : MethodSource
   pub rest : List MethodSource
-  pub methods : s.methods ≡ front ++ method ∷ rest
-  pub before_is : before ≡ length (head_lines s) + length (flat_map method_lines front)
+  pub methods : s.methods ≡ prefix ++ method ∷ rest
+  pub before_is : before ≡ length (head_lines s) + length (flat_map method_lines prefix)
   pub lines_are : lines ≡ method_lines method
 
 -- the line at this place of the source defines a label again, or uses one wrongly
@@ -102,12 +102,12 @@ pub record IsMislabelled (s : Source) (place : ℕ) : Type 0 where
   pub before : ℕ
   pub body : List Line
   pub in_method : AreMethodLines s before body
-  pub front : List Line
+  pub prefix : List Line
   pub line : Line
   pub rest : List Line
-  pub parts : body ≡ front ++ line ∷ rest
-  pub place_is : place ≡ before + length front
-  pub wrong : IsDoubled front line ⊎ (AllByRecursion (IsMet body) (uses_of line) → ⊥)
+  pub parts : body ≡ prefix ++ line ∷ rest
+  pub place_is : place ≡ before + length prefix
+  pub wrong : IsDoubled prefix line ⊎ (AllByRecursion (IsMet body) (uses_of line) → ⊥)
 
 -- whether the token ends a line
 abbrev pub ends_line : Placed → Bool
@@ -128,4 +128,4 @@ pub record LabelFault (text : List ℕ) (e : AsmError) : Type 0 where
   pub first : (earlier : ℕ) → earlier < place → IsMislabelled source earlier → ⊥
   pub line : ℕ
   pub number : slice_get (line_numbers text) place ≡ Some line
-  pub told : e ≡ asm_errors.Label line
+  pub reported : e ≡ asm_errors.Label line

@@ -107,52 +107,52 @@ after signature code (Other op) k = None
 -- each local variable for which the frame has a kind is of that kind
 abbrev pub LocalsFlow : List (Option Kind) → List (Option Kind) → Type 0
 LocalsFlow locals [] = ⊤
-LocalsFlow locals (None ∷ told) = LocalsFlow (rest locals) told where
+LocalsFlow locals (None ∷ reported) = LocalsFlow (rest locals) reported where
   rest : List (Option Kind) → List (Option Kind)
   rest [] = []
   rest (kind ∷ kinds) = kinds
-LocalsFlow [] (Some kind ∷ told) = ⊥
-LocalsFlow (local ∷ locals) (Some kind ∷ told) = (local ≡ Some kind) × LocalsFlow locals told
+LocalsFlow [] (Some kind ∷ reported) = ⊥
+LocalsFlow (local ∷ locals) (Some kind ∷ reported) = (local ≡ Some kind) × LocalsFlow locals reported
 
 -- with these kinds left, the run may go on at a frame with those
 abbrev pub FlowsInto : Kinds → Kinds → Type 0
-FlowsInto left told = LocalsFlow left.locals told.locals × (left.stack ≡ told.stack)
+FlowsInto left reported = LocalsFlow left.locals reported.locals × (left.stack ≡ reported.stack)
 
 -- the same; where there is no frame, the run may go on too
 abbrev pub FlowsTo : Kinds → Option Kinds → Type 0
 FlowsTo left None = ⊤
-FlowsTo left (Some told) = FlowsInto left told
+FlowsTo left (Some reported) = FlowsInto left reported
 
 -- the same; where there is no frame, the run may not go on
 abbrev pub FlowsToFrame : Kinds → Option Kinds → Type 0
 FlowsToFrame left None = ⊥
-FlowsToFrame left (Some told) = FlowsInto left told
+FlowsToFrame left (Some reported) = FlowsInto left reported
 
 -- the run may go on at each of these instructions, all of which have a frame
 abbrev pub FlowsToEach : Kinds → List Placed → List ℕ → Type 0
 FlowsToEach left placed [] = ⊤
 FlowsToEach left placed (target ∷ others) = FlowsToFrame left (placed_at placed target) × FlowsToEach left placed others
 
-abbrev pub TellsOr : Option Kinds → Kinds → Type 0 → Type 0
-TellsOr None k otherwise = otherwise
-TellsOr (Some told) k otherwise = k ≡ told
+abbrev pub IsFrameOr : Option Kinds → Kinds → Type 0 → Type 0
+IsFrameOr None k otherwise = otherwise
+IsFrameOr (Some reported) k otherwise = k ≡ reported
 
 -- the kinds before an instruction: those of its frame. Where it has no frame they are, for the first instruction, those of the parameters, and for
 -- each other instruction those that the instruction before it leaves, unless the run never goes on after that
 abbrev pub StateBefore : Signature → Code → List Placed → ℕ → Kinds → Type 0
-StateBefore signature code placed zero k = TellsOr (placed_at placed zero) k (k ≡ first_kinds signature code)
+StateBefore signature code placed zero k = IsFrameOr (placed_at placed zero) k (k ≡ first_kinds signature code)
 StateBefore signature code placed (suc number) k =
-    TellsOr (placed_at placed (suc number)) k ((before : Kinds) × (i : Instruction) × StateBefore signature code placed number before
+    IsFrameOr (placed_at placed (suc number)) k ((before : Kinds) × (i : Instruction) × StateBefore signature code placed number before
     × (slice_get code.instructions number ≡ Some i) × IsFalse (ends i) × (after signature code i before ≡ Some k))
 
 -- the frame of a handler has one operand, the exception
 abbrev pub IsHandlerFrame : Option Kinds → Type 0
 IsHandlerFrame None = ⊥
-IsHandlerFrame (Some told) = told.stack ≡ kinds.Ref ∷ []
+IsHandlerFrame (Some reported) = reported.stack ≡ kinds.Ref ∷ []
 
 abbrev pub LocalsFlowTo : Kinds → Option Kinds → Type 0
 LocalsFlowTo before None = ⊤
-LocalsFlowTo before (Some told) = LocalsFlow before.locals told.locals
+LocalsFlowTo before (Some reported) = LocalsFlow before.locals reported.locals
 
 -- the instruction of this number has kinds before it, and finds there what it takes; wherever the run may go on after it, it goes on at a frame that
 -- fits what is left, or at the next instruction; and it isn't the last instruction unless the run never goes on after it

@@ -2,13 +2,13 @@ ghost use Rattle.std.specs.Prelude.{IfOk};
 ghost use Rattle.dj_straight.specs.Methods.{action_view};
 ghost use Rattle.dj_straight.specs.Machines.{machine_view, Does};
 
-use crate::machine::parts::{Machine, Progress};
+use crate::machine::parts::{Progress, StraightMachine};
 use crate::program::Action;
 use dj_rules::RulesError;
 use std::alloc::Global;
 
 #[tactic(auto, unfolding(crate::specs::trusted::Effects::effect))]
-impl Machine {
+impl StraightMachine {
     /// An instruction is done.
     pub fn act(&mut self, alloc: Global, action: Action) -> Result<Progress, RulesError>
         ensures { IfOk result (Does (action_view action) (machine_view self.old) (machine_view self.new)) }

@@ -8,7 +8,7 @@ ghost use Rattle.dj_straight.specs.Methods.{operation_view};
 ghost use Rattle.dj_straight.specs.Machines.{machine_view, Does};
 
 use crate::machine::heap::{Found, element};
-use crate::machine::parts::{Machine, Progress};
+use crate::machine::parts::{Progress, StraightMachine};
 use crate::machine::values::{computed, is_of_kind, last_slot, low_byte, store_local};
 use crate::program::IntOperation;
 use dj_names::{Kind, Raised, Value};
@@ -16,7 +16,7 @@ use dj_rules::RulesError;
 use std::alloc::Global;
 
 #[tactic(auto, unfolding(crate::specs::trusted::Effects::effect))]
-impl Machine {
+impl StraightMachine {
     /// A value is pushed.
     pub fn push(&mut self, value: Value) -> Result<Progress, RulesError>
         ensures { IfOk result (Does (model.Push value) (machine_view self.old) (machine_view self.new)) }

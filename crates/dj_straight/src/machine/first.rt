@@ -5,7 +5,7 @@ ghost use Rattle.dj_straight.specs.trusted.Metered.{input_array, input_size};
 
 use crate::machine::heap::Heap;
 use crate::machine::operands::Operands;
-use crate::machine::parts::Machine;
+use crate::machine::parts::StraightMachine;
 use dj_names::{Bytes, Value};
 use dj_rules::RulesError;
 use std::alloc::Global;
@@ -43,7 +43,11 @@ fn first_locals(alloc: Global, max_locals: u16) -> Result<Vec<Option<Value>>, Ru
 }
 
 /// The machine before the first instruction.
-pub fn first_machine(alloc: Global, max_locals: u16, input: &[u8]) -> Result<Machine, RulesError>
+pub fn first_machine(
+    alloc: Global,
+    max_locals: u16,
+    input: &[u8],
+) -> Result<StraightMachine, RulesError>
     requires locals { 0 < max_locals }
     requires input { length input.now ≤ 1048576 }
     ensures locals { IfOk result (λ m. m.locals.items ≡ Some (values.Ref 1) ∷ replicate (max_locals - 1) None) }
@@ -51,7 +55,7 @@ pub fn first_machine(alloc: Global, max_locals: u16, input: &[u8]) -> Result<Mac
     ensures heap { IfOk result (λ m. m.heap ≡ record { objects = input_array input.now ∷ []; used = input_size input.now }) }
 {
     let heap = Heap::with_array(alloc, signed_bytes(alloc, input)?)?;
-    Ok(Machine {
+    Ok(StraightMachine {
         locals: first_locals(alloc, max_locals)?,
         operands: Operands::new(alloc),
         heap,

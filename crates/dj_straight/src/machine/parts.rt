@@ -4,7 +4,7 @@ use dj_names::{Raised, Value};
 
 /// What the instructions of a run change: the local variables, the operands and the heap.
 #[derive(Drop)]
-pub struct Machine {
+pub struct StraightMachine {
     /// One without a value has none.
     pub locals: Vec<Option<Value>>,
     pub operands: Operands,

@@ -11,10 +11,10 @@ ghost use Rattle.dj_straight.specs.declared.machine.turns.Advance.TheVariants as
 ghost use Rattle.dj_straight.specs.Machines.{machine_view, straight_effect};
 ghost use Rattle.dj_straight.specs.Turns.{straight_amounts, TurnsDo, IsDone, GoesWithin};
 
-use crate::machine::Ending;
+use crate::machine::StraightEnding;
 use crate::machine::first::unsigned_bytes;
 use crate::machine::heap::{Found, Heap};
-use crate::machine::parts::{Machine, Progress};
+use crate::machine::parts::{Progress, StraightMachine};
 use crate::machine::pay::{Payment, pay};
 use crate::program::Action;
 use dj_names::{Charge, Costs, Message, Name, Outcome, Raised, Thresholds};
@@ -26,7 +26,7 @@ use std::alloc::Global;
 pub enum Advance {
     /// It goes on, and these are the costs so far.
     Go(Costs),
-    End(Ending),
+    End(StraightEnding),
 }
 
 fn raised_text(raised: Raised) -> &'static [u8]
@@ -59,10 +59,10 @@ fn returned(alloc: Global, heap: &Heap, reference: u32) -> Result<Outcome, Rules
 fn end(outcome: Outcome, costs: Costs) -> Result<Advance, RulesError>
     ensures { result ≡ Ok (turns.End (record { outcome = outcome; costs = costs })) }
 {
-    Ok(Advance::End(Ending { outcome, costs }))
+    Ok(Advance::End(StraightEnding { outcome, costs }))
 }
 
-impl Machine {
+impl StraightMachine {
     // The instruction is done, after its charges were added.
     fn done(&mut self, alloc: Global, action: Action, costs: Costs) -> Result<Advance, RulesError>
         requires { IsSome (straight_effect (action_view action) (machine_view self.old)) }

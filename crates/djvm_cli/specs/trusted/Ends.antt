@@ -3,7 +3,7 @@ use Rattle.std.specs.Prelude.{◌≡◌, ℕ, List, [], ◌∷◌, Option, Some,
 use Rattle.std.specs.Io.KnownBytes.{Appends}
 use Rattle.dj_edge.specs.trusted.Held.{Held}
 use Rattle.dj_edge.specs.declared.host.HostAnswer.{HostAnswer}
-use Rattle.dj_edge.specs.trusted.Counts.{Rose, IsFront, GrowsByFront}
+use Rattle.dj_edge.specs.trusted.Counts.{Rose, IsPrefix, GrowsByPrefix}
 use Rattle.dj_report.specs.declared.report.Report.{Report}
 use Rattle.dj_report.specs.trusted.Text.{report_text, report_status}
 use Rattle.dj_sandbox.specs.trusted.Statuses.{IsAmong}
@@ -34,10 +34,10 @@ pub record Finished (words : List (List ℕ)) (held : Option Held) (answers : Li
 -- a prefix of the right report was written
 pub record Broken (words : List (List ℕ)) (held : Option Held) (answers : List HostAnswer) (old new : Option (List ℕ)) : Type 0 where
   pub report : Report
-  pub front : List ℕ
+  pub prefix : List ℕ
   pub right : IsRight words held answers report
-  pub is_front : IsFront front (report_text report)
-  pub written : Appends old new front
+  pub is_prefix : IsPrefix prefix (report_text report)
+  pub written : Appends old new prefix
 
 -- the store's count of faults rose in this call, and nothing was written
 pub record ReadFault (faults_before faults_now : ℕ) (old new : Option (List ℕ)) : Type 0 where
@@ -71,9 +71,9 @@ abbrev pub IsStatus : List (List ℕ) → ℕ → Type 0
 IsStatus words status = IsAmong status (read_fault ∷ write_fault ∷ no_memory ∷ report_statuses (done_job_of words))
 
 -- the status is that of USAGE exactly where the words give no job
-abbrev pub TellsUsage : List (List ℕ) → ℕ → Type 0
-TellsUsage words status = (status ≡ 64) ↔ (done_job_of words ≡ None)
+abbrev pub MeansUsage : List (List ℕ) → ℕ → Type 0
+MeansUsage words status = (status ≡ 64) ↔ (done_job_of words ≡ None)
 
 -- what the store was asked for in this call is a prefix of what the words ask of it
 abbrev pub AsksInOrder : List (List ℕ) → Option Held → List (List ℕ) → List (List ℕ) → Type 0
-AsksInOrder words held old new = IfSome held (λ h. GrowsByFront old new (asks words h))
+AsksInOrder words held old new = IfSome held (λ h. GrowsByPrefix old new (asks words h))

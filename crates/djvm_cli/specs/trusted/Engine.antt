@@ -35,8 +35,8 @@ abbrev pub AddsRuns : List (List ℕ) → Option Held → List HostAnswer → Li
 AddsRuns words held answers old new = IfSome held (λ h. (runs : List (Costs × ℕ)) × AreRuns (done_job_of words) h answers runs × (new ≡ old ++ runs))
 
 -- the same, or no run was added; so it is in every other case
-abbrev pub AddsFront : List (List ℕ) → Option Held → List HostAnswer → List (Costs × ℕ) → List (Costs × ℕ) → Type 0
-AddsFront words held answers old new = (new ≡ old) ⊎ AddsRuns words held answers old new
+abbrev pub AddsPrefix : List (List ℕ) → Option Held → List HostAnswer → List (Costs × ℕ) → List (Costs × ℕ) → Type 0
+AddsPrefix words held answers old new = (new ≡ old) ⊎ AddsRuns words held answers old new
 
 -- a run of some class files on some input, with this entry class, of at most this many steps, which takes all of these answers
 abbrev pub IsSomeRun : Name → ℕ → List HostAnswer → Costs × ℕ → Type 0
@@ -62,5 +62,5 @@ abbrev pub AddsFew : List (List ℕ) → List HostAnswer → List (Costs × ℕ)
 AddsFew words answers old new = AddsSuch (AreRunsOf (done_job_of words) answers) old new
 
 -- the store's contents are known, and a call with these words makes no run
-abbrev pub TellsNoRun : List (List ℕ) → Option Held → List HostAnswer → Type 0
-TellsNoRun words held answers = IsSomeAnd held (λ h. AreRuns (done_job_of words) h answers [])
+abbrev pub MakesNoRun : List (List ℕ) → Option Held → List HostAnswer → Type 0
+MakesNoRun words held answers = IsSomeAnd held (λ h. AreRuns (done_job_of words) h answers [])

@@ -84,17 +84,17 @@ abbrev pub ReadsText : List ℕ → Option (List ℕ) → Stage Report
 ReadsText path found answer = ReadsWhole most_file_bytes limits.File path found answer
 
 -- the report for a text's fault
-abbrev pub TellsFault : AsmError → Report → Type 0
-TellsFault (asm_errors.Syntax line column) report = report ≡ reports.Syntax line column
-TellsFault (asm_errors.Label line) report = report ≡ reports.Label line
-TellsFault (asm_errors.Large line) report = report ≡ reports.Large line
-TellsFault asm_errors.Memory report = ⊥
+abbrev pub NamesFault : AsmError → Report → Type 0
+NamesFault (asm_errors.Syntax line column) report = report ≡ reports.Syntax line column
+NamesFault (asm_errors.Label line) report = report ≡ reports.Label line
+NamesFault (asm_errors.Large line) report = report ≡ reports.Large line
+NamesFault asm_errors.Memory report = ⊥
 
 -- the report is the class file that the text means, or the text's first fault
 abbrev pub Assembles : List ℕ → Stage Report
 Assembles text (Some report) =
     ((bytes : List ℕ) × (report ≡ reports.Written bytes) × IsTextOfBytes text bytes)
-    ⊎ ((e : AsmError) × TellsFault e report × TextFault text e)
+    ⊎ ((e : AsmError) × NamesFault e report × TextFault text e)
 Assembles text None = ⊥
 
 -- the stages of `assemble` for the file of this path, with these contents

@@ -35,9 +35,9 @@ returns-clause-done c =
     c.requires.ready c.instr_of-instr.result.now c.instr_of-instr.ensures.0 c.instr_of-instr.ensures.1 c.operand-operand.result c.operand-operand.ensures))
 
 pub returns-clause-frugal : goal.returns-clause-frugal
-returns-clause-frugal c = λ i told known frugal.
+returns-clause-frugal c = λ i reported known frugal.
     let at = c.instr_of-instr.ensures.1 in
-    let same : instruction_of c.instr_of-instr.result.now c.instr_of-instr.ensures.0 ≡ i = same_Some (instruction_of c.instr_of-instr.result.now c.instr_of-instr.ensures.0) i (sym at.is ∙ told) in
+    let same : instruction_of c.instr_of-instr.result.now c.instr_of-instr.ensures.0 ≡ i = same_Some (instruction_of c.instr_of-instr.result.now c.instr_of-instr.ensures.0) i (sym at.is ∙ reported) in
     let used =
     operand_used c.args.image.now c.args.places.now c.args.throwable c.args.method.number c.args.number (machine c.args.frames.now (store c.args.heap.now c.args.statics.now c.args.literals.now))
     c.requires.ready c.instr_of-instr.result.now c.instr_of-instr.ensures.0 at c.operand-operand.result c.operand-operand.ensures in

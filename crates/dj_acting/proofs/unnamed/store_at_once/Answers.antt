@@ -12,13 +12,13 @@ use Rattle.dj_acting.proofs.unnamed.store_at_once.Goals as goal
 
 pub returns-clause-done : goal.returns-clause-done
 returns-clause-done c =
-    acted_on_heap c.args.image.now _ c.args.frames.now c.store_element-told.new.frames c.args.heap.now c.store_element-told.new.heap c.store_element-told.result c.flow_acted.result _ c.flow_acted.ensures
+    acted_on_heap c.args.image.now _ c.args.frames.now c.store_element-reported.new.frames c.args.heap.now c.store_element-reported.new.heap c.store_element-reported.result c.flow_acted.result _ c.flow_acted.ensures
     (λ statics literals. store_is c.args.image.now (machine c.args.frames.now (store c.args.heap.now statics literals)) (access_view c.args.access) c.takes_top-is_taken.result
     c.takes_top-is_taken.ensures)
-    (c.store_element-told.ensures (λ r v. c.takes_top-is_taken.result) (taken_alike c.takes_top-is_taken.result (top_operands c.args.frames.now)))
+    (c.store_element-reported.ensures (λ r v. c.takes_top-is_taken.result) (taken_alike c.takes_top-is_taken.result (top_operands c.args.frames.now)))
 
 pub returns-clause-known : goal.returns-clause-known
 returns-clause-known c =
-    stored_known (types_of (typed_of c.args.image.now)) (λ r v. c.takes_top-is_taken.result) (access_view c.args.access) c.args.frames.now c.store_element-told.new.frames c.args.heap.now
-    c.store_element-told.new.heap c.store_element-told.result c.flow_acted.result c.flow_acted.ensures c.requires.known
-    (c.store_element-told.ensures (λ r v. c.takes_top-is_taken.result) (taken_alike c.takes_top-is_taken.result (top_operands c.args.frames.now)))
+    stored_known (types_of (typed_of c.args.image.now)) (λ r v. c.takes_top-is_taken.result) (access_view c.args.access) c.args.frames.now c.store_element-reported.new.frames c.args.heap.now
+    c.store_element-reported.new.heap c.store_element-reported.result c.flow_acted.result c.flow_acted.ensures c.requires.known
+    (c.store_element-reported.ensures (λ r v. c.takes_top-is_taken.result) (taken_alike c.takes_top-is_taken.result (top_operands c.args.frames.now)))

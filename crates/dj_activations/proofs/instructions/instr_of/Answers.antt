@@ -1,5 +1,5 @@
 use Rattle.std.proofs.Common.{sym}
-use Rattle.dj_activations.proofs.InstructionFacts.{instr_told, no_instr}
+use Rattle.dj_activations.proofs.InstructionFacts.{instr_reported, no_instr}
 use Rattle.dj_activations.proofs.instructions.instr_of.Goals as goal
 
 pub unreachable-requires-in-None : goal.unreachable-requires-in-None
@@ -7,4 +7,4 @@ unreachable-requires-in-None c = no_instr c.args.image.now c.args.method.number 
 
 pub returns : goal.returns
 returns c =
-    instr_told c.args.image.now c.args.method.number c.args.number c.in-Some.code.now c.in-Some.ensures c.in-Some-instr_in.instr.now (sym c.in-Some-instr_in.ensures)
+    instr_reported c.args.image.now c.args.method.number c.args.number c.in-Some.code.now c.in-Some.ensures c.in-Some-instr_in.instr.now (sym c.in-Some-instr_in.ensures)

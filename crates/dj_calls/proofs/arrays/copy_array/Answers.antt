@@ -10,10 +10,10 @@ use Rattle.dj_calls.proofs.arrays.copy_array.Goals as goal
 pub returns : goal.returns
 unfolding answer
 returns g c =
-    acts_done (g.C.Classes.program c.args.classes.now) (g.C.Classes.prefix c.args.classes.now) (g.C.Classes.types c.args.classes.now) c.args.heap.now c.copy_told.new.heap
+    acts_done (g.C.Classes.program c.args.classes.now) (g.C.Classes.prefix c.args.classes.now) (g.C.Classes.types c.args.classes.now) c.args.heap.now c.copy_reported.new.heap
     natives.ArrayCopy c.args.args.now
     (copy_answer (g.C.Classes.program c.args.classes.now) (g.C.Classes.prefix c.args.classes.now) (g.C.Classes.types c.args.classes.now) c.args.heap.now c.args.args.now)
-    c.copy_told.result refl refl
+    c.copy_reported.result refl refl
     (copy_owes (seen_of (g.C.Classes.program c.args.classes.now) (g.C.Classes.prefix c.args.classes.now) (g.C.Classes.types c.args.classes.now) c.args.heap.now)
     (reference 0 c.args.args.now) (number 1 c.args.args.now) (reference 2 c.args.args.now) (number 3 c.args.args.now) (number 4 c.args.args.now))
-    c.copy_told.ensures
+    c.copy_reported.ensures

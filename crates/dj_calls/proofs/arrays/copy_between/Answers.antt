@@ -1,7 +1,7 @@
 use Rattle.std.proofs.Common.{◌≡◌, ℕ, ◌≤◌, Some, None, sym, subst, ◌∙◌, arith}
 use Rattle.dj_names.specs.declared.run.Raised.TheVariants as raises
 use Rattle.dj_model.specs.trusted.Natives as model
-use Rattle.dj_calls.specs.declared.answer.NativeAnswer.TheVariants as told
+use Rattle.dj_calls.specs.declared.answer.NativeAnswer.TheVariants as reported
 use Rattle.dj_calls.specs.Calls.{Done}
 use Rattle.dj_calls.specs.Seen.{elements_at, element_of}
 use Rattle.dj_calls.proofs.CopyPlaces.{not_null, no_target}
@@ -10,5 +10,5 @@ use Rattle.dj_calls.proofs.arrays.copy_between.Goals as goal
 
 pub returns-in-None : goal.returns-in-None
 returns-in-None g c =
-    subst (λ (a : model.Answer). Done (g.C.Classes.prefix c.args.classes.now) (g.C.Classes.types c.args.classes.now) c.args.heap.now c.args.heap.now a (told.Raise raises.ArrayStore))
+    subst (λ (a : model.Answer). Done (g.C.Classes.prefix c.args.classes.now) (g.C.Classes.types c.args.classes.now) c.args.heap.now c.args.heap.now a (reported.Raise raises.ArrayStore))
     (sym (no_target (g.C.Classes.program c.args.classes.now) (g.C.Classes.prefix c.args.classes.now) (g.C.Classes.types c.args.classes.now) c.args.heap.now c.args.args.now (not_null c.args.heap.now (model.reference 0 c.args.args.now) c.args.a c.requires.source) (λ z. omega (arith, c.requires.target, z)) c.args.a c.requires.source (subst (λ (r : ℕ). element_of (elements_at c.args.heap.now r) ≡ None) c.reference.ensures (sym c.in-None.ensures)))) (raises_done (g.C.Classes.prefix c.args.classes.now) (g.C.Classes.types c.args.classes.now) c.args.heap.now raises.ArrayStore c.requires.known)

@@ -1,14 +1,14 @@
 use Rattle.std.proofs.Common.{subst}
 use Rattle.dj_names.specs.declared.run.Value.TheVariants as values
 use Rattle.dj_model.specs.trusted.Natives as model
-use Rattle.dj_calls.specs.declared.answer.NativeAnswer.TheVariants as told
+use Rattle.dj_calls.specs.declared.answer.NativeAnswer.TheVariants as reported
 use Rattle.dj_calls.specs.Calls.{Done}
 use Rattle.dj_calls.proofs.Performed.{text_made, text_refused}
 use Rattle.dj_calls.proofs.perform.make_text.Goals as goal
 
 pub returns-in-Ok : goal.returns-in-Ok
 returns-in-Ok g c =
-    subst (λ us. Done (g.C.Classes.prefix c.args.classes.now) (g.C.Classes.types c.args.classes.now) c.args.heap.now c.text.new.self (model.MakesText us) (told.Gives (values.Ref c.in-Ok.r))) c.as_slice.ensures
+    subst (λ us. Done (g.C.Classes.prefix c.args.classes.now) (g.C.Classes.types c.args.classes.now) c.args.heap.now c.text.new.self (model.MakesText us) (reported.Gives (values.Ref c.in-Ok.r))) c.as_slice.ensures
     (text_made (g.C.Classes.prefix c.args.classes.now) (g.C.Classes.types c.args.classes.now) c.string.result c.as_slice.result.now c.string.ensures c.args.heap.now c.text.new.self c.in-Ok.r c.in-Ok.ensures.made c.requires)
 
 pub returns-in-Err : goal.returns-in-Err

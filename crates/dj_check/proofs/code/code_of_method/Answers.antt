@@ -2,7 +2,7 @@ use Rattle.std.proofs.Common.{◌≡◌, ℕ, List, map, ap, ◌∙◌, codes, s
 use Rattle.dj_edge.proofs.Lists.{ok_so}
 use Rattle.dj_class.specs.Members.{member_of}
 use Rattle.dj_report.proofs.Adding.{not_both}
-use Rattle.dj_check.specs.declared.code.MethodCode.{MethodCode}
+use Rattle.dj_check.specs.declared.code.MethodBody.{MethodBody}
 use Rattle.dj_check.specs.trusted.Attributes.{bodies_of, codes_of}
 use Rattle.dj_check.specs.Passes.{IsBodilessView, IsOwnView, IsMethodView}
 use Rattle.dj_check.proofs.NamedBodies.{now_of, each_short}
@@ -26,7 +26,7 @@ returns c =
     let are : map now_of c.deref-2.result.now ≡ codes_of c.args.pool.now (member_of c.args.method.now) =
     ap (map now_of) c.deref-2.ensures.value ∙ c.in_ok-bodies.ensures ∙ ap (bodies_of c.args.pool.now (codes "Code")) c.as_slice.ensures in
     ok_so c.own_code.result (IsOwnView c.args.pool.now (map now_of c.deref-2.result.now)) (IsMethodView c.args.pool.now (member_of c.args.method.now))
-    (λ (view : MethodCode) own. own_view c.args.pool.now (member_of c.args.method.now) view
+    (λ (view : MethodBody) own. own_view c.args.pool.now (member_of c.args.method.now) view
     (λ is. not_both c.is_bodiless.result (c.is_bodiless.ensures.1 is) c.if-is_bodiless.false)
     (subst (λ (bodies : List (List ℕ)). IsOwnView c.args.pool.now bodies view) are own))
     c.own_code.ensures

@@ -11,8 +11,8 @@ returns c =
     let firsts = c.in_ok-firsts.firsts.items in
     let once = c.each_index_once-once.result.items in
     ok_so c.texts_at.result (λ names. AreTextsAt pool c.deref.result.now (texts_of names.items)) _
-    (λ names told. interfaces_are pool texts c.args.view.now.interfaces firsts once (texts_of names.items) c.requires
+    (λ names reported. interfaces_are pool texts c.args.view.now.interfaces firsts once (texts_of names.items) c.requires
     (subst (λ (indexes : List ℕ). AreClassTexts pool texts indexes firsts) c.as_slice.ensures c.in_ok-firsts.ensures)
     c.each_index_once-once.ensures
-    (subst (λ (indexes : List ℕ). AreTextsAt pool indexes (texts_of names.items)) c.deref.ensures.value told))
+    (subst (λ (indexes : List ℕ). AreTextsAt pool indexes (texts_of names.items)) c.deref.ensures.value reported))
     c.texts_at.ensures

@@ -7,5 +7,5 @@ pub returns-in-Some : goal.returns-in-Some
 returns-in-Some c =
     let at = copied_some c.text.result (text_at c.args.pool.now c.args.index) c.in-Some.text c.text.ensures c.in-Some.is in
     IfOk-weaker c.judge_text.result _ _
-    (λ text told. judged_some c.args.pool.now c.args.indexes.now c.judge_text.new.indexes c.args.index c.args.marked c.in-Some.text.now text at c.requires told)
+    (λ text reported. judged_some c.args.pool.now c.args.indexes.now c.judge_text.new.indexes c.args.index c.args.marked c.in-Some.text.now text at c.requires reported)
     c.judge_text.ensures

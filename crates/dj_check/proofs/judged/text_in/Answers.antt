@@ -4,7 +4,7 @@ use Rattle.dj_pool.specs.trusted.Pool.{text_at}
 use Rattle.dj_check.specs.trusted.Floats.{HasFloat}
 use Rattle.dj_check.specs.trusted.Classes.{IsReflectiveText}
 use Rattle.dj_check.specs.Judged.{first_of}
-use Rattle.dj_check.proofs.Judging.{past_texts, not_told}
+use Rattle.dj_check.proofs.Judging.{past_texts, not_reported}
 use Rattle.dj_check.proofs.judged.text_in.Goals as goal
 
 pub returns-in-Some-clause-means : goal.returns-in-Some-clause-means
@@ -22,8 +22,8 @@ returns-in-None-clause-means c =
     let h = c.in-None.ensures.lookup in
     let none = past_texts c.args.pool.now c.args.index (omega (arith, h.3, c.requires.all)) in
     record {
-      float = not_told (text_at c.args.pool.now c.args.index) HasFloat none;
-      reflective = not_told (text_at c.args.pool.now c.args.index) IsReflectiveText none;
+      float = not_reported (text_at c.args.pool.now c.args.index) HasFloat none;
+      reflective = not_reported (text_at c.args.pool.now c.args.index) IsReflectiveText none;
       first = refl;
     }
 

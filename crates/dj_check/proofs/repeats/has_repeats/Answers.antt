@@ -26,7 +26,7 @@ returns c =
     let fields = again_repeated IsUnqualifiedName IsFieldDescriptor (class_of view) texts view.fields c.in_ok-fields.fields c.requires.texts c.requires.numbered (λ m own. inl own) c.requires.valid.fields
     (subst (λ (ms : List MemberInfo). IsTrue c.in_ok-fields.fields ↔ HasAgain (names_of texts ms)) c.as_slice.ensures c.in_ok-fields.ensures) in
     ok_so c.has_again-2.result (λ b. IsTrue b ↔ HasAgain (names_of texts (map member_of c.as_slice-2.result.now))) (λ b. IsTrue b ↔ (AreRepeated view.pool view.fields ⊎ AreRepeated view.pool view.methods))
-    (λ (b : Bool) told. other_repeats (AreRepeated view.pool view.fields) (AreRepeated view.pool view.methods) c.in_ok-fields.fields b fields c.if-fields.false
+    (λ (b : Bool) reported. other_repeats (AreRepeated view.pool view.fields) (AreRepeated view.pool view.methods) c.in_ok-fields.fields b fields c.if-fields.false
     (again_repeated IsMethodName IsMethodDescriptor (class_of view) texts view.methods b c.requires.texts c.requires.numbered (λ m own. inr own) c.requires.valid.methods
-    (subst (λ (ms : List MemberInfo). IsTrue b ↔ HasAgain (names_of texts ms)) c.as_slice-2.ensures told)))
+    (subst (λ (ms : List MemberInfo). IsTrue b ↔ HasAgain (names_of texts ms)) c.as_slice-2.ensures reported)))
     c.has_again-2.ensures

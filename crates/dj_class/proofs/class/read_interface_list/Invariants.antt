@@ -1,11 +1,11 @@
 use Rattle.std.proofs.Common.{◌≡◌, ◌-◌}
 use Rattle.dj_bytes.specs.Reading.{many_at}
 use Rattle.dj_bytes.specs.Views.{cursor_of}
-use Rattle.dj_bytes.proofs.Loop.{with_front}
+use Rattle.dj_bytes.proofs.Loop.{with_prefix}
 use Rattle.dj_pool.specs.Tests.{is_class}
 use Rattle.dj_class.specs.Reading.{index_at}
 use Rattle.dj_class.proofs.class.read_interface_list.Given as goal
 
 abbrev pub invariant-loop-i : goal.invariant-loop-i
 invariant-loop-i l =
-    with_front l.interfaces.items (many_at (index_at (is_class l.pool)) (l.count - l.i) (cursor_of l.after)) ≡ many_at (index_at (is_class l.pool)) l.count (cursor_of l.fn.cursor)
+    with_prefix l.interfaces.items (many_at (index_at (is_class l.pool)) (l.count - l.i) (cursor_of l.after)) ≡ many_at (index_at (is_class l.pool)) l.count (cursor_of l.fn.cursor)

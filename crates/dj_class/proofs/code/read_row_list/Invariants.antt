@@ -1,10 +1,10 @@
 use Rattle.std.proofs.Common.{◌≡◌, ◌-◌}
 use Rattle.dj_bytes.specs.Reading.{many_at}
 use Rattle.dj_bytes.specs.Views.{cursor_of}
-use Rattle.dj_bytes.proofs.Loop.{with_front}
+use Rattle.dj_bytes.proofs.Loop.{with_prefix}
 use Rattle.dj_class.specs.CodeReading.{row_at}
 use Rattle.dj_class.proofs.code.read_row_list.Given as goal
 
 abbrev pub invariant-loop : goal.invariant-loop
 invariant-loop l =
-    with_front l.rows.items (many_at row_at (l.count - l.counter) (cursor_of l.after)) ≡ many_at row_at l.fn.count (cursor_of l.fn.cursor)
+    with_prefix l.rows.items (many_at row_at (l.count - l.counter) (cursor_of l.after)) ≡ many_at row_at l.fn.count (cursor_of l.fn.cursor)

@@ -4,4 +4,4 @@ use Rattle.dj_declared.proofs.file.put_number.Goals as goal
 pub returns : goal.returns
 returns c =
     numbered_more c.args.pool.now c.args.places.now.items c.args.index c.in_ok-number.number c.args.text.now c.args.table.now c.add.new.self
-    c.requires.numbered c.in_ok-number.ensures.keeps c.requires.text c.in_ok-number.ensures.told
+    c.requires.numbered c.in_ok-number.ensures.keeps c.requires.text c.in_ok-number.ensures.reported

@@ -35,4 +35,4 @@ returns c spans each =
     let mark : MemberRow = get_or c.args.marks.now (at - 1) none in
     known_before c.args.marks.now c.requires spans c.args.name c.args.desc c.args.step at (omega (arith, c.ranges.step.fits)) (omega (arith, c.ranges.desc.fits))
     (subst (λ (key : ℕ). IsPointAt c.args.marks.now key at) c.key_of-key.ensures c.first_not_below-at.ensures.point) c.first_not_below-at.ensures.bound mark some
-    (get_or_default c.args.marks.now (at - 1) mark none within) c.args.nearest.now c.told_at.result c.if-mark-name.false c.if-mark-desc.false c.told_at.ensures each
+    (get_or_default c.args.marks.now (at - 1) mark none within) c.args.nearest.now c.reported_at.result c.if-mark-name.false c.if-mark-desc.false c.reported_at.ensures each

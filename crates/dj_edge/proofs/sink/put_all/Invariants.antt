@@ -4,7 +4,7 @@ use Rattle.dj_edge.proofs.sink.put_all.Given as goal
 
 abbrev pub invariant-loop-rest : goal.invariant-loop-rest
 invariant-loop-rest g l = record {
-  put : (front : List ℕ) × (l.fn.bytes ≡ front ++ l.rest) × Appends (g.S.Sink.written l.initial.sink) (g.S.Sink.written l.sink) front;
+  put : (prefix : List ℕ) × (l.fn.bytes ≡ prefix ++ l.rest) × Appends (g.S.Sink.written l.initial.sink) (g.S.Sink.written l.sink) prefix;
   counted : g.S.Sink.faults l.initial.sink ≤ g.S.Sink.faults l.sink;
 }
 

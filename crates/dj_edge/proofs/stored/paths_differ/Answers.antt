@@ -9,20 +9,20 @@ use Rattle.dj_edge.proofs.stored.paths_differ.Goals as goal
 
 pub returns-then-is_some : goal.returns-then-is_some
 returns-then-is_some c =
-    let front = take c.loop-index.index c.args.held.now in
+    let prefix = take c.loop-index.index c.args.held.now in
     let x = c.index-held-index.result in
-    let same = c.bytes_under.ensures ∙ ap (λ (l : List ℕ). find text_cmp l (files_in front)) c.as_bytes.ensures.value in
-    let some = found_same (λ (bytes : Bor (Vec ℕ)). bytes.now.items) c.bytes_under.result (find text_cmp (string_bytes x.0) (files_in front)) true same c.if-is_some.ensures in
+    let same = c.bytes_under.ensures ∙ ap (λ (l : List ℕ). find text_cmp l (files_in prefix)) c.as_bytes.ensures.value in
+    let some = found_same (λ (bytes : Bor (Vec ℕ)). bytes.now.items) c.bytes_under.result (find text_cmp (string_bytes x.0) (files_in prefix)) true same c.if-is_some.ensures in
     (λ e. absurd cc, λ differ. absurd (not_differ c.args.held.now c.loop-index.index x c.loop-index-test.true c.index-held-index.is some differ))
 
 pub loop-index-preserved : goal.loop-index-preserved
 loop-index-preserved c =
-    let front = take c.loop-index.index c.args.held.now in
+    let prefix = take c.loop-index.index c.args.held.now in
     let x = c.index-held-index.result in
-    let same = c.bytes_under.ensures ∙ ap (λ (l : List ℕ). find text_cmp l (files_in front)) c.as_bytes.ensures.value in
-    let none = found_same (λ (bytes : Bor (Vec ℕ)). bytes.now.items) c.bytes_under.result (find text_cmp (string_bytes x.0) (files_in front)) false same c.if-is_some.ensures in
+    let same = c.bytes_under.ensures ∙ ap (λ (l : List ℕ). find text_cmp l (files_in prefix)) c.as_bytes.ensures.value in
+    let none = found_same (λ (bytes : Bor (Vec ℕ)). bytes.now.items) c.bytes_under.result (find text_cmp (string_bytes x.0) (files_in prefix)) false same c.if-is_some.ensures in
     differ_more c.args.held.now c.loop-index.index x c.loop-index-test.true c.index-held-index.is
-    (none_from_test (find text_cmp (string_bytes x.0) (files_in front)) none) c.loop-index.invariant
+    (none_from_test (find text_cmp (string_bytes x.0) (files_in prefix)) none) c.loop-index.invariant
 
 pub returns : goal.returns
 returns c =

@@ -4,7 +4,7 @@ use Rattle.dj_names.specs.declared.run.Value.{Value}
 use Rattle.dj_names.specs.declared.run.Value.TheVariants as values
 use Rattle.dj_stack.specs.Frames.{top_operands}
 use Rattle.dj_effects.proofs.Frames.{both_same}
-use Rattle.dj_effects.proofs.LoadFacts.{tells_length}
+use Rattle.dj_effects.proofs.LoadFacts.{says_length}
 use Rattle.dj_effects.proofs.arrays.array_length.Goals as goal
 
 pub returns-in-Ok : goal.returns-in-Ok
@@ -14,8 +14,8 @@ returns-in-Ok c =
     let all : top_operands c.args.frames.now ≡ values.Ref c.in-Some-Ref.r ∷ top_operands c.pop.new.frames =
     c.in-Some-Ref.ensures.top ∙ ap (λ (v : Value). v ∷ top_operands c.pop.new.frames) c.in-Some-Ref.field-0-is in
     record {
-      effect = tells_length c.args.heap.now.heap (top_operands c.args.frames.now) (top_operands c.pop.new.frames) (top_operands c.push_value.new.self) c.in-Some-Ref.r c.in-Ok.field-0-0
-          c.in-Ok.n all c.in-Ok.ensures.told (c.push_value.ensures.operands ∙ ap (λ (z : ℤ). values.Int z ∷ top_operands c.pop.new.frames) same);
+      effect = says_length c.args.heap.now.heap (top_operands c.args.frames.now) (top_operands c.pop.new.frames) (top_operands c.push_value.new.self) c.in-Some-Ref.r c.in-Ok.field-0-0
+          c.in-Ok.n all c.in-Ok.ensures.reported (c.push_value.ensures.operands ∙ ap (λ (z : ℤ). values.Int z ∷ top_operands c.pop.new.frames) same);
       limit = refl;
       frames = both_same _ _ _ c.in-Some-Ref.ensures.rest c.push_value.ensures.rest;
     }

@@ -1,10 +1,10 @@
 use Rattle.std.proofs.Common.{◌≡◌, ◌-◌}
 use Rattle.dj_bytes.specs.Reading.{many_at}
 use Rattle.dj_bytes.specs.Views.{cursor_of}
-use Rattle.dj_bytes.proofs.Loop.{with_front}
+use Rattle.dj_bytes.proofs.Loop.{with_prefix}
 use Rattle.dj_frames.specs.Reading.{type_at}
 use Rattle.dj_frames.proofs.read.read_types.Given as goal
 
 abbrev pub invariant-loop : goal.invariant-loop
 invariant-loop l =
-    with_front l.types (many_at (type_at l.fn.starts) (l.count - l.counter) (cursor_of l.after)) ≡ many_at (type_at l.fn.starts) l.fn.count (cursor_of l.fn.cursor)
+    with_prefix l.types (many_at (type_at l.fn.starts) (l.count - l.counter) (cursor_of l.after)) ≡ many_at (type_at l.fn.starts) l.fn.count (cursor_of l.fn.cursor)

@@ -1,6 +1,6 @@
 use Rattle.std.proofs.Common.{◌≡◌, ◌≤◌, ℕ, length, map, sym, ◌∙◌, subst, arith}
 use Rattle.std.specs.Global.{Vec}
-use Rattle.dj_graph.specs.declared.mark.Mark.TheVariants.{Closed}
+use Rattle.dj_graph.specs.declared.mark.NodeMark.TheVariants.{Closed}
 use Rattle.dj_graph.specs.Graphs.{Edges, edges_of, AreComponents}
 use Rattle.dj_graph.specs.Searches.{AllClosed}
 use Rattle.dj_graph.proofs.EdgeLists.{edges_count, if_ok}

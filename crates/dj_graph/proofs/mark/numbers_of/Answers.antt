@@ -1,5 +1,5 @@
 use Rattle.std.proofs.lemmas.Option.{get_or_from_slice_get}
-use Rattle.dj_graph.specs.declared.mark.Mark.TheVariants.{Unfound, Closed}
+use Rattle.dj_graph.specs.declared.mark.NodeMark.TheVariants.{Unfound, Closed}
 use Rattle.dj_graph.proofs.mark.numbers_of.Goals as goal
 
 pub unreachable-requires : goal.unreachable-requires

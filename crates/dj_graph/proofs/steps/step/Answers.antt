@@ -1,5 +1,5 @@
 use Rattle.std.proofs.Common.{ℕ, ◌<◌, length, sym, ◌∙◌, ap, subst}
-use Rattle.dj_graph.specs.declared.mark.Mark.TheVariants.{Open}
+use Rattle.dj_graph.specs.declared.mark.NodeMark.TheVariants.{Open}
 use Rattle.dj_graph.specs.Graphs.{edges_of}
 use Rattle.dj_graph.specs.Searches.{IsLast}
 use Rattle.dj_graph.proofs.Lists.{At, at_within}

@@ -1,5 +1,5 @@
 use Rattle.std.proofs.Common.{ℕ, ◌+◌, List, Option, length, sym, ap, subst, ◌∙◌, map}
-use Rattle.dj_image.specs.Gathered.{value_told}
+use Rattle.dj_image.specs.Gathered.{value_reported}
 use Rattle.dj_image.specs.Homes.{AreHomes, operand_at}
 use Rattle.dj_image.specs.Indexed.{Holds, text_place, kept_class, kept_array}
 use Rattle.dj_image.specs.declared.parts.FieldValue.{FieldValue}
@@ -21,6 +21,6 @@ returns c = λ parts fit.
     let named = subst (λ (classes : List (Option ℕ)). Holds (kept_class pool classes) (length pool + 1) c.in_ok-named.named.items) c.deref-3.ensures.value c.in_ok-named.ensures in
     let made = subst (λ (arrays : List (Option ℕ)). Holds (kept_array pool arrays) (length pool + 1) c.in_ok-made.made.items) c.deref-4.ensures.value c.in_ok-made.ensures in
     let held = subst (Holds (text_place c.args.texts.now pool) (length pool + 1)) (sym c.deref-5.ensures.value) c.in_ok-places.ensures in
-    let constants = c.in_ok-constants.ensures c.args.texts.now held ∙ ap (λ (vs : List (Option FieldValue)). map (value_told c.args.texts.now pool) vs) c.deref-6.ensures.value in
+    let constants = c.in_ok-constants.ensures c.args.texts.now held ∙ ap (λ (vs : List (Option FieldValue)). map (value_reported c.args.texts.now pool) vs) c.deref-6.ensures.value in
     class_is c.args.types.now parts c.args.texts.now c.args.class.now c.args.object c.in_ok-classes.classes.items c.in_ok-arrays.arrays.items c.in_ok-places.places.items _
     fit c.requires.arrays c.requires.object c.requires.valid c.in_ok-classes.ensures c.in_ok-arrays.ensures c.in_ok-places.ensures operands named made constants

@@ -4,7 +4,7 @@ use Rattle.dj_classes.specs.Tables.{fields_at}
 use Rattle.dj_types.specs.Members.{number_of_field}
 use Rattle.dj_image.specs.Imaged.{program_of}
 use Rattle.dj_initialising.specs.Places.{one_if_static}
-use Rattle.dj_initialising.proofs.FieldLaws.{field_told, number_within, same_flags}
+use Rattle.dj_initialising.proofs.FieldLaws.{field_reported, number_within, same_flags}
 use Rattle.dj_initialising.proofs.PlaceLaws.{counted_more}
 use Rattle.dj_initialising.proofs.places.add_class.Goals as goal
 
@@ -12,12 +12,12 @@ pub field-requires : goal.field-requires
 field-requires c =
     let program = program_of c.args.image.now in
     number_within program c.args.class c.loop-at.at c.in-Some.field.number
-    (field_told program c.args.class c.loop-at.at _ c.field_at.ensures c.in-Some.field.number (ap (option_map number_of_field) c.in-Some.is))
+    (field_reported program c.args.class c.loop-at.at _ c.field_at.ensures c.in-Some.field.number (ap (option_map number_of_field) c.in-Some.is))
 
 pub loop-at-preserved : goal.loop-at-preserved
 loop-at-preserved c =
     let program = program_of c.args.image.now in
-    let f = field_told program c.args.class c.loop-at.at _ c.field_at.ensures c.in-Some.field.number (ap (option_map number_of_field) c.in-Some.is) in
+    let f = field_reported program c.args.class c.loop-at.at _ c.field_at.ensures c.in-Some.field.number (ap (option_map number_of_field) c.in-Some.is) in
     counted_more (fields_at program c.args.class) c.loop-at.at f.field c.args.each.now.items c.loop-at.each.items c.push.new.self.items c.args.before c.loop-at.count c.in_ok-count.count
     f.stands c.loop-at.invariant c.in_ok-push.ensures.items
     (c.in_ok-count.ensures ∙ ap (λ (n : ℕ). c.loop-at.count + one_if_static n) (same_flags c.args.image.now c.args.class c.loop-at.at c.in-Some.field.number c.field.result f c.field.ensures))

@@ -25,8 +25,8 @@ returns-then-not-is_argument c = λ types typed.
     c.operand.result c.args.classes.now types typed c.requires.within c.loop-at-test.true c.operand.ensures in
     let rest : Bool = are_instances (program_of c.args.image.now) c.args.image.now.prefix (typed_heap c.args.image.now c.args.heap.now.heap) (drop (c.loop-at.at + 1) types)
     (drop (c.loop-at.at + 1) (reverse (take c.args.count (top_operands c.args.frames.now)))) in
-    let told = c.is_argument.ensures n.type (λ (reference : value_kind c.operand.result ≡ kinds.Ref). subst (IsClassOf (typed_of c.args.image.now) n.type) (sym c.class_at.ensures) (n.told reference)) in
-    ap (λ (b : Bool). b && rest) (sym c.if-not-is_argument.true ∙ told) ∙ (sym n.is ∙ c.loop-at.invariant types typed)
+    let reported = c.is_argument.ensures n.type (λ (reference : value_kind c.operand.result ≡ kinds.Ref). subst (IsClassOf (typed_of c.args.image.now) n.type) (sym c.class_at.ensures) (n.reported reference)) in
+    ap (λ (b : Bool). b && rest) (sym c.if-not-is_argument.true ∙ reported) ∙ (sym n.is ∙ c.loop-at.invariant types typed)
 
 pub loop-at-preserved : goal.loop-at-preserved
 loop-at-preserved c = λ types typed.
@@ -34,8 +34,8 @@ loop-at-preserved c = λ types typed.
     c.operand.result c.args.classes.now types typed c.requires.within c.loop-at-test.true c.operand.ensures in
     let rest : Bool = are_instances (program_of c.args.image.now) c.args.image.now.prefix (typed_heap c.args.image.now c.args.heap.now.heap) (drop (c.loop-at.at + 1) types)
     (drop (c.loop-at.at + 1) (reverse (take c.args.count (top_operands c.args.frames.now)))) in
-    let told = c.is_argument.ensures n.type (λ (reference : value_kind c.operand.result ≡ kinds.Ref). subst (IsClassOf (typed_of c.args.image.now) n.type) (sym c.class_at.ensures) (n.told reference)) in
-    ap (λ (b : Bool). b && rest) (sym c.if-not-is_argument.false ∙ told) ∙ (sym n.is ∙ c.loop-at.invariant types typed)
+    let reported = c.is_argument.ensures n.type (λ (reference : value_kind c.operand.result ≡ kinds.Ref). subst (IsClassOf (typed_of c.args.image.now) n.type) (sym c.class_at.ensures) (n.reported reference)) in
+    ap (λ (b : Bool). b && rest) (sym c.if-not-is_argument.false ∙ reported) ∙ (sym n.is ∙ c.loop-at.invariant types typed)
 
 pub returns : goal.returns
 returns c = λ types typed.

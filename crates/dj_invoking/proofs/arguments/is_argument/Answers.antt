@@ -10,14 +10,14 @@ is_object-requires c = record {
 }
 
 pub returns-in-Some : goal.returns-in-Some
-returns-in-Some c = λ ty told.
-    argument_some c.args.image.now (typed_heap c.args.image.now c.args.heap.now.heap) ty c.args.value c.args.class c.in-Ref.r c.in-Some.class c.is_object.result c.in-Ref.is c.in-Some.is told
+returns-in-Some c = λ ty reported.
+    argument_some c.args.image.now (typed_heap c.args.image.now c.args.heap.now.heap) ty c.args.value c.args.class c.in-Ref.r c.in-Some.class c.is_object.result c.in-Ref.is c.in-Some.is reported
     c.is_object.ensures
 
 pub returns-in-None : goal.returns-in-None
-returns-in-None c = λ ty told.
-    argument_none c.args.image.now (typed_heap c.args.image.now c.args.heap.now.heap) ty c.args.value c.args.class c.in-Ref.r c.in-Ref.is c.in-None.is told
+returns-in-None c = λ ty reported.
+    argument_none c.args.image.now (typed_heap c.args.image.now c.args.heap.now.heap) ty c.args.value c.args.class c.in-Ref.r c.in-Ref.is c.in-None.is reported
 
 pub returns-in_default : goal.returns-in_default
-returns-in_default c = λ ty told.
+returns-in_default c = λ ty reported.
     argument_other (program_of c.args.image.now) c.args.image.now.prefix (typed_heap c.args.image.now c.args.heap.now.heap) ty c.args.value c.in_default.not-Ref

@@ -1,10 +1,10 @@
 use Rattle.std.proofs.Common.{sym, ◌∙◌, arith}
 use Rattle.dj_invoking.proofs.Choices.{class_numbered, object_there, instance_typed}
-use Rattle.dj_invoking.proofs.Instances.{argument_told, past_types}
+use Rattle.dj_invoking.proofs.Instances.{argument_reported, past_types}
 use Rattle.dj_invoking.proofs.arguments.is_object.Goals as goal
 
 pub returns-then-r-eq0 : goal.returns-then-r-eq0
-returns-then-r-eq0 c = λ ty named. argument_told c.args.image.now c.args.heap.now.heap ty c.args.r c.if-r-eq0.true
+returns-then-r-eq0 c = λ ty named. argument_reported c.args.image.now c.args.heap.now.heap ty c.args.r c.if-r-eq0.true
 
 pub returns-then-class_count-class : goal.returns-then-class_count-class
 returns-then-class_count-class c = λ ty named. absurd (past_types c.args.image.now c.args.class ty (omega (arith, c.class_count.ensures)) named)

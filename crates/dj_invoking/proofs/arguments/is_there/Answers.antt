@@ -4,6 +4,6 @@ use Rattle.dj_invoking.proofs.References.{object_within}
 use Rattle.dj_invoking.proofs.arguments.is_there.Goals as goal
 
 pub returns : goal.returns
-returns c = λ told.
-    let within : c.args.r ≤ length c.args.heap.now.heap.objects = grind (arith, nat_tests, told) in
+returns c = λ reported.
+    let within : c.args.r ≤ length c.args.heap.now.heap.objects = grind (arith, nat_tests, reported) in
     object_within c.args.heap.now.heap c.args.r within

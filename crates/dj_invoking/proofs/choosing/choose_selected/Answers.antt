@@ -6,7 +6,7 @@ use Rattle.dj_types.specs.Members.{selected}
 use Rattle.dj_invoking.specs.declared.choosing.Chosen.{Chosen}
 use Rattle.dj_invoking.specs.Choosing.{IsThere, IsChosen, taken_method, virtual_choice}
 use Rattle.dj_invoking.specs.Receivers.{typed_heap}
-use Rattle.dj_invoking.proofs.Choices.{chosen_within, class_numbered, object_there, refused_chosen, fit_chosen, selected_told}
+use Rattle.dj_invoking.proofs.Choices.{chosen_within, class_numbered, object_there, refused_chosen, fit_chosen, selected_reported}
 use Rattle.dj_invoking.proofs.Found.{number_there}
 use Rattle.dj_invoking.proofs.choosing.choose_selected.Goals as goal
 
@@ -38,4 +38,4 @@ returns-in-None-clause-chosen c = λ m resolved e there.
     (fit_chosen (program_of c.args.image.now) c.args.image.now.prefix (typed_heap c.args.image.now c.args.heap.now.heap) c.args.r resolved.class c.select.result
     (select (program_of c.args.image.now) c.args.image.now.prefix resolved (class_at_number (typed_heap c.args.image.now c.args.heap.now.heap) c.args.r))
     (c.in-None.ensures.refused resolved there)
-    (selected_told c.args.image.now c.args.heap.now.heap c.args.method m resolved c.args.r c.class_of.result c.select.result e there c.class_of.ensures c.select.ensures))
+    (selected_reported c.args.image.now c.args.heap.now.heap c.args.method m resolved c.args.r c.class_of.result c.select.result e there c.class_of.ensures c.select.ensures))

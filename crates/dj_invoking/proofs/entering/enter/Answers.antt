@@ -5,7 +5,7 @@ use Rattle.dj_model.specs.trusted.Values.{in_slots}
 use Rattle.dj_model.specs.trusted.Initialisation.{padded}
 use Rattle.dj_stack.specs.Frames.{new_frame, most_frames, top_locals, top_operands}
 use Rattle.dj_invoking.proofs.OperandFacts.{frames_left}
-use Rattle.dj_invoking.proofs.EnterFacts.{entered_told, pushed_empty, pushed_length}
+use Rattle.dj_invoking.proofs.EnterFacts.{entered_reported, pushed_empty, pushed_length}
 use Rattle.dj_invoking.proofs.entering.enter.Goals as goal
 
 pub returns-then-depth-eq1024 : goal.returns-then-depth-eq1024
@@ -35,7 +35,7 @@ returns c =
     let second : c.deref-2.result.now ≡ args = c.deref-2.ensures.value ∙ c.in_ok-copy_operands.ensures in
     let slots : c.in-Ok.slots ≡ length (in_slots is_long args) = c.in-Ok.ensures.1 ∙ (c.slot_count.ensures ∙ ap (λ (xs : List Value). length (in_slots is_long xs)) first) in (
       omega (arith, room, count),
-      entered_told c.args.room.method c.args.room.max_locals c.in-Ok.slots c.max.result c.args.room.max_stack args c.args.frames.now c.drop_operands-2.new.frames c.push.new.self
+      entered_reported c.args.room.method c.args.room.max_locals c.in-Ok.slots c.max.result c.args.room.max_stack args c.args.frames.now c.drop_operands-2.new.frames c.push.new.self
           c.set_arguments.new.frames (drop c.args.count (top_operands c.args.frames.now)) c.max.ensures slots pushed c.drop_operands-2.ensures.rest c.drop_operands-2.ensures.operands
           c.set_arguments.ensures.rest
           (c.set_arguments.ensures.locals ∙ ap (λ (xs : List Value). padded (length (top_locals c.push.new.self)) (in_slots is_long xs)) second),

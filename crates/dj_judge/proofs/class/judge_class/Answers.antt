@@ -6,24 +6,24 @@ use Rattle.dj_check.specs.Judged.{AreTexts}
 use Rattle.dj_check.specs.Marks.{AreMarksOf}
 use Rattle.dj_check.specs.trusted.Methods.{MethodViolates}
 use Rattle.dj_judge.specs.Late.{HasLent}
-use Rattle.dj_judge.specs.Told.{AreJudgedMethods}
+use Rattle.dj_judge.specs.Reported.{AreJudgedMethods}
 use Rattle.dj_judge.proofs.ClassLaws.{not_faulty, own_lines_by}
 use Rattle.dj_judge.proofs.class.judge_class.Goals as goal
 
 pub add_lines-requires-clause-marks : goal.add_lines-requires-clause-marks
 add_lines-requires-clause-marks c =
     let class = class_of c.args.view.now in
-    let told = subst (AreJudgedMethods class (HasLent c.args.lent) c.deref.result.now) c.in-Some.is c.in_ok-marks.ensures in
-    subst (λ (ts : List JudgedText). Gains (AreMarksOf ts (MethodViolates class) class.methods) [] c.in-Some.marks.early.items) (c.deref.ensures.value ∙ sym c.deref-in-Some.ensures.value) told.early
+    let reported = subst (AreJudgedMethods class (HasLent c.args.lent) c.deref.result.now) c.in-Some.is c.in_ok-marks.ensures in
+    subst (λ (ts : List JudgedText). Gains (AreMarksOf ts (MethodViolates class) class.methods) [] c.in-Some.marks.early.items) (c.deref.ensures.value ∙ sym c.deref-in-Some.ensures.value) reported.early
 
 pub returns-in-Some : goal.returns-in-Some
 returns-in-Some c =
     let class = class_of c.args.view.now in
-    let told = subst (AreJudgedMethods class (HasLent c.args.lent) c.deref.result.now) c.in-Some.is c.in_ok-marks.ensures in
+    let reported = subst (AreJudgedMethods class (HasLent c.args.lent) c.deref.result.now) c.in-Some.is c.in_ok-marks.ensures in
     let are = subst (AreTexts class.pool) (sym c.deref.ensures.value) c.in_ok-texts.ensures.texts in (
-      not_faulty class c.in_ok-faulty.faulty c.in_ok-faulty.ensures c.if-faulty.false told.sound,
+      not_faulty class c.in_ok-faulty.faulty c.in_ok-faulty.ensures c.if-faulty.false reported.sound,
       (
         c.in_ok-good_file-in-Some.ensures,
-        own_lines_by c.args.path.now class (HasLent c.args.lent) c.deref.result.now c.in-Some.marks c.args.found.now c.add_lines.new.found are told c.in_ok-add_lines-in-Some.ensures.early c.in_ok-add_lines-in-Some.ensures.late,
+        own_lines_by c.args.path.now class (HasLent c.args.lent) c.deref.result.now c.in-Some.marks c.args.found.now c.add_lines.new.found are reported c.in_ok-add_lines-in-Some.ensures.early c.in_ok-add_lines-in-Some.ensures.late,
       ),
     )

@@ -8,5 +8,5 @@ use Rattle.dj_judge.proofs.class.judge_linked.Goals as goal
 pub returns : goal.returns
 returns c =
     ok_so c.judge_methods.result _ _
-    (λ judged told. methods_by (class_of c.args.view.now) (HasLent (Some c.args.lent)) _ c.args.texts.now judged (λ program has. c.classes-table.ensures ∙ has) told)
+    (λ judged reported. methods_by (class_of c.args.view.now) (HasLent (Some c.args.lent)) _ c.args.texts.now judged (λ program has. c.classes-table.ensures ∙ has) reported)
     c.judge_methods.ensures

@@ -13,7 +13,7 @@ judge_linked-requires-clause-plain c = c.requires.plain c.in-Some.linker.now (su
 pub returns-clause-late : goal.returns-clause-late
 returns-clause-late c =
     ok_so c.judge_linked.result _ _
-    (λ judged told linked has.
+    (λ judged reported linked has.
     let same : c.in-Some.linker.now ≡ linked = subst (λ (linker : Option (Bor Linked)). HasLinker linker linked) c.in-Some.is has in
-    subst (λ (l : Linked). Adds (IsLinkedLine l.program (map path_file_view c.args.files.now)) [] judged.late.items) same told)
+    subst (λ (l : Linked). Adds (IsLinkedLine l.program (map path_file_view c.args.files.now)) [] judged.late.items) same reported)
     c.judge_linked.ensures.late

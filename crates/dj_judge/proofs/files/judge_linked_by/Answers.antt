@@ -12,4 +12,4 @@ judge_lent-requires-clause-lent c = record {
 }
 
 pub returns-clause-late : goal.returns-clause-late
-returns-clause-late c = ok_so c.judge_lent.result _ _ (λ judged told. told c.args.linker.now.program refl) c.judge_lent.ensures.late
+returns-clause-late c = ok_so c.judge_lent.result _ _ (λ judged reported. reported c.args.linker.now.program refl) c.judge_lent.ensures.late

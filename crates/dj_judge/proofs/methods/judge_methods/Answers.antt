@@ -3,13 +3,13 @@ use Rattle.dj_class.specs.Members.{member_of}
 use Rattle.dj_class.specs.Views.{class_of}
 use Rattle.dj_check.proofs.MarkLaws.{method_valid}
 use Rattle.dj_judge.specs.Late.{HasKnown}
-use Rattle.dj_judge.specs.Told.{IsJudgedMethod}
-use Rattle.dj_judge.proofs.ClassLaws.{none_told, one_more_told, one_faulty, all_told}
+use Rattle.dj_judge.specs.Reported.{IsJudgedMethod}
+use Rattle.dj_judge.proofs.ClassLaws.{none_reported, one_more_reported, one_faulty, all_reported}
 use Rattle.dj_judge.proofs.methods.judge_methods.Goals as goal
 
 pub loop-method-init : goal.loop-method-init
 loop-method-init c = record {
-  told = none_told (class_of c.args.view.now) (HasKnown c.args.known) c.args.texts.now c.as_slice-method-items.result.now (record { early = c.new.result; late = c.new-2.result }) c.new.ensures.items c.new-2.ensures.items;
+  reported = none_reported (class_of c.args.view.now) (HasKnown c.args.known) c.args.texts.now c.as_slice-method-items.result.now (record { early = c.new.result; late = c.new-2.result }) c.new.ensures.items c.new-2.ensures.items;
   kinds = tt;
 }
 
@@ -30,12 +30,12 @@ pub loop-method-preserved : goal.loop-method-preserved
 loop-method-preserved c =
     let class = class_of c.args.view.now in
     record {
-      told = one_more_told class (HasKnown c.args.known) c.args.texts.now c.as_slice-method-items.result.now c.loop-method.method-index c.method-item.result c.loop-method.marks c.judge_method.new.marks
-          c.loop-method-test.true c.method-item.is c.loop-method.invariant.told
+      reported = one_more_reported class (HasKnown c.args.known) c.args.texts.now c.as_slice-method-items.result.now c.loop-method.method-index c.method-item.result c.loop-method.marks c.judge_method.new.marks
+          c.loop-method-test.true c.method-item.is c.loop-method.invariant.reported
           (subst (IsJudgedMethod class (HasKnown c.args.known) c.args.texts.now (member_of c.method-item.result) c.loop-method.marks c.judge_method.new.marks) c.if-not-sound.false c.in_ok-sound.ensures.marks);
       kinds = c.in_ok-sound.ensures.kinds;
     }
 
 pub returns : goal.returns
 returns c =
-    all_told (class_of c.args.view.now) (HasKnown c.args.known) c.args.texts.now c.as_slice-method-items.result.now c.loop-method.method-index c.loop-method.marks c.as_slice-method-items.ensures c.loop-method-test.false c.loop-method.invariant.told
+    all_reported (class_of c.args.view.now) (HasKnown c.args.known) c.args.texts.now c.as_slice-method-items.result.now c.loop-method.method-index c.loop-method.marks c.as_slice-method-items.ensures c.loop-method-test.false c.loop-method.invariant.reported

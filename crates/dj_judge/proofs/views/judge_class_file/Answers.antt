@@ -5,7 +5,7 @@ use Rattle.dj_report.specs.Lines.{Adds}
 use Rattle.dj_check.specs.declared.good.GoodFile.{GoodFile}
 use Rattle.dj_judge.specs.declared.files.JudgedFiles.{JudgedFiles}
 use Rattle.dj_judge.specs.Late.{HasLent}
-use Rattle.dj_judge.specs.Told.{IsJudgedClass}
+use Rattle.dj_judge.specs.Reported.{IsJudgedClass}
 use Rattle.dj_judge.proofs.FileLaws.{faulty_class}
 use Rattle.dj_judge.proofs.views.judge_class_file.Goals as goal
 

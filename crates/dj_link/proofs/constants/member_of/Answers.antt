@@ -3,7 +3,7 @@ use Rattle.std.specs.Option.{option_map}
 use Rattle.dj_names.specs.trusted.Types.{same_name}
 use Rattle.dj_pool.specs.Views.{constant_of}
 use Rattle.dj_check.specs.trusted.Classes.{names_at}
-use Rattle.dj_link.specs.declared.name_numbers.MemberName.{MemberName}
+use Rattle.dj_link.specs.declared.name_numbers.NumberedName.{NumberedName}
 use Rattle.dj_link.specs.Constants.{static_in}
 use Rattle.dj_link.proofs.Resolving.{IsWithin, named, member_within, member_static, member_kept}
 use Rattle.dj_link.proofs.constants.member_of.Goals as goal
@@ -19,7 +19,7 @@ returns-clause-member c =
     let name = c.in_ok-named.named.name.now in
     let desc = c.in_ok-named.named.desc.now in
     let names : Some (name, desc) ≡ names_at c.args.pool.now (constant_of c.args.entry) =
-    sym (ap (option_map (λ (x : MemberName). (x.name.now, x.desc.now))) c.in_ok-named.was) ∙ c.member_name.ensures.names in
+    sym (ap (option_map (λ (x : NumberedName). (x.name.now, x.desc.now))) c.in_ok-named.was) ∙ c.member_name.ensures.names in
     member_kept c.args.linker.now.program c.args.pool.now (constant_of c.args.entry) c.in_ok-class.class n name desc c.is_static_in.result c.eq.result c.eq-2.result
     names
     (c.is_static_in.ensures

@@ -1,7 +1,7 @@
 use Rattle.std.proofs.Common.{subst}
 use Rattle.dj_class.specs.Members.{member_of}
 use Rattle.dj_class.specs.Views.{class_of}
-use Rattle.dj_check.specs.declared.code.MethodCode.{MethodCode}
+use Rattle.dj_check.specs.declared.code.MethodBody.{MethodBody}
 use Rattle.dj_check.specs.Marks.{names_in}
 use Rattle.dj_check.specs.Passes.{IsMethodView}
 use Rattle.dj_link.proofs.PassLaws.{bodiless_marks}
@@ -9,9 +9,9 @@ use Rattle.dj_link.proofs.methods.add_method_mark.Goals as goal
 
 pub unreachable-requires : goal.unreachable-requires
 unreachable-requires c =
-    c.requires.sound (subst (λ (code : MethodCode). IsMethodView c.args.view.now.pool (member_of c.args.method.now) code) c.in-Faulty.is c.in_ok-code_of_method.ensures)
+    c.requires.sound (subst (λ (code : MethodBody). IsMethodView c.args.view.now.pool (member_of c.args.method.now) code) c.in-Faulty.is c.in_ok-code_of_method.ensures)
 
 pub returns-in-Bodiless : goal.returns-in-Bodiless
 returns-in-Bodiless c =
-    let none = (subst (λ (code : MethodCode). IsMethodView c.args.view.now.pool (member_of c.args.method.now) code) c.in-Bodiless.is c.in_ok-code_of_method.ensures).1 in
+    let none = (subst (λ (code : MethodBody). IsMethodView c.args.view.now.pool (member_of c.args.method.now) code) c.in-Bodiless.is c.in_ok-code_of_method.ensures).1 in
     bodiless_marks (class_of c.args.view.now) (member_of c.args.method.now) (names_in c.args.texts.now (member_of c.args.method.now)) c.args.known.now c.args.marks.now.items none

@@ -6,14 +6,14 @@ use Rattle.dj_report.proofs.Adding.{on_ok}
 use Rattle.dj_check.specs.Marks.{MarksOf}
 use Rattle.dj_check.proofs.MethodLaws.{short_code}
 use Rattle.dj_link.specs.trusted.Lines.{MethodLinkViolates}
-use Rattle.dj_link.proofs.PassLaws.{untold_code, method_marks}
+use Rattle.dj_link.proofs.PassLaws.{unreported_code, method_marks}
 use Rattle.dj_link.proofs.methods.add_whole_marks.Goals as goal
 
 pub add_code_marks-requires-clause-few : goal.add_code_marks-requires-clause-few
 add_code_marks-requires-clause-few c = (short_code c.args.view.now.pool (member_of c.args.method.now) c.args.code.now c.requires.code).instrs
 
-pub add_code_marks-requires-clause-untold : goal.add_code_marks-requires-clause-untold
-add_code_marks-requires-clause-untold c t = untold_code (class_of c.args.view.now) (member_of c.args.method.now) c.args.code.now c.requires.code (c.requires.untold t)
+pub add_code_marks-requires-clause-unreported : goal.add_code_marks-requires-clause-unreported
+add_code_marks-requires-clause-unreported c t = unreported_code (class_of c.args.view.now) (member_of c.args.method.now) c.args.code.now c.requires.code (c.requires.unreported t)
 
 pub returns : goal.returns
 returns c =

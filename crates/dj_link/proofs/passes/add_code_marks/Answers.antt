@@ -5,12 +5,12 @@ use Rattle.dj_report.specs.Lines.{Gains}
 use Rattle.dj_report.proofs.Adding.{on_ok}
 use Rattle.dj_check.specs.Marks.{MarksOf}
 use Rattle.dj_link.specs.Known.{KnownBelow}
-use Rattle.dj_link.specs.Marks.{AreRangeMarks, AreUntold}
+use Rattle.dj_link.specs.Marks.{AreRangeMarks, AreUnreported}
 use Rattle.dj_link.proofs.PassLaws.{code_marks}
 use Rattle.dj_link.proofs.passes.add_code_marks.Goals as goal
 
-pub add_instr_marks-requires-clause-untold : goal.add_instr_marks-requires-clause-untold
-add_instr_marks-requires-clause-untold c t = subst (AreUntold c.args.pool.now) (sym c.as_slice.ensures) (c.requires.untold t)
+pub add_instr_marks-requires-clause-unreported : goal.add_instr_marks-requires-clause-unreported
+add_instr_marks-requires-clause-unreported c t = subst (AreUnreported c.args.pool.now) (sym c.as_slice.ensures) (c.requires.unreported t)
 
 pub returns : goal.returns
 returns c =

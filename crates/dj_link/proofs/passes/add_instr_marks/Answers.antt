@@ -9,9 +9,9 @@ use Rattle.dj_link.proofs.passes.add_instr_marks.Goals as goal
 pub loop-at-init : goal.loop-at-init
 loop-at-init c = none_below c.args.names c.args.known.now c.args.pool.now c.args.code.now c.args.marks.now.items
 
-pub add_instr_mark-requires-clause-untold : goal.add_instr_mark-requires-clause-untold
-add_instr_mark-requires-clause-untold c t =
-    c.requires.untold t c.loop-at.at c.index-code-at.result
+pub add_instr_mark-requires-clause-unreported : goal.add_instr_mark-requires-clause-unreported
+add_instr_mark-requires-clause-unreported c t =
+    c.requires.unreported t c.loop-at.at c.index-code-at.result
     (slice_get_read c.args.code.now (length c.args.code.now) c.loop-at.at c.index-code-at.result refl c.loop-at-test.true c.index-code-at.is)
 
 pub loop-at-preserved : goal.loop-at-preserved

@@ -1,13 +1,13 @@
-use Rattle.dj_link.proofs.PassLaws.{told_mark, foreign_mark, unlinked_mark}
+use Rattle.dj_link.proofs.PassLaws.{reported_mark, foreign_mark, unlinked_mark}
 use Rattle.dj_link.proofs.passes.add_rule_mark.Goals as goal
 
-pub returns-then-told : goal.returns-then-told
-returns-then-told c = told_mark c.args.place c.args.told c.args.foreign c.args.unlinked c.args.marks.now.items c.if-told.true
+pub returns-then-reported : goal.returns-then-reported
+returns-then-reported c = reported_mark c.args.place c.args.reported c.args.foreign c.args.unlinked c.args.marks.now.items c.if-reported.true
 
 pub returns-then-foreign : goal.returns-then-foreign
 returns-then-foreign c =
-    foreign_mark c.args.place c.args.told c.args.foreign c.args.unlinked c.args.marks.now.items c.add_mark_if.new.marks.items c.if-told.false c.if-foreign.true c.in_ok-add_mark_if.ensures
+    foreign_mark c.args.place c.args.reported c.args.foreign c.args.unlinked c.args.marks.now.items c.add_mark_if.new.marks.items c.if-reported.false c.if-foreign.true c.in_ok-add_mark_if.ensures
 
 pub returns : goal.returns
 returns c =
-    unlinked_mark c.args.place c.args.told c.args.foreign c.args.unlinked c.args.marks.now.items c.add_mark_if-2.new.marks.items c.if-told.false c.if-foreign.false c.in_ok-add_mark_if-2.ensures
+    unlinked_mark c.args.place c.args.reported c.args.foreign c.args.unlinked c.args.marks.now.items c.add_mark_if-2.new.marks.items c.if-reported.false c.if-foreign.false c.in_ok-add_mark_if-2.ensures

@@ -2,7 +2,7 @@ use Rattle.std.proofs.Common.{◌<◌, ◌∷◌, ℕ, Option, Some, IfSome, len
 use Rattle.dj_model.specs.trusted.Linking.{most_classes}
 use Rattle.dj_linking.specs.Numbers.{has, numbers_above, numbers_up}
 use Rattle.dj_linking.proofs.Finding.{IsWalked, walk_begun, walked_here, walked_more, walked_off, walked_out}
-use Rattle.dj_linking.proofs.Subclasses.{where_so, so_told, not_so_told, is_in_flat, not_in_flat}
+use Rattle.dj_linking.proofs.Subclasses.{where_so, so_reported, not_so_reported, is_in_flat, not_in_flat}
 use Rattle.dj_linking.proofs.ancestors.is_above_by_class.Goals as goal
 
 pub loop-init : goal.loop-init
@@ -20,13 +20,13 @@ pub returns-then-is_at : goal.returns-then-is_at
 returns-then-is_at c = sym (is_in_flat (λ k. k ∷ numbers_above c.args.table.now k) c.args.other (numbers_up most_classes c.args.table.now (Some c.args.class))
     (walked_here (λ k. where_so c.args.other (has (k ∷ numbers_above c.args.table.now k) c.args.other)) c.args.table.now c.args.class c.loop.counter c.in-Some.at (Some c.args.other)
     (subst (λ (o : Option ℕ). IsWalked (λ k. where_so c.args.other (has (k ∷ numbers_above c.args.table.now k) c.args.other)) c.args.table.now c.args.class c.loop.counter o) c.in-Some.is c.loop.invariant) c.loop-test.true
-    (so_told c.args.other (has (c.in-Some.at ∷ numbers_above c.args.table.now c.in-Some.at) c.args.other) (sym c.is_at.ensures ∙ c.if-is_at.true))))
+    (so_reported c.args.other (has (c.in-Some.at ∷ numbers_above c.args.table.now c.in-Some.at) c.args.other) (sym c.is_at.ensures ∙ c.if-is_at.true))))
 
 pub loop-preserved : goal.loop-preserved
 loop-preserved c =
     walked_more (λ k. where_so c.args.other (has (k ∷ numbers_above c.args.table.now k) c.args.other)) c.args.table.now c.args.class c.loop.counter c.in-Some.at c.super_of-next.result
     (subst (λ (o : Option ℕ). IsWalked (λ k. where_so c.args.other (has (k ∷ numbers_above c.args.table.now k) c.args.other)) c.args.table.now c.args.class c.loop.counter o) c.in-Some.is c.loop.invariant) c.loop-test.true
-    (not_so_told c.args.other (has (c.in-Some.at ∷ numbers_above c.args.table.now c.in-Some.at) c.args.other) (sym c.is_at.ensures ∙ c.if-is_at.false)) c.super_of-next.ensures
+    (not_so_reported c.args.other (has (c.in-Some.at ∷ numbers_above c.args.table.now c.in-Some.at) c.args.other) (sym c.is_at.ensures ∙ c.if-is_at.false)) c.super_of-next.ensures
 
 pub returns : goal.returns
 returns c = sym (not_in_flat (λ k. k ∷ numbers_above c.args.table.now k) c.args.other (numbers_up most_classes c.args.table.now (Some c.args.class)) (walked_out (λ k. where_so c.args.other (has (k ∷ numbers_above c.args.table.now k) c.args.other)) c.args.table.now c.args.class c.loop.counter c.loop.next c.loop.invariant c.loop-test.false))

@@ -3,7 +3,7 @@ use Rattle.std.specs.Option.{option_map}
 use Rattle.dj_model.specs.trusted.Linking.{is_not_static}
 use Rattle.dj_classes.specs.Tables.{methods_at, method_there, super_number}
 use Rattle.dj_linking.specs.Numbers.{most_above, numbers_up}
-use Rattle.dj_linking.proofs.Calling.{enough_above, first_of_none, first_of_some, told_named}
+use Rattle.dj_linking.proofs.Calling.{enough_above, first_of_none, first_of_some, reported_named}
 use Rattle.dj_linking.proofs.Finding.{super_within}
 use Rattle.dj_linking.proofs.Selections.{descriptor_there}
 use Rattle.dj_linking.proofs.calls.instance_method_like.Goals as goal
@@ -26,5 +26,5 @@ instance_method_above-requires-clause-described c =
 pub returns : goal.returns
 returns c found there =
     let table = c.args.table.now in
-    told_named table is_not_static c.args.resolved found there c.method_name-name.result.now c.method_desc-desc.result.now (numbers_up most_above table (super_number table c.args.class))
+    reported_named table is_not_static c.args.resolved found there c.method_name-name.result.now c.method_desc-desc.result.now (numbers_up most_above table (super_number table c.args.class))
     (option_map (method_there table) c.instance_method_above.result) c.method_name-name.ensures c.method_desc-desc.ensures c.instance_method_above.ensures

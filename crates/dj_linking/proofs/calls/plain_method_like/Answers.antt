@@ -3,7 +3,7 @@ use Rattle.std.specs.Option.{option_map}
 use Rattle.dj_model.specs.trusted.Linking.{is_plain, most_classes}
 use Rattle.dj_classes.specs.Tables.{methods_at, method_there}
 use Rattle.dj_linking.specs.Numbers.{numbers_up}
-use Rattle.dj_linking.proofs.Calling.{enough_classes, first_of_none, first_of_some, told_named}
+use Rattle.dj_linking.proofs.Calling.{enough_classes, first_of_none, first_of_some, reported_named}
 use Rattle.dj_linking.proofs.Selections.{descriptor_there}
 use Rattle.dj_linking.proofs.calls.plain_method_like.Goals as goal
 
@@ -27,5 +27,5 @@ pub returns : goal.returns
 returns c =
     let table = c.args.table.now in
     first_of_some table is_plain c.args.resolved most_classes c.in_ok-first.first c.args.class c.plain_method_from.result c.in_ok-first.was
-    (λ found there. told_named table is_plain c.args.resolved found there c.method_name-name.result.now c.method_desc-desc.result.now (numbers_up most_classes table (Some c.in_ok-first.first))
+    (λ found there. reported_named table is_plain c.args.resolved found there c.method_name-name.result.now c.method_desc-desc.result.now (numbers_up most_classes table (Some c.in_ok-first.first))
     (option_map (method_there table) c.plain_method_from.result) c.method_name-name.ensures c.method_desc-desc.ensures c.plain_method_from.ensures)

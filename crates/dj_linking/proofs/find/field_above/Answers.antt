@@ -3,9 +3,9 @@ use Rattle.std.specs.Option.{option_map}
 use Rattle.dj_declared.specs.trusted.Files.{desc_in}
 use Rattle.dj_classes.specs.Tables.{field_there}
 use Rattle.dj_linking.specs.Numbers.{AreBelow, field_found, first_some, numbers_above}
-use Rattle.dj_linking.proofs.Finding.{told_next}
+use Rattle.dj_linking.proofs.Finding.{reported_next}
 use Rattle.dj_linking.proofs.Marks.{above_is, once_below}
-use Rattle.dj_linking.proofs.Searches.{told_above}
+use Rattle.dj_linking.proofs.Searches.{reported_above}
 use Rattle.dj_linking.proofs.find.field_above.Goals as goal
 
 pub field_among-requires-clause-there : goal.field_among-requires-clause-there
@@ -16,8 +16,8 @@ field_among-requires-clause-there c =
 
 pub returns-in-None : goal.returns-in-None
 returns-in-None c =
-    told_above (field_found c.args.table.now c.args.name.now (desc_in c.args.desc.now)) c.deref.result.now (numbers_above c.args.table.now c.args.class) (option_map (field_there c.args.table.now) c.field_among.result)
+    reported_above (field_found c.args.table.now c.args.name.now (desc_in c.args.desc.now)) c.deref.result.now (numbers_above c.args.table.now c.args.class) (option_map (field_there c.args.table.now) c.field_among.result)
     (c.deref.ensures.value ∙ above_is c.args.table.now c.args.above.now c.args.class c.index-above-class.result c.requires.above c.requires.there c.index-above-class.is)
     c.field_among.ensures
-    ∙ ap (option_map Some) (sym (told_next (field_found c.args.table.now c.args.name.now (desc_in c.args.desc.now) c.args.class)
+    ∙ ap (option_map Some) (sym (reported_next (field_found c.args.table.now c.args.name.now (desc_in c.args.desc.now) c.args.class)
     (first_some (field_found c.args.table.now c.args.name.now (desc_in c.args.desc.now)) (numbers_above c.args.table.now c.args.class)) c.in-None.ensures))

@@ -3,7 +3,7 @@ use Rattle.std.specs.Option.{option_map}
 use Rattle.dj_declared.specs.trusted.Files.{desc_in}
 use Rattle.dj_linking.specs.Chained.{field_row}
 use Rattle.dj_linking.specs.Numbers.{AreBelow, field_found, first_some, lists_of}
-use Rattle.dj_linking.proofs.Chained.{list_told, rows_below}
+use Rattle.dj_linking.proofs.Chained.{list_reported, rows_below}
 use Rattle.dj_linking.proofs.Listed.{field_row_below, fields_found}
 use Rattle.dj_linking.proofs.find.field_up.Goals as goal
 
@@ -13,12 +13,12 @@ list_of-requires c = omega (arith, c.requires.fields.count, c.requires.there)
 pub field_among-requires-clause-there : goal.field_among-requires-clause-there
 field_among-requires-clause-there c =
     subst (AreBelow (length c.args.table.now))
-    (sym (list_told c.args.table.now (field_row c.args.table.now) (lists_of c.args.fields.now.lists.items) c.args.fields.now.places.items c.args.class c.in-Some.list.now c.requires.fields c.in-Some.ensures))
+    (sym (list_reported c.args.table.now (field_row c.args.table.now) (lists_of c.args.fields.now.lists.items) c.args.fields.now.places.items c.args.class c.in-Some.list.now c.requires.fields c.in-Some.ensures))
     (rows_below c.args.table.now (field_row c.args.table.now) (length c.args.table.now) c.args.class c.requires.there (field_row_below c.args.table.now))
 
 pub returns-in-Some : goal.returns-in-Some
 returns-in-Some c =
     c.field_among.ensures
     ∙ ap (λ (xs : List ℕ). option_map Some (first_some (field_found c.args.table.now c.args.name.now (desc_in c.args.desc.now)) xs))
-    (list_told c.args.table.now (field_row c.args.table.now) (lists_of c.args.fields.now.lists.items) c.args.fields.now.places.items c.args.class c.in-Some.list.now c.requires.fields c.in-Some.ensures)
+    (list_reported c.args.table.now (field_row c.args.table.now) (lists_of c.args.fields.now.lists.items) c.args.fields.now.places.items c.args.class c.in-Some.list.now c.requires.fields c.in-Some.ensures)
     ∙ ap (option_map Some) (fields_found c.args.table.now c.args.name.now (desc_in c.args.desc.now) c.args.class)

@@ -3,9 +3,9 @@ use Rattle.std.specs.Option.{option_map}
 use Rattle.dj_declared.specs.trusted.Files.{desc_in}
 use Rattle.dj_classes.specs.Tables.{field_there}
 use Rattle.dj_linking.specs.Numbers.{AreBelow, field_found, first_some, numbers_above}
-use Rattle.dj_linking.proofs.Finding.{told_next}
+use Rattle.dj_linking.proofs.Finding.{reported_next}
 use Rattle.dj_linking.proofs.Marks.{above_is, once_below}
-use Rattle.dj_linking.proofs.Searches.{told_above}
+use Rattle.dj_linking.proofs.Searches.{reported_above}
 use Rattle.dj_linking.proofs.find_numbered.field_above.Goals as goal
 
 pub field_among-requires-clause-below : goal.field_among-requires-clause-below
@@ -16,8 +16,8 @@ field_among-requires-clause-below c =
 
 pub returns-in-None : goal.returns-in-None
 returns-in-None c n d h =
-    told_above (field_found c.args.directory.now.program n (desc_in d)) c.deref.result.now (numbers_above c.args.directory.now.program c.args.class) (option_map (field_there c.args.directory.now.program) c.field_among.result)
+    reported_above (field_found c.args.directory.now.program n (desc_in d)) c.deref.result.now (numbers_above c.args.directory.now.program c.args.class) (option_map (field_there c.args.directory.now.program) c.field_among.result)
     (c.deref.ensures.value ∙ above_is c.args.directory.now.program c.args.above.now c.args.class c.index-above-class.result c.requires.above c.requires.there c.index-above-class.is)
     (c.field_among.ensures n d h)
-    ∙ ap (option_map Some) (sym (told_next (field_found c.args.directory.now.program n (desc_in d) c.args.class)
+    ∙ ap (option_map Some) (sym (reported_next (field_found c.args.directory.now.program n (desc_in d) c.args.class)
     (first_some (field_found c.args.directory.now.program n (desc_in d)) (numbers_above c.args.directory.now.program c.args.class)) (c.in-None.ensures n d h)))

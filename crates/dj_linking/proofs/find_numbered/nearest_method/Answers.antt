@@ -5,9 +5,9 @@ use Rattle.dj_model.specs.trusted.Linking.{most_classes, FoundMethod}
 use Rattle.dj_declared.specs.trusted.Files.{desc_in}
 use Rattle.dj_classes.specs.Tables.{method_there}
 use Rattle.dj_linking.specs.Nearest.{IsNearest}
-use Rattle.dj_linking.specs.Numbers.{TellsMethod, lists_of, numbers_up}
+use Rattle.dj_linking.specs.Numbers.{SaysMethod, lists_of, numbers_up}
 use Rattle.dj_linking.specs.Ranked.{AreRanksOf}
-use Rattle.dj_linking.proofs.Nearing.{nearest_told, none_told}
+use Rattle.dj_linking.proofs.Nearing.{nearest_reported, none_reported}
 use Rattle.dj_linking.proofs.find_numbered.nearest_method.Goals as goal
 
 pub nearest_of-requires-clause-there : goal.nearest_of-requires-clause-there
@@ -19,7 +19,7 @@ nearest_of-requires-clause-ranks c = subst (λ (p : Program). AreRanksOf p c.arg
 pub returns-in_err-near : goal.returns-in_err-near
 returns-in_err-near c n d h =
     ap (option_map (method_there c.args.directory.now.program)) c.from_residual.ensures
-    ∙ sym (ap (option_map Some) (none_told c.args.directory.now.program c.args.ranks.now.classes.items c.args.ranks.now.ranks.items (lists_of c.args.ranks.now.rows.items) c.requires.ranks c.args.class c.requires.there c.requires.known
+    ∙ sym (ap (option_map Some) (none_reported c.args.directory.now.program c.args.ranks.now.classes.items c.args.ranks.now.ranks.items (lists_of c.args.ranks.now.rows.items) c.requires.ranks c.args.class c.requires.there c.requires.known
     c.methods_of-rows.result.now n (desc_in d) (c.methods_of-rows.ensures.declare n d h.name_is h.desc_is h.described)
     (subst (λ (p : Program). IsNearest (numbers_up most_classes p (Some c.args.class)) c.args.ranks.now.ranks.items c.methods_of-rows.result.now (length c.methods_of-rows.result.now) None) c.classes.ensures c.in_err-near.ensures)))
 
@@ -30,8 +30,8 @@ method_in-requires c =
 
 pub returns : goal.returns
 returns c n d h =
-    subst (λ (found : Option FoundMethod). TellsMethod c.args.directory.now.program c.method_in.result found)
-    (sym (nearest_told c.args.directory.now.program c.args.ranks.now.classes.items c.args.ranks.now.ranks.items (lists_of c.args.ranks.now.rows.items) c.requires.ranks c.args.class c.requires.there c.requires.known
+    subst (λ (found : Option FoundMethod). SaysMethod c.args.directory.now.program c.method_in.result found)
+    (sym (nearest_reported c.args.directory.now.program c.args.ranks.now.classes.items c.args.ranks.now.ranks.items (lists_of c.args.ranks.now.rows.items) c.requires.ranks c.args.class c.requires.there c.requires.known
     c.methods_of-rows.result.now n (desc_in d) (c.methods_of-rows.ensures.declare n d h.name_is h.desc_is h.described) c.in_ok-near.near
     (subst (λ (p : Program). IsNearest (numbers_up most_classes p (Some c.args.class)) c.args.ranks.now.ranks.items c.methods_of-rows.result.now (length c.methods_of-rows.result.now) (Some c.in_ok-near.near)) c.classes.ensures c.in_ok-near.ensures)))
     (c.method_in.ensures n d h)

@@ -5,7 +5,7 @@ use Rattle.dj_declared.specs.trusted.Files.{desc_in}
 use Rattle.dj_classes.specs.Tables.{method_there}
 use Rattle.dj_linking.specs.Numbers.{AreBelow, method_found, numbers_above}
 use Rattle.dj_linking.proofs.Marks.{above_is, once_below}
-use Rattle.dj_linking.proofs.Searches.{told_above}
+use Rattle.dj_linking.proofs.Searches.{reported_above}
 use Rattle.dj_linking.proofs.find_numbered.plain_method_above.Goals as goal
 
 pub plain_method_among-requires-clause-below : goal.plain_method_among-requires-clause-below
@@ -16,6 +16,6 @@ plain_method_among-requires-clause-below c =
 
 pub returns : goal.returns
 returns c n d h =
-    told_above (method_found c.args.directory.now.program is_plain n (desc_in d)) c.deref.result.now (numbers_above c.args.directory.now.program c.args.class) (option_map (method_there c.args.directory.now.program) c.plain_method_among.result)
+    reported_above (method_found c.args.directory.now.program is_plain n (desc_in d)) c.deref.result.now (numbers_above c.args.directory.now.program c.args.class) (option_map (method_there c.args.directory.now.program) c.plain_method_among.result)
     (c.deref.ensures.value ∙ above_is c.args.directory.now.program c.args.above.now c.args.class c.index-above-class.result c.requires.above c.requires.there c.index-above-class.is)
     (c.plain_method_among.ensures n d h)

@@ -3,7 +3,7 @@ use Rattle.std.specs.Option.{option_map}
 use Rattle.dj_declared.specs.trusted.Files.{desc_in}
 use Rattle.dj_linking.proofs.Finding.{plain_there, plain_not_there, private_set, static_set}
 use Rattle.dj_classes.specs.Tables.{method_there}
-use Rattle.dj_linking.proofs.Numbered.{method_found_at, no_plain_told}
+use Rattle.dj_linking.proofs.Numbered.{method_found_at, no_plain_reported}
 use Rattle.dj_linking.proofs.find_numbered.plain_method_in.Goals as goal
 use Rattle.dj_linking.proofs.find_numbered.plain_method_in.Goals.{else-flags-eq0-via-then-flags-eq0+else-flags-eq0-2, else-flags-eq0-via-else-flags-eq0}
 
@@ -23,4 +23,4 @@ returns-else-flags-eq0 c n d h =
 pub returns-in_err-member : goal.returns-in_err-member
 returns-in_err-member c n d h =
     ap (option_map (method_there c.args.directory.now.program)) c.from_residual.ensures
-    ∙ no_plain_told c.args.directory.now.program c.args.class n (desc_in d) (c.in_err-member.ensures.first n d h.name_is h.desc_is h.described)
+    ∙ no_plain_reported c.args.directory.now.program c.args.class n (desc_in d) (c.in_err-member.ensures.first n d h.name_is h.desc_is h.described)

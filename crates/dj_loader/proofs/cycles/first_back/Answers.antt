@@ -3,7 +3,7 @@ use Rattle.std.proofs.lemmas.Option.{slice_get-get_or}
 use Rattle.dj_graph.specs.Graphs.{edges_of}
 use Rattle.dj_loader.specs.Numbered.{LeadsBack}
 use Rattle.dj_loader.proofs.Components.{targets_there, node_within, leads_within}
-use Rattle.dj_loader.proofs.Told.{none_more, not_back}
+use Rattle.dj_loader.proofs.Reported.{none_more, not_back}
 use Rattle.dj_loader.proofs.cycles.first_back.Goals as goal
 
 pub loop-node-preserved : goal.loop-node-preserved

@@ -1,7 +1,7 @@
 use Rattle.std.proofs.Common.{ℕ, Option, Some, ap, ◌∙◌, subst}
 use Rattle.std.specs.Prelude.{MatchOption}
 use Rattle.dj_loader.specs.Numbered.{IsFirst, IsOnCycle, NeverSo}
-use Rattle.dj_loader.proofs.Told.{least_cycle, never_cycle}
+use Rattle.dj_loader.proofs.Reported.{least_cycle, never_cycle}
 use Rattle.dj_loader.proofs.cycles.refuse_cycles.Goals as goal
 
 pub returns-in_ok-name-in-Some-clause-refused : goal.returns-in_ok-name-in-Some-clause-refused

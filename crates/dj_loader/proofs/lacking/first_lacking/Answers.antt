@@ -1,7 +1,7 @@
 use Rattle.std.proofs.Common.{arith}
 use Rattle.std.proofs.lemmas.Option.{slice_get_within}
 use Rattle.dj_loader.specs.Numbered.{IsLacking}
-use Rattle.dj_loader.proofs.Told.{none_more, not_lacking}
+use Rattle.dj_loader.proofs.Reported.{none_more, not_lacking}
 use Rattle.dj_loader.proofs.lacking.first_lacking.Goals as goal
 
 pub loop-class-preserved : goal.loop-class-preserved

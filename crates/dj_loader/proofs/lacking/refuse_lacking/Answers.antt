@@ -1,5 +1,5 @@
 use Rattle.std.proofs.Common.{Some, ap, ◌∙◌}
-use Rattle.dj_loader.proofs.Told.{least_lacking, never_lacking}
+use Rattle.dj_loader.proofs.Reported.{least_lacking, never_lacking}
 use Rattle.dj_loader.proofs.lacking.refuse_lacking.Goals as goal
 
 pub returns-in_ok-name-in-Some-clause-refused : goal.returns-in_ok-name-in-Some-clause-refused

@@ -21,7 +21,7 @@ returns-in-Ok g c =
     let all = c.in_ok-value.ensures.top ∙ ap (λ (rest : List Value). c.in_ok-value.value ∷ rest) under in
     record {
       effect = puts _ c.args.field.kind c.args.field.place c.args.heap.now c.put_bits.new.heap (top_operands c.args.frames.now) (top_operands c.pop-2.new.frames)
-          c.in-Some-Ref.r c.in-Ok.count c.field_bits.result c.in_ok-value.value all c.if-not-is_of_kind.ensures c.in-Ok.ensures.told c.in-Ok.ensures.there
+          c.in-Some-Ref.r c.in-Ok.count c.field_bits.result c.in_ok-value.value all c.if-not-is_of_kind.ensures c.in-Ok.ensures.reported c.in-Ok.ensures.there
           c.field_bits.ensures c.put_bits.ensures;
       limit = puts_limit c.args.heap.now c.put_bits.new.heap c.in-Some-Ref.r c.in-Ok.count c.args.field.place c.field_bits.result c.in-Ok.ensures.there c.put_bits.ensures;
       frames = both_same _ _ _ c.in_ok-value.ensures.rest c.in-Some-Ref.ensures.rest;
@@ -34,7 +34,7 @@ returns-in-Err g c =
     let all = c.in_ok-value.ensures.top ∙ ap (λ (rest : List Value). c.in_ok-value.value ∷ rest) under in
     record {
       effect = puts_nothing _ c.args.field.kind c.args.field.place c.args.heap.now.heap c.args.frames.now c.pop-2.new.frames (top_operands c.pop-2.new.frames)
-          c.in-Some-Ref.r c.in_ok-value.value c.in-Err.flow all c.if-not-is_of_kind.ensures c.in-Err.ensures.told;
+          c.in-Some-Ref.r c.in_ok-value.value c.in-Err.flow all c.if-not-is_of_kind.ensures c.in-Err.ensures.reported;
       limit = refl;
       frames = both_same _ _ _ c.in_ok-value.ensures.rest c.in-Some-Ref.ensures.rest;
     }

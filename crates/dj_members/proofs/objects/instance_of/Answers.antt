@@ -3,7 +3,7 @@ use Rattle.dj_names.specs.declared.run.Value.{Value}
 use Rattle.dj_names.specs.declared.run.Value.TheVariants as values
 use Rattle.dj_stack.specs.Frames.{top_operands}
 use Rattle.dj_effects.proofs.Frames.{both_same}
-use Rattle.dj_members.proofs.ObjectFacts.{tells_instance}
+use Rattle.dj_members.proofs.ObjectFacts.{says_instance}
 use Rattle.dj_members.proofs.objects.instance_of.Goals as goal
 
 pub returns : goal.returns
@@ -11,7 +11,7 @@ returns g c =
     let all : top_operands c.args.frames.now ≡ values.Ref c.in-Some-Ref.r ∷ top_operands c.pop.new.frames =
     c.in-Some-Ref.ensures.top ∙ ap (λ (v : Value). v ∷ top_operands c.pop.new.frames) c.in-Some-Ref.field-0-is in
     record {
-      effect = tells_instance _ c.args.heap.now.heap (top_operands c.args.frames.now) (top_operands c.pop.new.frames) (top_operands c.push_value.new.self) c.in-Some-Ref.r
+      effect = says_instance _ c.args.heap.now.heap (top_operands c.args.frames.now) (top_operands c.pop.new.frames) (top_operands c.push_value.new.self) c.in-Some-Ref.r
           c.instance_value.result all c.instance_value.ensures c.push_value.ensures.operands;
       limit = refl;
       frames = both_same _ _ _ c.in-Some-Ref.ensures.rest c.push_value.ensures.rest;

@@ -5,7 +5,7 @@ use Rattle.dj_names.specs.declared.descriptor.Ty.{Ty}
 use Rattle.dj_names.specs.trusted.Descriptors.{type_slots}
 use Rattle.dj_names.specs.trusted.DescReading.{params_read}
 use Rattle.dj_names.specs.DescReading.{is_memory}
-use Rattle.dj_names.proofs.DescLaws.{with_front, read_one_more, read_fails, read_is_full}
+use Rattle.dj_names.proofs.DescLaws.{with_prefix, read_one_more, read_fails, read_is_full}
 use Rattle.dj_names.proofs.read.params_of.Goals as goal
 
 pub loop-preserved : goal.loop-preserved
@@ -16,8 +16,8 @@ loop-preserved c =
     record {
       few = omega arith;
       reads =
-          ap (λ (ps : List Ty). with_front ps (params_read (length c.args.bytes.now - (c.loop.counter + 1)) (c.loop.slots + c.type_slots_of-slots.result) c.in_ok-ty.after.now)) c.in_ok-push.ensures.ok
-          ∙ ap (λ (n : ℕ). with_front (c.loop.params ++ c.in_ok-ty.ty ∷ []) (params_read (length c.args.bytes.now - (c.loop.counter + 1)) (c.loop.slots + n) c.in_ok-ty.after.now)) slots
+          ap (λ (ps : List Ty). with_prefix ps (params_read (length c.args.bytes.now - (c.loop.counter + 1)) (c.loop.slots + c.type_slots_of-slots.result) c.in_ok-ty.after.now)) c.in_ok-push.ensures.ok
+          ∙ ap (λ (n : ℕ). with_prefix (c.loop.params ++ c.in_ok-ty.ty ∷ []) (params_read (length c.args.bytes.now - (c.loop.counter + 1)) (c.loop.slots + n) c.in_ok-ty.after.now)) slots
           ∙ step;
     }
 

@@ -2,9 +2,9 @@ use Rattle.std.proofs.Common.{◌≡◌, ◌-◌}
 use Rattle.dj_bytes.specs.Reading.{many_at}
 use Rattle.dj_ops.specs.Reading.{pair_at}
 use Rattle.dj_bytes.specs.Views.{cursor_of}
-use Rattle.dj_bytes.proofs.Loop.{with_front}
+use Rattle.dj_bytes.proofs.Loop.{with_prefix}
 use Rattle.dj_ops.proofs.switches.read_pair_list.Given as goal
 
 abbrev pub invariant-loop : goal.invariant-loop
 invariant-loop l =
-    with_front l.pairs.items (many_at (pair_at l.fn.at) (l.count - l.counter) (cursor_of l.after)) ≡ many_at (pair_at l.fn.at) l.fn.count (cursor_of l.fn.cursor)
+    with_prefix l.pairs.items (many_at (pair_at l.fn.at) (l.count - l.counter) (cursor_of l.after)) ≡ many_at (pair_at l.fn.at) l.fn.count (cursor_of l.fn.cursor)

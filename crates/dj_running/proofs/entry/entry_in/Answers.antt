@@ -1,7 +1,7 @@
 use Rattle.std.proofs.Common.{sym, subst, ◌∙◌}
 use Rattle.dj_image.specs.Imaged.{typed_of}
 use Rattle.dj_sandbox.proofs.RawLaws.{entry_described}
-use Rattle.dj_running.proofs.EntryLaws.{number_of_type, has_class, entry_told, IsEntryOrNone}
+use Rattle.dj_running.proofs.EntryLaws.{number_of_type, has_class, entry_reported, IsEntryOrNone}
 use Rattle.dj_running.proofs.entry.entry_in.Goals as goal
 
 pub unreachable-requires : goal.unreachable-requires
@@ -12,10 +12,10 @@ resolve_method-requires c = number_of_type (typed_of c.args.image.now) c.args.en
 
 pub unreachable-requires-in-None : goal.unreachable-requires-in-None
 unreachable-requires-in-None c =
-    let told = entry_told c.args.image.now c.args.entry.now c.requires c.in-Some.class c.resolve_method.result (sym c.class_named.ensures ∙ c.in-Some.is) (c.resolve_method.ensures.found entry_described) in
-    subst (IsEntryOrNone c.args.image.now c.args.entry.now c.requires) c.in-None.is told
+    let reported = entry_reported c.args.image.now c.args.entry.now c.requires c.in-Some.class c.resolve_method.result (sym c.class_named.ensures ∙ c.in-Some.is) (c.resolve_method.ensures.found entry_described) in
+    subst (IsEntryOrNone c.args.image.now c.args.entry.now c.requires) c.in-None.is reported
 
 pub returns : goal.returns
 returns c =
-    let told = entry_told c.args.image.now c.args.entry.now c.requires c.in-Some.class c.resolve_method.result (sym c.class_named.ensures ∙ c.in-Some.is) (c.resolve_method.ensures.found entry_described) in
-    subst (IsEntryOrNone c.args.image.now c.args.entry.now c.requires) c.in-Some-resolve_method.is told
+    let reported = entry_reported c.args.image.now c.args.entry.now c.requires c.in-Some.class c.resolve_method.result (sym c.class_named.ensures ∙ c.in-Some.is) (c.resolve_method.ensures.found entry_described) in
+    subst (IsEntryOrNone c.args.image.now c.args.entry.now c.requires) c.in-Some-resolve_method.is reported

@@ -11,56 +11,56 @@ use Rattle.dj_running.proofs.loading.raw_image.Goals as goal
 
 pub load-requires-clause-described : goal.load-requires-clause-described
 load-requires-clause-described c =
-    let told : library_view c.in_ok-library.library ≡ raw_library =
+    let reported : library_view c.in_ok-library.library ≡ raw_library =
     ok_mapped c.raw.result _ (λ library. library_view library ≡ raw_library) _ c.in_ok-library.ensures.cases c.in_ok-library.ensures.variant c.raw.ensures in
-    rows_described c.in_ok-library.library told
+    rows_described c.in_ok-library.library reported
 
 pub load-requires-clause-few : goal.load-requires-clause-few
 load-requires-clause-few c =
-    let told : library_view c.in_ok-library.library ≡ raw_library =
+    let reported : library_view c.in_ok-library.library ≡ raw_library =
     ok_mapped c.raw.result _ (λ library. library_view library ≡ raw_library) _ c.in_ok-library.ensures.cases c.in_ok-library.ensures.variant c.raw.ensures in
-    let rows = few_rows c.in_ok-library.library told in
+    let rows = few_rows c.in_ok-library.library reported in
     let views = c.requires.few in
     omega (arith, rows, views)
 
 pub load-requires-clause-few_members : goal.load-requires-clause-few_members
 load-requires-clause-few_members c =
-    let told : library_view c.in_ok-library.library ≡ raw_library =
+    let reported : library_view c.in_ok-library.library ≡ raw_library =
     ok_mapped c.raw.result _ (λ library. library_view library ≡ raw_library) _ c.in_ok-library.ensures.cases c.in_ok-library.ensures.variant c.raw.ensures in
-    few_members c.in_ok-library.library c.args.views.now told c.requires.few c.requires.valid
+    few_members c.in_ok-library.library c.args.views.now reported c.requires.few c.requires.valid
 
 pub load-requires-clause-string : goal.load-requires-clause-string
 load-requires-clause-string c =
-    let told : library_view c.in_ok-library.library ≡ raw_library =
+    let reported : library_view c.in_ok-library.library ≡ raw_library =
     ok_mapped c.raw.result _ (λ library. library_view library ≡ raw_library) _ c.in_ok-library.ensures.cases c.in_ok-library.ensures.variant c.raw.ensures in
-    string_there c.in_ok-library.library told
+    string_there c.in_ok-library.library reported
 
 pub returns-in-Ok-clause-program : goal.returns-in-Ok-clause-program
 returns-in-Ok-clause-program c =
-    let told : library_view c.in_ok-library.library ≡ raw_library =
+    let reported : library_view c.in_ok-library.library ≡ raw_library =
     ok_mapped c.raw.result _ (λ library. library_view library ≡ raw_library) _ c.in_ok-library.ensures.cases c.in_ok-library.ensures.variant c.raw.ensures in
-    subst (λ (l : Library). IsProgramIn l (map class_of c.args.views.now) (program_of c.in-Ok.image)) told c.in-Ok.ensures.program
+    subst (λ (l : Library). IsProgramIn l (map class_of c.args.views.now) (program_of c.in-Ok.image)) reported c.in-Ok.ensures.program
 
 pub unreachable-requires : goal.unreachable-requires
 unreachable-requires c =
-    let told : library_view c.in_ok-library.library ≡ raw_library =
+    let reported : library_view c.in_ok-library.library ≡ raw_library =
     ok_mapped c.raw.result _ (λ library. library_view library ≡ raw_library) _ c.in_ok-library.ensures.cases c.in_ok-library.ensures.variant c.raw.ensures in
-    let memory = refused_memory c.in_ok-library.library c.args.views.now c.in-Err-Duplicate.field-0 told c.requires.loadable c.in-Err-Duplicate.ensures.refused in
+    let memory = refused_memory c.in_ok-library.library c.args.views.now c.in-Err-Duplicate.field-0 reported c.requires.loadable c.in-Err-Duplicate.ensures.refused in
     let other : errors.Memory ≡ errors.Duplicate c.in-Err-Duplicate.field-0-0 = sym memory ∙ c.in-Err-Duplicate.field-0-is in
     absurd cc
 
 pub unreachable-requires-in-Err-NoSuper : goal.unreachable-requires-in-Err-NoSuper
 unreachable-requires-in-Err-NoSuper c =
-    let told : library_view c.in_ok-library.library ≡ raw_library =
+    let reported : library_view c.in_ok-library.library ≡ raw_library =
     ok_mapped c.raw.result _ (λ library. library_view library ≡ raw_library) _ c.in_ok-library.ensures.cases c.in_ok-library.ensures.variant c.raw.ensures in
-    let memory = refused_memory c.in_ok-library.library c.args.views.now c.in-Err-NoSuper.field-0 told c.requires.loadable c.in-Err-NoSuper.ensures.refused in
+    let memory = refused_memory c.in_ok-library.library c.args.views.now c.in-Err-NoSuper.field-0 reported c.requires.loadable c.in-Err-NoSuper.ensures.refused in
     let other : errors.Memory ≡ errors.NoSuper c.in-Err-NoSuper.field-0-0 = sym memory ∙ c.in-Err-NoSuper.field-0-is in
     absurd cc
 
 pub unreachable-requires-in-Err-Cycle : goal.unreachable-requires-in-Err-Cycle
 unreachable-requires-in-Err-Cycle c =
-    let told : library_view c.in_ok-library.library ≡ raw_library =
+    let reported : library_view c.in_ok-library.library ≡ raw_library =
     ok_mapped c.raw.result _ (λ library. library_view library ≡ raw_library) _ c.in_ok-library.ensures.cases c.in_ok-library.ensures.variant c.raw.ensures in
-    let memory = refused_memory c.in_ok-library.library c.args.views.now c.in-Err-Cycle.field-0 told c.requires.loadable c.in-Err-Cycle.ensures.refused in
+    let memory = refused_memory c.in_ok-library.library c.args.views.now c.in-Err-Cycle.field-0 reported c.requires.loadable c.in-Err-Cycle.ensures.refused in
     let other : errors.Memory ≡ errors.Cycle c.in-Err-Cycle.field-0-0 = sym memory ∙ c.in-Err-Cycle.field-0-is in
     absurd cc

@@ -3,7 +3,7 @@ use Rattle.std.proofs.lemmas.Result.{err_from_is_err_and}
 use Rattle.dj_rules.specs.Views.{path_file_view}
 use Rattle.dj_host.specs.trusted.Hosted.{given_since}
 use Rattle.dj_running.proofs.GivenNothing.{gave_nothing}
-use Rattle.dj_running.proofs.RunLaws.{image_sound, image_entry, runs_unstopped, runs_raw, adds_told, adds_nothing}
+use Rattle.dj_running.proofs.RunLaws.{image_sound, image_entry, runs_unstopped, runs_raw, adds_reported, adds_nothing}
 use Rattle.dj_running.proofs.running.run_files.Goals as goal
 
 pub image_of_files-requires-clause-silent : goal.image_of_files-requires-clause-silent
@@ -34,11 +34,11 @@ returns-in-Ok-clause-ran g c =
     let files = map path_file_view c.args.files.now in
     let gave = given_since (g.H.Host.given c.args.host.now) (g.H.Host.given c.run_image.new.host) in
     runs_raw files c.args.entry.now c.in_ok-image.image c.in_ok-image.ensures c.requires.silent c.args.input.now c.args.steps gave c.in-Ok.ending c.report_of.result c.in-Ok.ensures.ran
-    c.report_of.ensures.told
+    c.report_of.ensures.reported
 
 pub returns-in-Ok-clause-runs : goal.returns-in-Ok-clause-runs
 returns-in-Ok-clause-runs g c =
     let files = map path_file_view c.args.files.now in
     let gave = given_since (g.H.Host.given c.args.host.now) (g.H.Host.given c.run_image.new.host) in
-    adds_told files c.args.entry.now c.in_ok-image.image c.in_ok-image.ensures c.requires.silent c.args.input.now c.args.steps gave
+    adds_reported files c.args.entry.now c.in_ok-image.image c.in_ok-image.ensures c.requires.silent c.args.input.now c.args.steps gave
     (g.E.Engine.runs c.args.engine.now) (g.E.Engine.runs c.run_image.new.engine) c.in-Ok.ending c.in-Ok.ensures.ran c.in-Ok.ensures.runs

@@ -15,7 +15,7 @@ judge_set-requires-clause-library c =
 pub returns : goal.returns
 returns c =
     let files = map path_file_view c.args.files.now in
-    let told : library_view c.in_ok-library.library ≡ deterministic_library =
+    let reported : library_view c.in_ok-library.library ≡ deterministic_library =
     ok_mapped c.deterministic.result _ (λ library. library_view library ≡ deterministic_library) _ c.in_ok-library.ensures.cases c.in_ok-library.ensures.variant c.deterministic.ensures in
     exactly_found (IsLineBy deterministic_library files) c.in_ok-judged.judged.found.items c.in_order.result
-    (subst (λ (l : Library). Adds (IsLineBy l files) [] c.in_ok-judged.judged.found.items) told c.in_ok-judged.ensures.lines) c.in_order.ensures.ordered c.in_order.ensures.members
+    (subst (λ (l : Library). Adds (IsLineBy l files) [] c.in_ok-judged.judged.found.items) reported c.in_ok-judged.ensures.lines) c.in_order.ensures.ordered c.in_order.ensures.members

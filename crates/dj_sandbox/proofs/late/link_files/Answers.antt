@@ -18,6 +18,6 @@ pub returns-in-Some : goal.returns-in-Some
 returns-in-Some c =
     let files = map path_file_view c.args.files.now in
     let declared = c.in-Some.declared.items in
-    let told = subst (λ (d : Option (Vec Class)). AreDeclaredOrNot files (option_map (λ classes. classes.items) d)) c.in-Some.is c.in_ok-declared.ensures in
+    let reported = subst (λ (d : Option (Vec Class)). AreDeclaredOrNot files (option_map (λ classes. classes.items) d)) c.in-Some.is c.in_ok-declared.ensures in
     let library = library_view c.args.library.now in
-    ok_so c.link_classes.result (AreLinksOf library declared) (AreLinks library files) (λ links is. are_links library files declared links told is) c.link_classes.ensures
+    ok_so c.link_classes.result (AreLinksOf library declared) (AreLinks library files) (λ links is. are_links library files declared links reported is) c.link_classes.ensures

@@ -15,8 +15,8 @@ judge_set-requires-clause-library c =
 pub returns : goal.returns
 returns c =
     let files = map path_file_view c.args.files.now in
-    let told : library_view c.in_ok-library.library ≡ raw_library =
+    let reported : library_view c.in_ok-library.library ≡ raw_library =
     ok_mapped c.raw.result _ (λ library. library_view library ≡ raw_library) _ c.in_ok-library.ensures.cases c.in_ok-library.ensures.variant c.raw.ensures in
-    let judged = subst (λ (l : Library). IsJudgedSet l files c.in_ok-judged.judged) told c.in_ok-judged.ensures in
+    let judged = subst (λ (l : Library). IsJudgedSet l files c.in_ok-judged.judged) reported c.in_ok-judged.ensures in
     exactly_found (IsRawLine files c.args.entry.now) c.in_ok-found.found.items c.in_order.result (c.in_ok-found.ensures files judged) c.in_order.ensures.ordered
     c.in_order.ensures.members

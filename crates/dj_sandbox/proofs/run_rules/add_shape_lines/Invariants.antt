@@ -1,6 +1,6 @@
 use Rattle.std.proofs.Common.{take, All}
 use Rattle.dj_report.specs.Lines.{Adds, IsLineAmong}
-use Rattle.dj_sandbox.specs.Shaped.{IsTold}
+use Rattle.dj_sandbox.specs.Shaped.{IsReported}
 use Rattle.dj_sandbox.proofs.RunRules.{IsOwnShapeLine}
 use Rattle.dj_sandbox.proofs.run_rules.add_shape_lines.Given as goal
 
@@ -8,5 +8,5 @@ use Rattle.dj_sandbox.proofs.run_rules.add_shape_lines.Given as goal
 abbrev pub invariant-loop-method : goal.invariant-loop-method
 invariant-loop-method l = record {
   lines : Adds (IsLineAmong (IsOwnShapeLine l.path) (take l.method-index l.methods)) l.initial.found.items l.found.items;
-  judged : All IsTold (take l.method-index l.methods);
+  judged : All IsReported (take l.method-index l.methods);
 }

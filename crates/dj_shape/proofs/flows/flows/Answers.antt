@@ -5,14 +5,14 @@ use Rattle.dj_shape.proofs.flows.flows.Goals as goal
 pub returns-then-not-locals_flow : goal.returns-then-not-locals_flow
 returns-then-not-locals_flow c =
     let state = c.args.state.now in
-    let told = c.args.told.now.locals in
-    (λ no. absurd cc, λ flow. absurd (let yes = c.locals_flow.ensures.1 (flow_from_all state.max_locals c.locals.result.now state.kinds.locals told told c.locals.ensures.kept refl flow.0) in cc))
+    let reported = c.args.reported.now.locals in
+    (λ no. absurd cc, λ flow. absurd (let yes = c.locals_flow.ensures.1 (flow_from_all state.max_locals c.locals.result.now state.kinds.locals reported reported c.locals.ensures.kept refl flow.0) in cc))
 
 pub returns : goal.returns
 returns c =
     let state = c.args.state.now in
-    let told = c.args.told.now.locals in
-    let flow = flow_to_all state.max_locals c.locals.result.now state.kinds.locals told told c.locals.ensures.kept refl (c.locals_flow.ensures.0 c.if-not-locals_flow.false) in (
+    let reported = c.args.reported.now.locals in
+    let flow = flow_to_all state.max_locals c.locals.result.now state.kinds.locals reported reported c.locals.ensures.kept refl (c.locals_flow.ensures.0 c.if-not-locals_flow.false) in (
       λ yes. (flow, sym c.stack.ensures ∙ ap reverse (c.same_stacks.ensures.0 yes)),
-      λ both. c.same_stacks.ensures.1 (reverse_injects c.stack.result.now c.args.told.now.stack.now (c.stack.ensures ∙ both.1)),
+      λ both. c.same_stacks.ensures.1 (reverse_injects c.stack.result.now c.args.reported.now.stack.now (c.stack.ensures ∙ both.1)),
     )

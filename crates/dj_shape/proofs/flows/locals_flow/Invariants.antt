@@ -6,8 +6,8 @@ use Rattle.dj_shape.proofs.flows.locals_flow.Given as goal
 -- those so far, from the last on, have the kinds that are known
 abbrev pub invariant-loop-slot : goal.invariant-loop-slot
 invariant-loop-slot l = record {
-  split : (done : List (Option Kind)) × (l.told ≡ l.rest ++ done);
-  flow : (slot : ℕ) (kind : Kind) → length l.rest ≤ slot → local_at l.told slot ≡ Some kind → local_at l.locals slot ≡ Some kind;
+  split : (done : List (Option Kind)) × (l.reported ≡ l.rest ++ done);
+  flow : (slot : ℕ) (kind : Kind) → length l.rest ≤ slot → local_at l.reported slot ≡ Some kind → local_at l.locals slot ≡ Some kind;
 }
 
 abbrev pub decreases-loop-slot : goal.decreases-loop-slot

@@ -48,6 +48,6 @@ returns-in-Ok c = ok_more c.judge.result _ _ (λ fault judged pool are has.
     let made = c.objects_made-made.ensures pool are ∙ ap (λ (l : List Instr). map (λ i. makes_uninitialised (instruction_in pool i)) l) c.as_slice-instrs.ensures in
     let list = has ∙ ap (λ (l : List Frame). Some l) (sym c.as_slice.ensures) in
     ok_fault pool c.args.code.now signature c.objects_made-made.result c.in_ok-reader.reader.entries.items c.as_slice.result.now list made (c.in_ok-reader.ensures.entries ∙ c.in_ok-entries.ensures) fit.0
-    c.args.kinds.now c.result.result c.in-Ok.told c.set.new.self fault are c.result.ensures
+    c.args.kinds.now c.result.result c.in-Ok.reported c.set.new.self fault are c.result.ensures
     (c.set.ensures.room.0 ∙ c.new-state.ensures.room.0 ∙ sym parts.0, c.set.ensures.room.1 ∙ c.new-state.ensures.room.1 ∙ sym parts.1) fit.1 (rw c.in-Ok.is at c.in_ok-at.ensures) judged)
     c.judge.ensures

@@ -12,5 +12,5 @@ returns c = ok_more c.first_fault.result _ _ (λ fault first case j. first case 
   gives = j.gives;
   instructions = j.instructions ∙ ap (λ (l : List Instr). map (instruction_in case.pool) l) (sym c.as_slice.ensures);
   ranges = j.ranges ∙ ap (λ (l : List Protected). map (range_in case.pool) l) (sym c.as_slice-rows.ensures);
-  frames = j.told;
+  frames = j.reported;
 }) (c.in_ok-pass.ensures case j.room j.first)) c.first_fault.ensures

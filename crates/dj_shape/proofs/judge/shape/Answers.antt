@@ -15,7 +15,7 @@ pub returns : goal.returns
 returns c = λ pool signature are is has.
     let call = are.calls c.args.desc is ∙ sym c.in-Some-call.ensures in
     let code = code_in pool (parts_of c.args.code.now) in
-    subst (λ (f : Option ShapeFault). IsShapeAnswer signature code f) (sym c.fault_told.ensures)
+    subst (λ (f : Option ShapeFault). IsShapeAnswer signature code f) (sym c.fault_reported.ensures)
     (answer_for c.args.is_static (call_signature (desc_in (name_in pool c.args.desc))) c.in-Some-call.call.now signature code c.in_ok-fault.fault call has (c.in_ok-fault.ensures pool are c.in-Some.is))
 
 pub returns-in_default-call : goal.returns-in_default-call

@@ -7,9 +7,9 @@ use Rattle.dj_shape.proofs.needs.note_all.Given as goal
 -- those so far, from the last on, are needed
 abbrev pub invariant-loop-slot : goal.invariant-loop-slot
 invariant-loop-slot l = record {
-  many : length l.told ≤ length l.needs;
-  split : (done : List (Option Kind)) × (l.told ≡ l.rest ++ done);
-  above : (slot : ℕ) → length l.rest ≤ slot → need_at l.needs slot ≡ raised (local_at l.told slot) l.end (need_at l.initial.needs slot);
+  many : length l.reported ≤ length l.needs;
+  split : (done : List (Option Kind)) × (l.reported ≡ l.rest ++ done);
+  above : (slot : ℕ) → length l.rest ≤ slot → need_at l.needs slot ≡ raised (local_at l.reported slot) l.end (need_at l.initial.needs slot);
   below : (slot : ℕ) → slot < length l.rest → need_at l.needs slot ≡ need_at l.initial.needs slot;
 }
 

@@ -38,11 +38,11 @@ pub returns-else-not-branch-2 : goal.returns-else-not-branch-2
 returns-else-not-branch-2 c =
     let old = c.args.entries.now.items in
     let gains = rw c.if-not-branch-2.false at c.in_ok-add_entries-in-Full.ensures in
-    ok_more c.operands-in-Full.result _ _ (λ stack tell max_stack max_locals.
+    ok_more c.operands-in-Full.result _ _ (λ stack say max_stack max_locals.
     let code = frame_code max_stack max_locals c.args.made.now in
     let g = gains max_stack max_locals in
     subst (λ (f : Form). ChangesTo (option_map (λ v. v.items) stack) (form_entries code old f) c.add_entries-in-Full.new.entries.items) (sym c.in-Full.is)
     (full (entries_of code c.in-Full.locals) (entries_of code c.in-Full.stack) g.0 c.add_entries-in-Full.new.entries.items (option_map (λ v. v.items) stack)
     (ap (entries_of code) (sym c.as_slice-in-Full.ensures) ∙ g.1) (g.2 ∙ ap (λ (l : List (Option Kind)). l ++ g.0) c.clear.ensures.items)
-    (tell max_stack max_locals ∙ ap (λ (l : List VType). option_and_then stack_of (entries_of code l)) c.as_slice-in-Full-2.ensures)))
+    (say max_stack max_locals ∙ ap (λ (l : List VType). option_and_then stack_of (entries_of code l)) c.as_slice-in-Full-2.ensures)))
     c.operands-in-Full.ensures

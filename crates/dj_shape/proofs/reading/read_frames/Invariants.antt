@@ -1,6 +1,6 @@
 use Rattle.std.proofs.Common.{◌≡◌, List, drop}
 use Rattle.dj_model.specs.trusted.Kinds.{Placed, frames_after}
-use Rattle.dj_shape.specs.Told.{AreTold}
+use Rattle.dj_shape.specs.Reported.{AreReported}
 use Rattle.dj_shape.specs.Reading.{IsReading, frame_code, with_all}
 use Rattle.dj_shape.proofs.reading.read_frames.Given as goal
 
@@ -11,5 +11,5 @@ invariant-loop-frame l = record {
   read : (placed : List Placed)
       × (frames_after (frame_code l.room.0 l.room.1 l.made) l.fn.reader.entries.items l.frames
       ≡ with_all placed (frames_after (frame_code l.room.0 l.room.1 l.made) l.reader.entries.items (drop l.frame-index l.frames)))
-      × AreTold l.room.0 l.room.1 placed l.reader.frames;
+      × AreReported l.room.0 l.room.1 placed l.reader.frames;
 }

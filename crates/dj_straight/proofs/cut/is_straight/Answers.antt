@@ -1,5 +1,5 @@
-use Rattle.dj_straight.proofs.StraightInstrs.{array_tells}
+use Rattle.dj_straight.proofs.StraightInstrs.{array_says}
 use Rattle.dj_straight.proofs.cut.is_straight.Goals as goal
 
 pub returns-in-Array : goal.returns-in-Array
-returns-in-Array c = array_tells c.in-Array.base c.args.instr.now c.in-Array.is
+returns-in-Array c = array_says c.in-Array.base c.args.instr.now c.in-Array.is

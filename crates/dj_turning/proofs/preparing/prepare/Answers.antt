@@ -28,7 +28,7 @@ returns-then-has_begun-clause-prepares c =
     let v : Running = record { parts = parts c.run.inside.flags (store c.run.inside.heap c.run.inside.statics c.run.inside.literals) c.run.inside.frames; counter = c.run.inside.accounter; stop = c.run.inside.stop } in
     let running : IsRunning image v = subst (IsRunning image) (sym c.run.view_is) c.requires.running in
     let used : (i : Instruction) → instruction_of_number image c.top_of-top.result.method.number c.top_of-top.result.number ≡ Some i → IsUsed image i (Some c.in-Some.class) =
-    λ i told. subst (IsUsed image i) c.in-Some.is (c.in_ok-class.ensures.used i told) in
+    λ i reported. subst (IsUsed image i) c.in-Some.is (c.in_ok-class.ensures.used i reported) in
     let within = (used c.top_of-top.ensures.stands.instruction c.top_of-top.ensures.stands.at).0 in
     subst (λ (r : Running). PreparesNext image r r prepares.Ready) c.run.view_is
     (prepared_class image v c.top_of-top.result.method.number c.top_of-top.result.number c.in-Some.class v.parts prepares.Ready running c.top_of-top.ensures used
@@ -41,11 +41,11 @@ returns-else-has_begun-clause-prepares c =
     let running : IsRunning c.args.image.now v = subst (IsRunning c.args.image.now) (sym c.run.view_is) c.requires.running in
     subst (λ (r : Running). IfOk c.initialise.result (PreparesNext c.args.image.now r (record v { parts = after }))) c.run.view_is
     (prepared_then c.args.image.now v c.top_of-top.result.method.number c.top_of-top.result.number c.in-Some.class after c.initialise.result running c.top_of-top.ensures
-    (λ i told. subst (IsUsed c.args.image.now i) c.in-Some.is (c.in_ok-class.ensures.used i told)) c.initialise.ensures.prepares (c.initialise.ensures.known running.known))
+    (λ i reported. subst (IsUsed c.args.image.now i) c.in-Some.is (c.in_ok-class.ensures.used i reported)) c.initialise.ensures.prepares (c.initialise.ensures.known running.known))
 
 pub returns-else-has_begun-clause-frugal : goal.returns-else-has_begun-clause-frugal
 returns-else-has_begun-clause-frugal c = λ n.
     let image = c.args.image.now in
     let v : Running = record { parts = parts c.run.inside.flags (store c.run.inside.heap c.run.inside.statics c.run.inside.literals) c.run.inside.frames; counter = c.run.inside.accounter; stop = c.run.inside.stop } in
     absurd (never_waits image c.requires.kept.sound.formed v c.top_of-top.result.method.number c.top_of-top.result.number c.in-Some.class c.top_of-top.ensures
-    (λ i told. subst (IsUsed image i) c.in-Some.is (c.in_ok-class.ensures.used i told)) (sym c.has_begun.ensures ∙ c.if-has_begun.false) (subst (IsFrugalRun image) (sym c.run.view_is) n))
+    (λ i reported. subst (IsUsed image i) c.in-Some.is (c.in_ok-class.ensures.used i reported)) (sym c.has_begun.ensures ∙ c.if-has_begun.false) (subst (IsFrugalRun image) (sym c.run.view_is) n))

@@ -15,13 +15,13 @@ class_of_operand-requires c = (
 )
 
 pub returns-clause-used : goal.returns-clause-used
-returns-clause-used c = λ i told.
+returns-clause-used c = λ i reported.
     let named = c.instr_of-instr.ensures.0 in
     named_then c.args.image.now c.args.method.number c.args.number c.instr_of-instr.result.now named c.class_of_operand.result c.instr_of-instr.ensures.1
     (c.class_of_operand.ensures.used named
-    (operand_named c.args.image.now c.args.method.number c.args.number c.instr_of-instr.result.now named c.operand-operand.result c.requires.sound c.instr_of-instr.ensures.1 c.operand-operand.ensures)) i told
+    (operand_named c.args.image.now c.args.method.number c.args.number c.instr_of-instr.result.now named c.operand-operand.result c.requires.sound c.instr_of-instr.ensures.1 c.operand-operand.ensures)) i reported
 
 pub returns-clause-frugal : goal.returns-clause-frugal
-returns-clause-frugal c = λ i told none known.
+returns-clause-frugal c = λ i reported none known.
     c.class_of_operand.ensures.frugal (given_operand c.args.image.now c.is_numbered.ensures c.args.method.number c.args.number c.instr_of-instr.result.now c.instr_of-instr.ensures.0 c.operand-operand.result i
-    c.requires.sound c.instr_of-instr.ensures.1 c.operand-operand.ensures told none known)
+    c.requires.sound c.instr_of-instr.ensures.1 c.operand-operand.ensures reported none known)

@@ -3,7 +3,7 @@ use Rattle.std.specs.Prelude.{slice_get}
 use Rattle.dj_types.specs.Members.{all_fields}
 use Rattle.dj_types.specs.Numbered.{AreMemberClasses, IsStartOf}
 use Rattle.dj_types.proofs.Placed.{place_of_field}
-use Rattle.dj_types.proofs.Sums.{IsFieldPlace, own_within, place_told}
+use Rattle.dj_types.proofs.Sums.{IsFieldPlace, own_within, place_reported}
 use Rattle.dj_types.proofs.places.object_place.Goals as goal
 use Rattle.dj_types.proofs.places.object_place.Goals.{After-instance_fields_before}
 
@@ -33,7 +33,7 @@ known : (c : After-instance_fields_before) → IsFieldPlace c.args.table.now (sl
 known c =
     let place = (place_of_field c.args.table.now c.args.members.now.field_starts.items c.args.field c.place_at-class.result c.requires.members.fields c.requires.there
     (subst (λ (starts : List ℕ). IsStartOf starts c.args.field c.place_at-class.result) c.deref.ensures.value c.place_at-class.ensures)) in
-    place_told c.args.table.now c.args.members.now.field_sums.items c.place_at-class.result (slice_get (all_fields c.args.table.now) c.args.field) c.index.result.now c.instance_fields.result c.instance_fields_before.result
+    place_reported c.args.table.now c.args.members.now.field_sums.items c.place_at-class.result (slice_get (all_fields c.args.table.now) c.args.field) c.index.result.now c.instance_fields.result c.instance_fields_before.result
     c.requires.members.sums c.names_differ.ensures place.there place.within place.is c.index.ensures c.instance_fields.ensures c.instance_fields_before.ensures
 
 pub overflow_add-result : goal.overflow_add-result

@@ -18,9 +18,9 @@ returns-then-branch-clause-found c =
     let rows = c.as_slice-row-items.result.now in
     let stands : slice_get c.args.code.now.code.ranges at ≡ Some (get_or rows at none) =
     ap (λ (xs : List Protected). slice_get xs at) (sym c.as_slice-row-items.ensures) ∙ slice_get-get_or rows at none c.loop-at-test.true in
-    let is : IsRowOf image c.args.method.number at (get_or rows at none) = record { code = c.args.code.now; told = c.requires.told; stands = stands } in
+    let is : IsRowOf image c.args.method.number at (get_or rows at none) = record { code = c.args.code.now; reported = c.requires.reported; stands = stands } in
     found_here image c.args.method.number (type_at (typed_of image) c.args.class) c.args.number at (get_or rows at none) is c.loop-at.invariant
-    (λ range e. sym c.if-branch.true ∙ c.in_ok-handles.ensures.tells range e)
+    (λ range e. sym c.if-branch.true ∙ c.in_ok-handles.ensures.says range e)
 
 pub loop-at-preserved : goal.loop-at-preserved
 loop-at-preserved c =
@@ -29,13 +29,13 @@ loop-at-preserved c =
     let rows = c.as_slice-row-items.result.now in
     let stands : slice_get c.args.code.now.code.ranges at ≡ Some (get_or rows at none) =
     ap (λ (xs : List Protected). slice_get xs at) (sym c.as_slice-row-items.ensures) ∙ slice_get-get_or rows at none c.loop-at-test.true in
-    let is : IsRowOf image c.args.method.number at (get_or rows at none) = record { code = c.args.code.now; told = c.requires.told; stands = stands } in
+    let is : IsRowOf image c.args.method.number at (get_or rows at none) = record { code = c.args.code.now; reported = c.requires.reported; stands = stands } in
     passed_here image c.args.method.number (type_at (typed_of image) c.args.class) c.args.number at (get_or rows at none) is c.loop-at.invariant
-    (λ range e. sym c.if-branch.false ∙ c.in_ok-handles.ensures.tells range e)
+    (λ range e. sym c.if-branch.false ∙ c.in_ok-handles.ensures.says range e)
 
 pub returns-clause-found : goal.returns-clause-found
 returns-clause-found c =
     let image = c.args.image.now in
     let items = c.as_slice-row-items.ensures in
-    found_nowhere image c.args.method.number (type_at (typed_of image) c.args.class) c.args.number c.loop-at.at c.args.code.now c.requires.told c.loop-at.invariant
+    found_nowhere image c.args.method.number (type_at (typed_of image) c.args.class) c.args.number c.loop-at.at c.args.code.now c.requires.reported c.loop-at.invariant
     (omega (arith, ap (λ (xs : List Protected). length xs) items))

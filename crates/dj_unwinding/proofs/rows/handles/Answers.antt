@@ -8,8 +8,8 @@ use Rattle.dj_unwinding.proofs.ShortLaws.{row_numbered}
 use Rattle.dj_unwinding.proofs.rows.handles.Goals as goal
 use Rattle.dj_unwinding.proofs.rows.handles.Goals.{then-number-row-via-then-number-row, then-number-row-via-else-number-row+then-row-number}
 
-pub returns-then-number-row-clause-tells : goal.returns-then-number-row-clause-tells
-returns-then-number-row-clause-tells c = λ range e.
+pub returns-then-number-row-clause-says : goal.returns-then-number-row-clause-says
+returns-then-number-row-clause-says c = λ range e.
     let image = c.args.image.now in
     let class = type_at (typed_of image) c.args.class in
     elim c.then-number-row.branch [
@@ -17,14 +17,14 @@ returns-then-number-row-clause-tells c = λ range e.
       | then-number-row-via-else-number-row+then-row-number w ↦ after_row image c.args.method.number c.args.at c.args.row.now c.requires.row class c.args.number range e w.if-row-number.true
     ]
 
-pub returns-then-row-eq0-clause-tells : goal.returns-then-row-eq0-clause-tells
-returns-then-row-eq0-clause-tells c = λ range e.
+pub returns-then-row-eq0-clause-says : goal.returns-then-row-eq0-clause-says
+returns-then-row-eq0-clause-says c = λ range e.
     let image = c.args.image.now in
     any_row image c.args.method.number c.args.at c.args.row.now c.requires.row (type_at (typed_of image) c.args.class) c.args.number range e
     c.if-number-row.false c.if-row-number.false c.if-row-eq0.true
 
-pub returns-clause-tells : goal.returns-clause-tells
-returns-clause-tells c = λ range e.
+pub returns-clause-says : goal.returns-clause-says
+returns-clause-says c = λ range e.
     let image = c.args.image.now in
     let class = type_at (typed_of image) c.args.class in
     let same : c.args.at ≡ c.in-Ok.at = sym (c.in-Ok.ensures {u = tt}).1 in

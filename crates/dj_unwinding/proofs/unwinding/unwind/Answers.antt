@@ -5,8 +5,8 @@ use Rattle.dj_unwinding.specs.declared.unwinding.Unwound.TheVariants as unwinds
 use Rattle.dj_unwinding.proofs.Frames.{unwound_then, left_last}
 use Rattle.dj_unwinding.proofs.unwinding.unwind.Goals as goal
 
-pub returns-clause-told : goal.returns-clause-told
-returns-clause-told c =
+pub returns-clause-reported : goal.returns-clause-reported
+returns-clause-reported c =
     let image = c.args.image.now in
     let class = type_at (typed_of image) c.args.class in
     unwound_then image class c.args.exception c.args.frames.now c.loop-frames.frames c.loop-frames.frames unwinds.Threw c.loop-frames.invariant.same

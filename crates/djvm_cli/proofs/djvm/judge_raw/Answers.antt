@@ -5,7 +5,7 @@ use Rattle.dj_report.specs.trusted.Stages.{IsDecided}
 use Rattle.dj_host.specs.trusted.Hosted.{given_since}
 use Rattle.dj_sandbox.specs.trusted.Entry.{entry_name}
 use Rattle.dj_sandbox.specs.trusted.Judging.{raw_stages}
-use Rattle.djvm_cli.proofs.Leaving.{raw_unmade, raw_told, raw_stopped}
+use Rattle.djvm_cli.proofs.Leaving.{raw_unmade, raw_reported, raw_stopped}
 use Rattle.djvm_cli.proofs.djvm.judge_raw.Goals as goal
 
 pub returns-in_err-class-clause-leaves : goal.returns-in_err-class-clause-leaves
@@ -22,7 +22,7 @@ returns-clause-decided g c =
 pub returns-clause-leaves : goal.returns-clause-leaves
 returns-clause-leaves g c =
     let class_is : c.as_slice.result.now ≡ entry_name c.args.entry.now = c.as_slice.ensures ∙ c.in_ok-class.ensures in
-    raw_told c.args.set.now c.as_slice.result.now (entry_name c.args.entry.now) class_is c.args.input.now c.args.steps (g.H.Host.given c.args.host.now) (g.H.Host.given c.raw.new.host)
+    raw_reported c.args.set.now c.as_slice.result.now (entry_name c.args.entry.now) class_is c.args.input.now c.args.steps (g.H.Host.given c.args.host.now) (g.H.Host.given c.raw.new.host)
     (g.E.Engine.runs c.args.engine.now) (g.E.Engine.runs c.raw.new.engine) c.in_ok-raw.ensures.quiet c.in_ok-raw.ensures.gave c.in_ok-raw.field-0 c.in_ok-raw.ensures.runs
 
 pub returns-in_err-raw-clause-leaves : goal.returns-in_err-raw-clause-leaves

@@ -12,5 +12,5 @@ invariant-loop-path g l = record {
   paths : map (λ file. string_bytes file.path) l.read.items ≡ take l.path-index (map string_bytes l.paths);
   within : AreWithin (map source_view l.read.items);
   total : l.total ≡ total_bytes (map source_view l.read.items);
-  told : IfSome (g.F.Files.held l.initial.files) (λ h. map source_view l.read.items ≡ take l.path-index (files_at h (map string_bytes l.paths)));
+  reported : IfSome (g.F.Files.held l.initial.files) (λ h. map source_view l.read.items ≡ take l.path-index (files_at h (map string_bytes l.paths)));
 }

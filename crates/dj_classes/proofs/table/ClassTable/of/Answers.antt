@@ -10,10 +10,10 @@ use Rattle.dj_classes.proofs.table.ClassTable.of.Goals as goal
 
 pub returns-in-Some-clause-refused : goal.returns-in-Some-clause-refused
 returns-in-Some-clause-refused c name e =
-    let told : c.in-Some.name.now ≡ name = sym c.in_ok-from_slice.ensures ∙ duplicate_name c.in_ok-from_slice.field-0 name e in
+    let reported : c.in-Some.name.now ≡ name = sym c.in_ok-from_slice.ensures ∙ duplicate_name c.in_ok-from_slice.field-0 name e in
     let rows : Program = c.put_in_order.new.classes.items in
     least_shared_moved c.args.classes.items rows c.put_in_order.ensures.moved name
-    (subst (λ (n : Name). IsLeastShared rows n) told (subst (λ (p : Program). IsLeastShared p c.in-Some.name.now) c.deref.ensures.value c.in-Some.ensures))
+    (subst (λ (n : Name). IsLeastShared rows n) reported (subst (λ (p : Program). IsLeastShared p c.in-Some.name.now) c.deref.ensures.value c.in-Some.ensures))
 
 pub invariant_of-result : goal.invariant_of-result
 invariant_of-result c = record {

@@ -1,6 +1,6 @@
 use Rattle.dj_declared.specs.MemberRows.{row_field}
 use Rattle.dj_declared.specs.Members.{field_name}
-use Rattle.dj_declared.proofs.CountLaws.{sound_at, told_at}
+use Rattle.dj_declared.proofs.CountLaws.{sound_at, reported_at}
 use Rattle.dj_declared.proofs.tables.ClassMembers.field_name.Goals as goal
 
 pub text-requires : goal.text-requires
@@ -11,4 +11,4 @@ text-requires c =
 pub returns : goal.returns
 returns c =
     let members = c.args.self.now in
-    told_at (row_field members.texts) field_name members.fields.rows.items c.args.place c.row.result c.text.result.now c.row.ensures c.text.ensures
+    reported_at (row_field members.texts) field_name members.fields.rows.items c.args.place c.row.result c.text.result.now c.row.ensures c.text.ensures

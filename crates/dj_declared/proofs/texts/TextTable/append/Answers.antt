@@ -1,6 +1,6 @@
 use Rattle.std.proofs.Common.{◌≡◌, ◌<◌, List, ℕ, Some, length, sym, subst, arith}
 use Rattle.dj_declared.specs.Texts.{number_in, texts_from, AreBefore}
-use Rattle.dj_declared.proofs.TextLaws.{Holds, holds_same, holds_more, keep_more, told_more, on_both}
+use Rattle.dj_declared.proofs.TextLaws.{Holds, holds_same, holds_more, keep_more, reported_more, on_both}
 use Rattle.dj_declared.proofs.texts.TextTable.append.Goals as goal
 
 pub invariant_of-self-inside : goal.invariant_of-self-inside
@@ -20,13 +20,13 @@ invariant_of-self-inside c =
     (λ bytes_is ends_is. holds_same ends bytes new_ends new_bytes holds bytes_is ends_is) in
     (after.few, (after.ended, (after.ascend, tt)))
 
-pub returns-clause-told : goal.returns-clause-told
-returns-clause-told c =
+pub returns-clause-reported : goal.returns-clause-reported
+returns-clause-reported c =
     let ends = c.self.inside.ends.items in
     let bytes = c.self.inside.bytes.items in
     let holds : Holds c.self.inside.ends.items c.self.inside.bytes.items = record { few = c.self.inside.few; ended = c.self.inside.ended; ascend = c.self.inside.ascend } in
     let before : AreBefore (texts_from 0 c.self.inside.ends.items c.self.inside.bytes.items) c.args.text.now = subst (λ (ts : List (List ℕ)). AreBefore ts c.args.text.now) (sym c.self.view_is) c.requires in
-    told_more ends bytes c.push_text.new.ends.items c.push_text.new.bytes.items c.args.text.now c.in-Ok.number holds before c.in_ok-push_text.ensures.ok.0 c.in_ok-push_text.ensures.ok.1
+    reported_more ends bytes c.push_text.new.ends.items c.push_text.new.bytes.items c.args.text.now c.in-Ok.number holds before c.in_ok-push_text.ensures.ok.0 c.in_ok-push_text.ensures.ok.1
     (omega (arith, c.in-Ok.ensures.1, c.len.ensures))
 
 pub returns-clause-keeps : goal.returns-clause-keeps

@@ -24,8 +24,8 @@ returns-clause-named c =
 pub returns-clause-whole : goal.returns-clause-whole
 returns-clause-whole c =
     subst (λ (d : Numbering). (class place : ℕ) (name : Name) (desc : Desc) → class < length d.program → method_place (methods_at d.program class) name desc ≡ Some place → IsThere c.deref.result.now class place) c.self.view_is
-    (λ class place name desc less told. subst (λ (rows : List MemberRow). IsThere rows class place) (sym c.deref.ensures.value)
-    (first_method_there c.self.inside.table.now c.self.inside.numbers c.self.inside.methods.items c.self.inside.fields.items c.self.inside.first_methods.items c.self.inside.first_fields.items c.self.invariant class place name desc less told))
+    (λ class place name desc less reported. subst (λ (rows : List MemberRow). IsThere rows class place) (sym c.deref.ensures.value)
+    (first_method_there c.self.inside.table.now c.self.inside.numbers c.self.inside.methods.items c.self.inside.fields.items c.self.inside.first_methods.items c.self.inside.first_fields.items c.self.invariant class place name desc less reported))
 
 pub returns-clause-once : goal.returns-clause-once
 returns-clause-once c = subst RowsDiffer (sym c.deref.ensures.value) c.self.invariant.first_methods_are.once

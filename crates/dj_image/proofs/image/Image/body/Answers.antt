@@ -10,10 +10,10 @@ use Rattle.dj_image.proofs.Standing.{stands, method_within_like}
 use Rattle.dj_image.proofs.KeptPlaces.{IsLentBody, body_now}
 use Rattle.dj_image.proofs.image.Image.body.Goals as goal
 
-lent_by : (a : Option NativeId) (b : Option MethodCode) (native : Option NativeId) (code : Option MethodCode) → a ≡ native → b ≡ code → (told : bodies.Body)
-    → IsLentBody a b told → IsLentBody native code told
-lent_by a b native code e f told lent =
-    subst (λ (x : Option MethodCode). IsLentBody native x told) f (subst (λ (x : Option NativeId). IsLentBody x b told) e lent)
+lent_by : (a : Option NativeId) (b : Option MethodCode) (native : Option NativeId) (code : Option MethodCode) → a ≡ native → b ≡ code → (reported : bodies.Body)
+    → IsLentBody a b reported → IsLentBody native code reported
+lent_by a b native code e f reported lent =
+    subst (λ (x : Option MethodCode). IsLentBody native x reported) f (subst (λ (x : Option NativeId). IsLentBody x b reported) e lent)
 
 pub place_of_method-place-requires : goal.place_of_method-place-requires
 place_of_method-place-requires c = method_within_like (stands c.self.view_is c.self.invariant) c.args.method.number c.requires

@@ -10,15 +10,15 @@ place_of_field-place-requires c = field_within_like (stands c.self.view_is c.sel
 
 pub unreachable-requires : goal.unreachable-requires
 unreachable-requires c =
-    let told = constant_now c.self.view_is c.self.invariant c.args.field.number c.place_of_field-place.result c.place_of_field-place.ensures
+    let reported = constant_now c.self.view_is c.self.invariant c.args.field.number c.place_of_field-place.result c.place_of_field-place.ensures
     c.deref.result.now c.deref.ensures.value c.constant_at.result c.constant_at.ensures in
-    let e : None ≡ Some told.0 = sym c.in-None.is ∙ told.1 in
+    let e : None ≡ Some reported.0 = sym c.in-None.is ∙ reported.1 in
     absurd cc
 
 pub returns : goal.returns
 returns c =
-    let told = constant_now c.self.view_is c.self.invariant c.args.field.number c.place_of_field-place.result c.place_of_field-place.ensures
+    let reported = constant_now c.self.view_is c.self.invariant c.args.field.number c.place_of_field-place.result c.place_of_field-place.ensures
     c.deref.result.now c.deref.ensures.value c.constant_at.result c.constant_at.ensures in
-    let e : Some c.in-Some.operand ≡ Some told.0 = sym c.in-Some.is ∙ told.1 in
-    let same : told.0 ≡ c.in-Some.operand = cc in
-    subst (λ (o : Operand). IsConstantAt c.args.self.now c.args.field.number o) same told.2
+    let e : Some c.in-Some.operand ≡ Some reported.0 = sym c.in-Some.is ∙ reported.1 in
+    let same : reported.0 ≡ c.in-Some.operand = cc in
+    subst (λ (o : Operand). IsConstantAt c.args.self.now c.args.field.number o) same reported.2

@@ -9,17 +9,17 @@ place_of_method-place-requires c = instr_within c.self.view_is c.self.invariant 
 
 pub unreachable-requires : goal.unreachable-requires
 unreachable-requires c =
-    let told = operand_now c.self.view_is c.self.invariant c.args.method.number c.args.number c.place_of_method-place.result c.place_of_method-place.ensures c.requires
+    let reported = operand_now c.self.view_is c.self.invariant c.args.method.number c.args.number c.place_of_method-place.result c.place_of_method-place.ensures c.requires
     c.deref.result.now c.deref-2.result.now c.deref-3.result.now c.deref.ensures.value c.deref-2.ensures.value c.deref-3.ensures.value
     c.operand_there.result c.operand_there.ensures in
-    let e : None ≡ Some told.0 = sym c.in-None.is ∙ told.1 in
+    let e : None ≡ Some reported.0 = sym c.in-None.is ∙ reported.1 in
     absurd cc
 
 pub returns : goal.returns
 returns c =
-    let told = operand_now c.self.view_is c.self.invariant c.args.method.number c.args.number c.place_of_method-place.result c.place_of_method-place.ensures c.requires
+    let reported = operand_now c.self.view_is c.self.invariant c.args.method.number c.args.number c.place_of_method-place.result c.place_of_method-place.ensures c.requires
     c.deref.result.now c.deref-2.result.now c.deref-3.result.now c.deref.ensures.value c.deref-2.ensures.value c.deref-3.ensures.value
     c.operand_there.result c.operand_there.ensures in
-    let e : Some c.in-Some.operand ≡ Some told.0 = sym c.in-Some.is ∙ told.1 in
-    let same : told.0 ≡ c.in-Some.operand = cc in
-    subst (λ (o : Operand). IsOperandAt c.args.self.now c.args.method.number c.args.number o) same told.2
+    let e : Some c.in-Some.operand ≡ Some reported.0 = sym c.in-Some.is ∙ reported.1 in
+    let same : reported.0 ≡ c.in-Some.operand = cc in
+    subst (λ (o : Operand). IsOperandAt c.args.self.now c.args.method.number c.args.number o) same reported.2

@@ -8,7 +8,7 @@ use Rattle.dj_linking.specs.Linked.{Linked, prefix_of, resolved_field}
 use Rattle.dj_linking.specs.Chained.{AreFieldChains}
 use Rattle.dj_linking.specs.Numbers.{AreAbove, lists_of}
 use Rattle.dj_linking.specs.Shared.{HaveFieldMarks}
-use Rattle.dj_linking.proofs.Numbered.{FieldTells}
+use Rattle.dj_linking.proofs.Numbered.{FieldSays}
 use Rattle.dj_linking.proofs.Resolution.{field_resolved}
 use Rattle.dj_linking.proofs.linker.Linker.resolve_numbered_field.Goals as goal
 
@@ -31,7 +31,7 @@ field_up-requires-clause-fields c =
 pub returns : goal.returns
 returns c n d h =
     let same : c.args.directory.now.program ≡ c.self.inside.table = c.requires.same ∙ ap (λ (linked : Linked). linked.program) (sym c.self.view_is) in
-    let told = subst (λ (p : Program). FieldTells c.args.class n (desc_in d) c.field_up.result p) same (c.field_up.ensures n d h) in
+    let reported = subst (λ (p : Program). FieldSays c.args.class n (desc_in d) c.field_up.result p) same (c.field_up.ensures n d h) in
     subst (λ (linked : Linked). option_map (field_there linked.program) c.field_up.result ≡ option_map Some (resolved_field linked c.args.class n d)) c.self.view_is
-    (told ∙ ap (option_map Some) (sym (field_resolved (record { program = c.self.inside.table; prefix = prefix_of c.self.inside.base }) c.args.class n d
+    (reported ∙ ap (option_map Some) (sym (field_resolved (record { program = c.self.inside.table; prefix = prefix_of c.self.inside.base }) c.args.class n d
     c.names_differ.ensures (subst (λ (linked : Linked). c.args.class < length linked.program) (sym c.self.view_is) c.requires.there))))

@@ -10,7 +10,7 @@ use Rattle.dj_linking.specs.Chained.{AreMethodChains}
 use Rattle.dj_linking.specs.Numbers.{AreAbove, lists_of}
 use Rattle.dj_linking.specs.Ranked.{AreRanksOf}
 use Rattle.dj_linking.specs.Shared.{HavePlainMarks, HaveRankMarks}
-use Rattle.dj_linking.proofs.Numbered.{FirstTells, AboveTells}
+use Rattle.dj_linking.proofs.Numbered.{FirstSays, AboveSays}
 use Rattle.dj_linking.proofs.Resolution.{method_here, method_above, object_within}
 use Rattle.dj_linking.proofs.linker.Linker.resolve_numbered_method.Goals as goal
 
@@ -49,17 +49,17 @@ plain_method_up-requires-clause-methods c =
 pub returns-in-Some : goal.returns-in-Some
 returns-in-Some c n d h =
     let same : c.args.directory.now.program ≡ c.self.inside.table = c.requires.same ∙ ap (λ (linked : Linked). linked.program) (sym c.self.view_is) in
-    let told = subst (λ (p : Program). FirstTells c.self.inside.object c.args.class n (desc_in d) (Some c.in-Some.place) p) same (c.in-Some.ensures n d h) in
+    let reported = subst (λ (p : Program). FirstSays c.self.inside.object c.args.class n (desc_in d) (Some c.in-Some.place) p) same (c.in-Some.ensures n d h) in
     subst (λ (linked : Linked). Some (method_there linked.program c.in-Some.place) ≡ option_map Some (resolved_method linked c.args.class n d)) c.self.view_is
     (method_here (record { program = c.self.inside.table; prefix = prefix_of c.self.inside.base }) c.args.class n d c.self.inside.object (method_there c.self.inside.table c.in-Some.place)
     c.names_differ.ensures (subst (λ (linked : Linked). c.args.class < length linked.program) (sym c.self.view_is) c.requires.there)
-    c.self.inside.named told)
+    c.self.inside.named reported)
 
 pub returns-in-None : goal.returns-in-None
 returns-in-None c n d h =
     let same : c.args.directory.now.program ≡ c.self.inside.table = c.requires.same ∙ ap (λ (linked : Linked). linked.program) (sym c.self.view_is) in
-    let first = subst (λ (p : Program). FirstTells c.self.inside.object c.args.class n (desc_in d) None p) same (c.in-None.ensures n d h) in
-    let above = subst (λ (p : Program). AboveTells c.args.class n (desc_in d) c.plain_method_up.result p) same (c.plain_method_up.ensures n d h) in
+    let first = subst (λ (p : Program). FirstSays c.self.inside.object c.args.class n (desc_in d) None p) same (c.in-None.ensures n d h) in
+    let above = subst (λ (p : Program). AboveSays c.args.class n (desc_in d) c.plain_method_up.result p) same (c.plain_method_up.ensures n d h) in
     subst (λ (linked : Linked). option_map (method_there linked.program) c.plain_method_up.result ≡ option_map Some (resolved_method linked c.args.class n d)) c.self.view_is
     (method_above (record { program = c.self.inside.table; prefix = prefix_of c.self.inside.base }) c.args.class n d c.self.inside.object
     (option_map (method_there c.self.inside.table) c.plain_method_up.result)

@@ -3,7 +3,7 @@ use Rattle.dj_names.specs.declared.descriptor.Ty.{Ty}
 use Rattle.dj_model.specs.trusted.Linking.{FoundMethod, member_class, select}
 use Rattle.dj_classes.specs.Tables.{class_number, methods_at, method_there}
 use Rattle.dj_linking.specs.Linked.{Linked, prefix_of}
-use Rattle.dj_linking.specs.Numbers.{TellsMethod}
+use Rattle.dj_linking.specs.Numbers.{SaysMethod}
 use Rattle.dj_linking.proofs.Selections.{select_numbers}
 use Rattle.dj_linking.proofs.linker.Linker.select.Goals as goal
 
@@ -20,7 +20,7 @@ pub returns : goal.returns
 returns c =
     subst
     (λ (linked : Linked). (found : FoundMethod) (ty : Ty) → method_there linked.program c.args.resolved ≡ Some found → c.args.class ≡ class_number linked.program (member_class linked.prefix ty)
-    → TellsMethod linked.program c.selected_method.result (select linked.program linked.prefix found ty))
+    → SaysMethod linked.program c.selected_method.result (select linked.program linked.prefix found ty))
     c.self.view_is
-    (λ found ty there is. subst (λ (o : Option FoundMethod). TellsMethod c.self.inside.table c.selected_method.result o)
+    (λ found ty there is. subst (λ (o : Option FoundMethod). SaysMethod c.self.inside.table c.selected_method.result o)
     (sym (select_numbers c.self.inside.table (prefix_of c.self.inside.base) found ty c.args.class is)) (c.selected_method.ensures found there))

@@ -7,7 +7,7 @@ use Rattle.dj_declared.specs.Members.{method_name}
 use Rattle.dj_classes.specs.Tables.{methods_at, method_there}
 use Rattle.dj_directory.specs.Calls.{IsCallTable}
 use Rattle.dj_linking.specs.Linked.{Linked, class_name}
-use Rattle.dj_linking.specs.Numbers.{TellsMethod}
+use Rattle.dj_linking.specs.Numbers.{SaysMethod}
 use Rattle.dj_linking.proofs.Selections.{own}
 use Rattle.dj_linking.proofs.Specials.{taken_above, taken_itself, is_false, is_true}
 use Rattle.dj_linking.proofs.linker.Linker.special_by.Goals as goal
@@ -38,7 +38,7 @@ pub returns-then-is_superclass : goal.returns-then-is_superclass
 returns-then-is_superclass c =
     subst
     (λ (linked : Linked). (found : FoundMethod) → method_there linked.program c.args.resolved ≡ Some found
-    → TellsMethod linked.program c.instance_method_like.result (special_method linked.program (class_name linked.program c.args.class) found))
+    → SaysMethod linked.program c.instance_method_like.result (special_method linked.program (class_name linked.program c.args.class) found))
     c.self.view_is
     (λ found there. taken_above c.self.inside.table c.args.class c.args.resolved found found.method.name found.method.desc c.names_differ.ensures
     (subst (λ (linked : Linked). c.args.class < length linked.program) (sym c.self.view_is) c.requires.there) (record { there = there; named = refl; described = refl })
@@ -51,7 +51,7 @@ pub returns-else-ne : goal.returns-else-ne
 returns-else-ne c =
     subst
     (λ (linked : Linked). (found : FoundMethod) → method_there linked.program c.args.resolved ≡ Some found
-    → TellsMethod linked.program (Some c.args.resolved) (special_method linked.program (class_name linked.program c.args.class) found))
+    → SaysMethod linked.program (Some c.args.resolved) (special_method linked.program (class_name linked.program c.args.class) found))
     c.self.view_is
     (λ found there. taken_itself c.self.inside.table c.args.class c.args.resolved found found.method.name found.method.desc c.names_differ.ensures
     (subst (λ (linked : Linked). c.args.class < length linked.program) (sym c.self.view_is) c.requires.there) (record { there = there; named = refl; described = refl })

@@ -5,7 +5,7 @@ use Rattle.dj_model.specs.trusted.Linking.{FoundMethod, special_method}
 use Rattle.dj_declared.specs.trusted.Files.{desc_in}
 use Rattle.dj_classes.specs.Tables.{method_there}
 use Rattle.dj_linking.specs.Linked.{Linked, class_name}
-use Rattle.dj_linking.specs.Numbers.{IsNamed, TellsMethod}
+use Rattle.dj_linking.specs.Numbers.{IsNamed, SaysMethod}
 use Rattle.dj_linking.proofs.Specials.{taken_above, taken_itself, is_false, is_true}
 use Rattle.dj_linking.proofs.linker.Linker.special_method.Goals as goal
 use Rattle.dj_linking.proofs.linker.Linker.special_method.Goals.{else-ne-via-then-ne+else-is_superclass, else-ne-via-else-ne}
@@ -20,7 +20,7 @@ pub returns-then-is_superclass : goal.returns-then-is_superclass
 returns-then-is_superclass c =
     subst
     (λ (linked : Linked). (found : FoundMethod) → IsNamed linked.program c.args.resolved found c.args.name.now (desc_in c.args.desc.now)
-    → TellsMethod linked.program c.instance_method_above.result (special_method linked.program (class_name linked.program c.args.class) found))
+    → SaysMethod linked.program c.instance_method_above.result (special_method linked.program (class_name linked.program c.args.class) found))
     c.self.view_is
     (λ found named. taken_above c.self.inside.table c.args.class c.args.resolved found c.args.name.now (desc_in c.args.desc.now) c.names_differ.ensures
     (subst (λ (linked : Linked). c.args.class < length linked.program) (sym c.self.view_is) c.requires.there) named (option_map (method_there c.self.inside.table) c.instance_method_above.result)
@@ -31,7 +31,7 @@ pub returns-else-ne : goal.returns-else-ne
 returns-else-ne c =
     subst
     (λ (linked : Linked). (found : FoundMethod) → IsNamed linked.program c.args.resolved found c.args.name.now (desc_in c.args.desc.now)
-    → TellsMethod linked.program (Some c.args.resolved) (special_method linked.program (class_name linked.program c.args.class) found))
+    → SaysMethod linked.program (Some c.args.resolved) (special_method linked.program (class_name linked.program c.args.class) found))
     c.self.view_is
     (λ found named. taken_itself c.self.inside.table c.args.class c.args.resolved found c.args.name.now (desc_in c.args.desc.now) c.names_differ.ensures
     (subst (λ (linked : Linked). c.args.class < length linked.program) (sym c.self.view_is) c.requires.there) named

@@ -1,7 +1,7 @@
 use Rattle.std.proofs.Common.{◌≡◌, ◌∙◌, ℕ, List, Option, Some, length, take, ap, sym, subst, arith}
 use Rattle.dj_names.specs.declared.descriptor.Kind.{Kind}
 use Rattle.dj_model.specs.trusted.Kinds.{form_entries}
-use Rattle.dj_shape.specs.declared.arena.Place.{Place}
+use Rattle.dj_shape.specs.declared.arena.LocalsPlace.{LocalsPlace}
 use Rattle.dj_shape.specs.Reading.{ArePlaces, ChangesTo, frame_code, kept_entries}
 use Rattle.dj_shape.proofs.Places.{kept_few, kept_same, length_take, places_kept}
 use Rattle.dj_shape.proofs.reading.Reader.change.Goals as goal
@@ -26,7 +26,7 @@ place_all-requires-clause-places c =
     c.kept_entries.ensures ∙ ap (λ (m : ℕ). kept_entries form m c.len.result) before ∙ ap (λ (m : ℕ). kept_entries form (length old) m) now in
     let same : take n new ≡ take n old =
     subst (λ (m : ℕ). take m new ≡ take m old) (sym n_is) (kept_same (frame_code 0 0 c.args.made.now) old form c.in-Some.stack.items new changes) in
-    subst (λ (l : List Place). ArePlaces slots l new) (sym c.truncate.ensures.items) (places_kept slots c.args.self.now.places.items old new n same c.requires.places)
+    subst (λ (l : List LocalsPlace). ArePlaces slots l new) (sym c.truncate.ensures.items) (places_kept slots c.args.self.now.places.items old new n same c.requires.places)
 
 pub returns-clause-changes : goal.returns-clause-changes
 returns-clause-changes c = λ max_stack max_locals.

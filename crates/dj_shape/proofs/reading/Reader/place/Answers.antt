@@ -1,5 +1,5 @@
 use Rattle.std.proofs.Common.{◌∙◌, List, length, ap, sym, subst}
-use Rattle.dj_shape.specs.declared.arena.Place.{Place}
+use Rattle.dj_shape.specs.declared.arena.LocalsPlace.{LocalsPlace}
 use Rattle.dj_shape.specs.Reading.{ArePlaces}
 use Rattle.dj_shape.proofs.Places.{place_of_all}
 use Rattle.dj_shape.proofs.reading.Reader.place.Goals as goal
@@ -9,4 +9,4 @@ returns c =
     let slots = c.args.self.now.frames.slots.items in
     let entries = c.args.self.now.entries.items in
     place_of_all slots c.last_place.result entries (length c.deref.result.now) (ap length c.deref.ensures.value ∙ c.requires.count)
-    (c.last_place.ensures slots entries (subst (λ (l : List Place). ArePlaces slots l entries) (sym c.deref.ensures.value) c.requires.places))
+    (c.last_place.ensures slots entries (subst (λ (l : List LocalsPlace). ArePlaces slots l entries) (sym c.deref.ensures.value) c.requires.places))

@@ -1,7 +1,7 @@
 use Rattle.std.proofs.Common.{◌≡◌, ◌∙◌, ◌<◌, ℕ, suc, List, [], ◌∷◌, get_or, length, take, ap, sym, subst, arith}
 use Rattle.std.proofs.lemmas.List.{length-append}
 use Rattle.dj_model.specs.trusted.Kinds.{entry_slots}
-use Rattle.dj_shape.specs.declared.arena.Place.{Place}
+use Rattle.dj_shape.specs.declared.arena.LocalsPlace.{LocalsPlace}
 use Rattle.dj_shape.specs.Arena.{IsAt}
 use Rattle.dj_shape.specs.Reading.{ArePlaces}
 use Rattle.dj_shape.proofs.Places.{grows_more, next_place, places_grown, places_more}
@@ -13,7 +13,7 @@ add_entry-requires c =
     let r = c.loop-self.self in
     let slots = r.frames.slots.items in
     let entries = r.entries.items in
-    at_in slots c.last_place.result _ (c.last_place.ensures slots entries (subst (λ (l : List Place). ArePlaces slots l entries) (sym c.deref.ensures.value) c.loop-self.invariant.places))
+    at_in slots c.last_place.result _ (c.last_place.ensures slots entries (subst (λ (l : List LocalsPlace). ArePlaces slots l entries) (sym c.deref.ensures.value) c.loop-self.invariant.places))
 
 pub loop-self-preserved : goal.loop-self-preserved
 loop-self-preserved c =
@@ -27,7 +27,7 @@ loop-self-preserved c =
     let test : length places < length entries = omega (arith, c.loop-self-test.true, c.len.ensures, c.len-in-loop-self.ensures, r.places.ok.0, r.entries.ok.0) in
     let at : IsAt slots c.last_place.result (entry_slots (take (length places) entries)) =
     subst (λ (n : ℕ). IsAt slots c.last_place.result (entry_slots (take n entries))) (ap length c.deref.ensures.value)
-    (c.last_place.ensures slots entries (subst (λ (l : List Place). ArePlaces slots l entries) (sym c.deref.ensures.value) c.loop-self.invariant.places)) in
+    (c.last_place.ensures slots entries (subst (λ (l : List LocalsPlace). ArePlaces slots l entries) (sym c.deref.ensures.value) c.loop-self.invariant.places)) in
     let index : c.len-in-loop-self-2.result ≡ length places = omega (arith, c.len-in-loop-self-2.ensures, r.places.ok.0) in
     let entry = c.index-entry.result.now in
     let is : entry ≡ get_or entries (length places) entry = c.index-entry.ensures ∙ ap (λ (n : ℕ). get_or entries n entry) index in
@@ -36,7 +36,7 @@ loop-self-preserved c =
     let count = ap length c.in_ok-push.ensures.items ∙ length-append places (place ∷ []) in
     record {
       few = omega (arith, count);
-      places = subst (λ (l : List Place). ArePlaces new l entries) (sym c.in_ok-push.ensures.items)
+      places = subst (λ (l : List LocalsPlace). ArePlaces new l entries) (sym c.in_ok-push.ensures.items)
           (places_more new places place entries (places_grown slots new places entries r.frames.linked grows.0 c.loop-self.invariant.places) next);
       entries = c.loop-self.invariant.entries;
       grows = grows_more c.args.self.now.frames r.frames c.add_entry.new.frames c.loop-self.invariant.grows grows;

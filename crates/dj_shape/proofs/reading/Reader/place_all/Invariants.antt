@@ -1,6 +1,6 @@
 use Rattle.std.proofs.Common.{◌≡◌, ◌-◌, ◌≤◌, length}
 use Rattle.dj_shape.specs.Reading.{ArePlaces}
-use Rattle.dj_shape.specs.Told.{Grows}
+use Rattle.dj_shape.specs.Reported.{Grows}
 use Rattle.dj_shape.proofs.reading.Reader.place_all.Given as goal
 
 abbrev pub invariant-loop-self : goal.invariant-loop-self

@@ -1,7 +1,7 @@
 use Rattle.std.proofs.Common.{◌≡◌, ◌≤◌, ◌<◌, length, ap, refl, arith}
 use Rattle.dj_model.specs.trusted.Kinds.{depth, entry_slots, form_entries}
 use Rattle.dj_shape.specs.Reading.{frame_code}
-use Rattle.dj_shape.specs.Told.{told_in}
+use Rattle.dj_shape.specs.Reported.{reported_in}
 use Rattle.dj_shape.proofs.FrameLaws.{none_read, many_read, deep_read, some_read, low_so, deep_so}
 use Rattle.dj_shape.proofs.Links.{at_in}
 use Rattle.dj_shape.proofs.reading.Reader.read.Goals as goal
@@ -44,7 +44,7 @@ returns-clause-read c =
     let within : depth c.deref.result.now ≤ c.from-2.result = low_so c.depth_within.result (depth c.deref.result.now) c.from-2.result c.depth_within.ensures.some c.if-is_none.ensures in
     let same = ap depth c.deref.ensures.value in
     let low : depth stack ≤ c.args.room.0 = omega (arith, c.from-2.ensures, same) in (
-      some_read code c.args.self.now.entries.items c.args.form.now stack new changes (told_in slots (record { place = place; stack = c.in-Some.stack })) c.place-place.ensures.are refl few low,
+      some_read code c.args.self.now.entries.items c.args.form.now stack new changes (reported_in slots (record { place = place; stack = c.in-Some.stack })) c.place-place.ensures.are refl few low,
       at_in slots place (entry_slots new) c.place-place.ensures,
       rw c.in-Some.is at c.in_ok-stack.ensures.reading,
     )

@@ -1,6 +1,6 @@
 use Rattle.std.proofs.Common.{◌∙◌, length, ap, arith, inl, inr}
 use Rattle.dj_model.specs.trusted.Program.{Class}
-use Rattle.dj_standing.proofs.Holding.{array_told, class_told, counted}
+use Rattle.dj_standing.proofs.Holding.{array_reported, class_reported, counted}
 use Rattle.dj_standing.proofs.superclasses.SuperclassesHolders.has_fields.Goals as goal
 
 pub is_own_or_superclass-requires-clause-there : goal.is_own_or_superclass-requires-clause-there
@@ -17,18 +17,18 @@ pub returns-then-count-class : goal.returns-then-count-class
 returns-then-count-class c =
     let all = counted c.args.self.now.image.now c.linker-linker.result.now c.classes.result.now c.class_count-count.result c.linker-linker.ensures c.classes.ensures
     c.class_count-count.ensures.count in
-    array_told c.args.self.now.image.now c.are_settled.ensures c.args.class c.args.declaring c.requires (inl (omega (arith, all, c.if-count-class.true)))
+    array_reported c.args.self.now.image.now c.are_settled.ensures c.args.class c.args.declaring c.requires (inl (omega (arith, all, c.if-count-class.true)))
 
 pub returns-then-count-declaring : goal.returns-then-count-declaring
 returns-then-count-declaring c =
     let all = counted c.args.self.now.image.now c.linker-linker.result.now c.classes.result.now c.class_count-count.result c.linker-linker.ensures c.classes.ensures
     c.class_count-count.ensures.count in
-    array_told c.args.self.now.image.now c.are_settled.ensures c.args.class c.args.declaring c.requires (inr (omega (arith, all, c.if-count-declaring.true)))
+    array_reported c.args.self.now.image.now c.are_settled.ensures c.args.class c.args.declaring c.requires (inr (omega (arith, all, c.if-count-declaring.true)))
 
 pub returns : goal.returns
 returns c =
     let all = counted c.args.self.now.image.now c.linker-linker.result.now c.classes.result.now c.class_count-count.result c.linker-linker.ensures c.classes.ensures
     c.class_count-count.ensures.count in
     c.is_own_or_superclass.ensures
-    ∙ class_told c.args.self.now.image.now c.args.class c.args.declaring c.linker-linker.result.now c.linker-linker.ensures
+    ∙ class_reported c.args.self.now.image.now c.args.class c.args.declaring c.linker-linker.result.now c.linker-linker.ensures
     (omega (arith, all, c.if-count-class.false)) (omega (arith, all, c.if-count-declaring.false))

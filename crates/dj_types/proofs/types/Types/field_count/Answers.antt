@@ -3,7 +3,7 @@ use Rattle.dj_model.specs.trusted.Program.{Program}
 use Rattle.dj_linking.proofs.Resolution.{DoNamesDiffer}
 use Rattle.dj_types.specs.Typed.{Typed}
 use Rattle.dj_types.specs.Numbered.{AreMembers}
-use Rattle.dj_types.proofs.Sums.{field_count_told}
+use Rattle.dj_types.proofs.Sums.{field_count_reported}
 use Rattle.dj_types.proofs.types.Types.field_count.Goals as goal
 
 pub returns : goal.returns
@@ -12,4 +12,4 @@ returns c =
     let members = subst (λ (typed : Typed). AreMembers typed.program c.self.inside.members) c.self.view_is c.self.invariant.members_are in
     let differ = subst DoNamesDiffer (c.classes.ensures ∙ ap program c.self.view_is) c.names_differ.ensures in
     c.count_at.ensures ∙ ap (λ (sums : List ℕ). get_or sums c.args.class 0) c.deref.ensures.value
-    ∙ field_count_told c.args.self.now.program c.self.inside.members.field_sums.items c.args.class members.sums differ
+    ∙ field_count_reported c.args.self.now.program c.self.inside.members.field_sums.items c.args.class members.sums differ

@@ -4,7 +4,7 @@ use Rattle.dj_model.specs.trusted.Program.{Program}
 use Rattle.dj_classes.specs.Tables.{fields_at}
 use Rattle.dj_types.specs.Typed.{Typed}
 use Rattle.dj_types.specs.Members.{fields_before}
-use Rattle.dj_types.proofs.First.{first_field_told, field_described}
+use Rattle.dj_types.proofs.First.{first_field_reported, field_described}
 use Rattle.dj_types.proofs.types.Types.first_field.Goals as goal
 
 abbrev program : Typed → Program
@@ -19,7 +19,7 @@ field_named-requires-clause-described c =
 
 pub field_id-requires-clause-within : goal.field_id-requires-clause-within
 field_id-requires-clause-within c =
-    let first = first_field_told c.classes-table.result.now c.args.self.now.program c.args.place c.field_name-name.result.now c.field_desc-desc.result.now c.field_named.result (c.classes-table.ensures ∙ ap program c.self.view_is) c.names_differ.ensures
+    let first = first_field_reported c.classes-table.result.now c.args.self.now.program c.args.place c.field_name-name.result.now c.field_desc-desc.result.now c.field_named.result (c.classes-table.ensures ∙ ap program c.self.view_is) c.names_differ.ensures
     c.requires.there c.requires.within c.field_name-name.ensures c.field_desc-desc.ensures c.field_named.ensures.first in
     let same = same_Some c.in-Some.first first.first (sym c.in-Some.is ∙ first.is) in
     let within = first.within in
@@ -27,13 +27,13 @@ field_id-requires-clause-within c =
 
 pub unreachable-requires : goal.unreachable-requires
 unreachable-requires c =
-    let first = first_field_told c.classes-table.result.now c.args.self.now.program c.args.place c.field_name-name.result.now c.field_desc-desc.result.now c.field_named.result (c.classes-table.ensures ∙ ap program c.self.view_is) c.names_differ.ensures
+    let first = first_field_reported c.classes-table.result.now c.args.self.now.program c.args.place c.field_name-name.result.now c.field_desc-desc.result.now c.field_named.result (c.classes-table.ensures ∙ ap program c.self.view_is) c.names_differ.ensures
     c.requires.there c.requires.within c.field_name-name.ensures c.field_desc-desc.ensures c.field_named.ensures.first in
     none-some first.first (sym c.in-None.is ∙ first.is)
 
 pub returns : goal.returns
 returns c =
-    let first = first_field_told c.classes-table.result.now c.args.self.now.program c.args.place c.field_name-name.result.now c.field_desc-desc.result.now c.field_named.result (c.classes-table.ensures ∙ ap program c.self.view_is) c.names_differ.ensures
+    let first = first_field_reported c.classes-table.result.now c.args.self.now.program c.args.place c.field_name-name.result.now c.field_desc-desc.result.now c.field_named.result (c.classes-table.ensures ∙ ap program c.self.view_is) c.names_differ.ensures
     c.requires.there c.requires.within c.field_name-name.ensures c.field_desc-desc.ensures c.field_named.ensures.first in
     let same = same_Some c.in-Some.first first.first (sym c.in-Some.is ∙ first.is) in
     ap Some c.field_id.ensures.number ∙ ap (λ (n : ℕ). Some (fields_before c.args.self.now.program c.args.place.class + n)) same ∙ sym first.numbered

@@ -1,7 +1,7 @@
 use Rattle.std.proofs.Common.{subst, arith}
 use Rattle.dj_types.specs.Typed.{Typed}
 use Rattle.dj_types.specs.Numbered.{AreMembers}
-use Rattle.dj_types.proofs.Placed.{method_id_told, method_starts_within}
+use Rattle.dj_types.proofs.Placed.{method_id_reported, method_starts_within}
 use Rattle.dj_types.proofs.types.Types.method_id.Goals as goal
 
 pub index-requires : goal.index-requires
@@ -13,16 +13,16 @@ index-requires c =
 pub overflow_add-result : goal.overflow_add-result
 overflow_add-result c =
     let members = subst (λ (typed : Typed). AreMembers typed.program c.self.inside.members) c.self.view_is c.self.invariant.members_are in
-    let told = method_id_told c.args.self.now.program c.self.inside.members.method_starts.items c.args.place c.index.result.now members.methods members.few_methods c.requires.there c.requires.within c.index.ensures in
-    let fits = told.fits in
+    let reported = method_id_reported c.args.self.now.program c.self.inside.members.method_starts.items c.args.place c.index.result.now members.methods members.few_methods c.requires.there c.requires.within c.index.ensures in
+    let fits = reported.fits in
     omega (arith, fits)
 
 pub returns-clause-is : goal.returns-clause-is
 returns-clause-is c =
     let members = subst (λ (typed : Typed). AreMembers typed.program c.self.inside.members) c.self.view_is c.self.invariant.members_are in
-    (method_id_told c.args.self.now.program c.self.inside.members.method_starts.items c.args.place c.index.result.now members.methods members.few_methods c.requires.there c.requires.within c.index.ensures).is
+    (method_id_reported c.args.self.now.program c.self.inside.members.method_starts.items c.args.place c.index.result.now members.methods members.few_methods c.requires.there c.requires.within c.index.ensures).is
 
 pub returns-clause-number : goal.returns-clause-number
 returns-clause-number c =
     let members = subst (λ (typed : Typed). AreMembers typed.program c.self.inside.members) c.self.view_is c.self.invariant.members_are in
-    (method_id_told c.args.self.now.program c.self.inside.members.method_starts.items c.args.place c.index.result.now members.methods members.few_methods c.requires.there c.requires.within c.index.ensures).number
+    (method_id_reported c.args.self.now.program c.self.inside.members.method_starts.items c.args.place c.index.result.now members.methods members.few_methods c.requires.there c.requires.within c.index.ensures).number

@@ -18,20 +18,20 @@ place_at-requires-clause-homes c =
     subst (λ (starts : List ℕ). AreMemberClasses starts c.deref-2.result.now) (sym c.deref.ensures.value)
     (subst (λ (classes : List ℕ). AreMemberClasses members.method_starts.items classes) (sym c.deref-2.ensures.value) c.self.invariant.members_are.method_classes)
 
-told : (c : goal.After-place_at) → IsPlaceOfMethod c.args.self.now.program c.args.method.number c.place_at.result
-told c =
+reported : (c : goal.After-place_at) → IsPlaceOfMethod c.args.self.now.program c.args.method.number c.place_at.result
+reported c =
     let members = subst (λ (typed : Typed). AreMembers typed.program c.self.inside.members) c.self.view_is c.self.invariant.members_are in
     place_of_method c.args.self.now.program c.self.inside.members.method_starts.items c.args.method.number c.place_at.result members.methods c.requires
     (subst (λ (starts : List ℕ). IsStartOf starts c.args.method.number c.place_at.result) c.deref.ensures.value c.place_at.ensures)
 
 pub returns-clause-there : goal.returns-clause-there
-returns-clause-there c = (told c).there
+returns-clause-there c = (reported c).there
 
 pub returns-clause-within : goal.returns-clause-within
-returns-clause-within c = (told c).within
+returns-clause-within c = (reported c).within
 
 pub returns-clause-is : goal.returns-clause-is
-returns-clause-is c = (told c).is
+returns-clause-is c = (reported c).is
 
 pub returns-clause-number : goal.returns-clause-number
-returns-clause-number c = (told c).counted
+returns-clause-number c = (reported c).counted

@@ -4,7 +4,7 @@ use Rattle.dj_classes.specs.Tables.{field_there}
 use Rattle.dj_linking.specs.Linked.{resolved_field}
 use Rattle.dj_types.specs.Typed.{Typed}
 use Rattle.dj_types.specs.Members.{found_field_number, number_of_field}
-use Rattle.dj_types.proofs.First.{told_is}
+use Rattle.dj_types.proofs.First.{reported_is}
 use Rattle.dj_types.proofs.Homes.{field_resolved_in, no_field_resolved}
 use Rattle.dj_types.proofs.Placed.{field_bounds}
 use Rattle.dj_types.proofs.types.Types.resolve_described_field.Goals as goal
@@ -18,29 +18,29 @@ returns-in_err-class c =
 pub returns-in_err-place : goal.returns-in_err-place
 returns-in_err-place c =
     let typed = c.args.self.now in
-    let told = subst (λ (t : Typed). None ≡ option_map Some (resolved_field (record { program = t.program; prefix = t.prefix }) c.in_ok-class.class c.args.name.now c.args.desc.now)) c.self.view_is c.in_err-place.ensures in
+    let reported = subst (λ (t : Typed). None ≡ option_map Some (resolved_field (record { program = t.program; prefix = t.prefix }) c.in_ok-class.class c.args.name.now c.args.desc.now)) c.self.view_is c.in_err-place.ensures in
     ap (option_map number_of_field) c.from_residual-in_err-place.ensures
     ∙ ap (found_field_number typed.program)
-    (told_is None (resolved_field (record { program = typed.program; prefix = typed.prefix }) c.in_ok-class.class c.args.name.now c.args.desc.now) told
+    (reported_is None (resolved_field (record { program = typed.program; prefix = typed.prefix }) c.in_ok-class.class c.args.name.now c.args.desc.now) reported
     ∙ field_resolved_in typed c.args.class c.in_ok-class.class c.args.name.now c.args.desc.now c.in_ok-class.ensures.is)
 
 pub first_field-requires-clause-there : goal.first_field-requires-clause-there
 first_field-requires-clause-there c =
     let typed = c.args.self.now in
-    let told = subst (λ (t : Typed). Some (field_there t.program c.in_ok-place.place) ≡ option_map Some (resolved_field (record { program = t.program; prefix = t.prefix }) c.in_ok-class.class c.args.name.now c.args.desc.now)) c.self.view_is c.in_ok-place.ensures in
-    (field_bounds typed.program c.in_ok-place.place (resolved_field (record { program = typed.program; prefix = typed.prefix }) c.in_ok-class.class c.args.name.now c.args.desc.now) told).0
+    let reported = subst (λ (t : Typed). Some (field_there t.program c.in_ok-place.place) ≡ option_map Some (resolved_field (record { program = t.program; prefix = t.prefix }) c.in_ok-class.class c.args.name.now c.args.desc.now)) c.self.view_is c.in_ok-place.ensures in
+    (field_bounds typed.program c.in_ok-place.place (resolved_field (record { program = typed.program; prefix = typed.prefix }) c.in_ok-class.class c.args.name.now c.args.desc.now) reported).0
 
 pub first_field-requires-clause-within : goal.first_field-requires-clause-within
 first_field-requires-clause-within c =
     let typed = c.args.self.now in
-    let told = subst (λ (t : Typed). Some (field_there t.program c.in_ok-place.place) ≡ option_map Some (resolved_field (record { program = t.program; prefix = t.prefix }) c.in_ok-class.class c.args.name.now c.args.desc.now)) c.self.view_is c.in_ok-place.ensures in
-    (field_bounds typed.program c.in_ok-place.place (resolved_field (record { program = typed.program; prefix = typed.prefix }) c.in_ok-class.class c.args.name.now c.args.desc.now) told).1
+    let reported = subst (λ (t : Typed). Some (field_there t.program c.in_ok-place.place) ≡ option_map Some (resolved_field (record { program = t.program; prefix = t.prefix }) c.in_ok-class.class c.args.name.now c.args.desc.now)) c.self.view_is c.in_ok-place.ensures in
+    (field_bounds typed.program c.in_ok-place.place (resolved_field (record { program = typed.program; prefix = typed.prefix }) c.in_ok-class.class c.args.name.now c.args.desc.now) reported).1
 
 pub returns : goal.returns
 returns c =
     let typed = c.args.self.now in
-    let told = subst (λ (t : Typed). Some (field_there t.program c.in_ok-place.place) ≡ option_map Some (resolved_field (record { program = t.program; prefix = t.prefix }) c.in_ok-class.class c.args.name.now c.args.desc.now)) c.self.view_is c.in_ok-place.ensures in
+    let reported = subst (λ (t : Typed). Some (field_there t.program c.in_ok-place.place) ≡ option_map Some (resolved_field (record { program = t.program; prefix = t.prefix }) c.in_ok-class.class c.args.name.now c.args.desc.now)) c.self.view_is c.in_ok-place.ensures in
     c.first_field.ensures
     ∙ ap (found_field_number typed.program)
-    (told_is (Some (field_there typed.program c.in_ok-place.place)) (resolved_field (record { program = typed.program; prefix = typed.prefix }) c.in_ok-class.class c.args.name.now c.args.desc.now) told
+    (reported_is (Some (field_there typed.program c.in_ok-place.place)) (resolved_field (record { program = typed.program; prefix = typed.prefix }) c.in_ok-class.class c.args.name.now c.args.desc.now) reported
     ∙ field_resolved_in typed c.args.class c.in_ok-class.class c.args.name.now c.args.desc.now c.in_ok-class.ensures.is)

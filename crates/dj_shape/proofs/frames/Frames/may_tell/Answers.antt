@@ -1,9 +1,0 @@
-use Rattle.std.proofs.Common.{◌∙◌, Bool, true, List, get_or, ap, sym}
-use Rattle.dj_shape.proofs.Places.{told_none}
-use Rattle.dj_shape.proofs.frames.Frames.may_tell.Goals as goal
-
-pub returns : goal.returns
-returns c = λ none.
-    let frames = c.args.self.now in
-    let look = ap (λ (l : List Bool). get_or l c.args.number true) (sym c.deref.ensures.value) ∙ sym c.is_marked.ensures in
-    told_none frames c.args.number (frames.marks c.args.number (look ∙ none))
