@@ -135,7 +135,7 @@ FLOAT_FAMILIES = (range(11, 16), (23, 24), range(34, 42), (48, 49, 56, 57), rang
 FLOAT_FAMILIES += ((110, 111, 114, 115, 118, 119, 134, 135), range(137, 145), range(149, 153), (174, 175))
 OF_FLOATS = {op for family in FLOAT_FAMILIES for op in family}
 
-# How many bytes stand behind an opcode. A switch and `wide` have lengths of their own.
+# How many bytes follow an opcode. A switch and `wide` have lengths of their own.
 OPERANDS = dict.fromkeys(range(203), 0)
 OPERANDS |= dict.fromkeys([16, 18, 188, *WITH_SLOT], 1)
 OPERANDS |= dict.fromkeys([17, 132, *JUMPS, *WITH_CONSTANT], 2)
@@ -146,7 +146,7 @@ INVOKEINTERFACE, INVOKEDYNAMIC, NEWARRAY, WIDE, MULTIANEWARRAY, BREAKPOINT = 185
 
 
 class Instruction:
-    """Its address, its opcode (behind `wide` that of what is wide), the index of a constant, the base type of newarray, the slot
+    """Its address, its opcode (after `wide` that of what is wide), the index of a constant, the base type of newarray, the slot
     of a local variable and the count of invokeinterface, each or None, and the addresses to which it may go."""
 
     def __init__(self, at, op):
@@ -231,7 +231,7 @@ TYPE_FLOAT, TYPE_DOUBLE, TYPE_OBJECT, TYPE_UNINITIALIZED = 2, 3, 7, 8
 
 class StackMap(Reader):
     """The frames of a stack map, which stand at instructions: the address of each, its tag, and its lists of types. A type is its tag
-    and the number that stands behind it, or None."""
+    and the number that follows it, or None."""
 
     def __init__(self, body, starts):
         super().__init__(body)

@@ -1,5 +1,7 @@
 """Makes small class files (JVMS 4.1 to 4.7)."""
 
+from opcodes import opcode
+
 PUBLIC = 0x0001
 STATIC = 0x0008
 NATIVE = 0x0100
@@ -184,7 +186,7 @@ def parts(this_class=2, super_class=4, interfaces=(), fields=b"\0\0", methods=b"
     return u4(0xCAFEBABE) + row(0, 52, pool.count if count is None else count) + b"".join(pool.entries) + body
 
 
-def code(body=b"\xb1", max_stack=0, max_locals=1, handlers=(), listed=b"\0\0"):
+def code(body=opcode("return"), max_stack=0, max_locals=1, handlers=(), listed=b"\0\0"):
     """A Code attribute; alone it is `return`. A handler is (start, end, handler, type); `listed` is the table of its own
     attributes, whose names are indexes of the pool."""
     rows = b"".join(u2(number) for handler in handlers for number in handler)
@@ -201,7 +203,7 @@ def native(name, descriptor="()V"):
 
 
 def natives_of_equal_texts(this_class, name, names, descriptor, descriptors):
-    """A class file whose pool has this name so many times, and this descriptor, and which has a native method for each index of
+    """A class file whose pool has this name this many times, and this descriptor, and which has a native method for each index of
     the name with each of the descriptor. So its methods have one line of a report together."""
     pool = Pool()
     heads = pool.class_name(this_class), pool.class_name(OBJECT)

@@ -30,12 +30,16 @@ from class_files import (
     u2,
     u4,
 )
+from instructions import LENGTHS, instructions
+from opcodes import BASES, OPCODES, numbers, opcode
 from rule_cases import A_CLASS, AN_INTERFACE, FINAL, NOP, NULL, POP, RETURN, ZERO, case, method
 from shaped_code import Method
 
-GETSTATIC, GETFIELD, INVOKEVIRTUAL, INVOKESTATIC, INVOKEINTERFACE, INVOKEDYNAMIC = 178, 180, 182, 184, 185, 186
-NEW, ANEWARRAY, CHECKCAST, INSTANCEOF, MULTIANEWARRAY, BREAKPOINT = 187, 189, 192, 193, 197, 202
-LDC, LDC_W, LDC2_W = 18, 19, 20
+GETSTATIC, GETFIELD, INVOKEVIRTUAL, INVOKESTATIC = numbers("getstatic getfield invokevirtual invokestatic")
+INVOKEINTERFACE, INVOKEDYNAMIC = numbers("invokeinterface invokedynamic")
+NEW, ANEWARRAY, CHECKCAST, INSTANCEOF, MULTIANEWARRAY = numbers("new anewarray checkcast instanceof multianewarray")
+LDC, LDC_W, LDC2_W = numbers("ldc ldc_w ldc2_w")
+BREAKPOINT = opcode("breakpoint")
 
 
 def names(op, index, *more):
@@ -175,7 +179,7 @@ case(
             method("near3", names(GETSTATIC, near[3]), POP, RETURN),
         ),
         # One that declares it violates nothing.
-        "B": class_file("B", [method("getClass", NULL, b"\xb0", descriptor=GET_CLASS[1])]),
+        "B": class_file("B", [method("getClass", instructions("aconst_null, areturn"), descriptor=GET_CLASS[1])]),
     },
     *("A m%d()V 1 10" % place for place in range(5)),
     "A static()V 0 10",
@@ -249,7 +253,7 @@ case(
         # The handlers begin at the instructions 3, 5 and 0; they stand at other bytes.
         method(
             "several",
-            *(b"\x11\0\0", POP, RETURN, POP, RETURN, POP, RETURN),
+            instructions("sipush 0, pop, return, pop, return, pop, return"),
             handlers=[(0, 3, 5, indexes[0]), (0, 3, 7, indexes[1]), (3, 4, 0, indexes[2]), (0, 4, 5, 0)],
         ),
         # The same entry elsewhere is no handler.
@@ -327,7 +331,7 @@ case(
             [("f%d" % place, text) for place, text in enumerate(FLOATS)] + [("D%d" % place, text) for place, text in enumerate(NO_FLOATS)],
             flags=A_CLASS | ABSTRACT,
         ),
-        "B": class_file("B", [native("n", "(F)V"), ("finalize", "()D", PUBLIC, [code(b"\x0e\xaf", 2)])]),
+        "B": class_file("B", [native("n", "(F)V"), ("finalize", "()D", PUBLIC, [code(instructions("dconst_0, dreturn"), 2)])]),
     },
     *("A f%d%s 12" % (place, text) for place, text in enumerate(FLOATS)),
     *("A m%d%s 12" % (place, text) for place, text in enumerate(PARAMETERS)),
@@ -410,24 +414,21 @@ case(
 OF_FLOATS = "fconst_0 fconst_1 fconst_2 dconst_0 dconst_1 fload dload fload_0 fload_1 fload_2 fload_3 dload_0 dload_1 dload_2 dload_3 faload daload"
 OF_FLOATS += " fstore dstore fstore_0 fstore_1 fstore_2 fstore_3 dstore_0 dstore_1 dstore_2 dstore_3 fastore dastore fadd dadd fsub dsub fmul dmul"
 OF_FLOATS += " fdiv ddiv frem drem fneg dneg i2f i2d l2f l2d f2i f2l f2d d2i d2l d2f fcmpl fcmpg dcmpl dcmpg freturn dreturn"
-OPCODES = [11, 12, 13, 14, 15, 23, 24, 34, 35, 36, 37, 38, 39, 40, 41, 48, 49, 56, 57, 67, 68, 69, 70, 71, 72, 73, 74, 81, 82]
-OPCODES += [98, 99, 102, 103, 106, 107, 110, 111, 114, 115, 118, 119, 134, 135, 137, 138, 139, 140, 141, 142, 143, 144]
-OPCODES += [149, 150, 151, 152, 174, 175]
-OF_FLOATS = dict(zip(OF_FLOATS.split(), OPCODES, strict=True))
+OF_FLOATS = OF_FLOATS.split()
 WITH_SLOT = ("fload", "dload", "fstore", "dstore")
 case(
     "12-instructions",
     {
-        "A": class_file("A", [method(name, NOP, u1(op), b"\1" * (name in WITH_SLOT), RETURN) for name, op in OF_FLOATS.items()]),
-        "B": class_file("B", [method(name, b"\xc4", u1(OF_FLOATS[name]), row(1), RETURN) for name in WITH_SLOT]),
+        "A": class_file("A", [method(name, NOP, opcode(name), b"\1" * (name in WITH_SLOT), RETURN) for name in OF_FLOATS]),
+        "B": class_file("B", [method(name, instructions("wide %s 1, return" % name)) for name in WITH_SLOT]),
     },
     *("A %s()V 1 12" % name for name in OF_FLOATS),
     *("B %s()V 0 12" % name for name in WITH_SLOT),
 )
-OTHERS = [op for op in range(202) if op not in (*OPCODES, *range(16, 26), *range(54, 59), 132, *range(153, 172), *range(178, 190), *range(192, 202))]
+OTHERS = [name for name in OPCODES if name not in (*OF_FLOATS, *LENGTHS, "tableswitch", "lookupswitch", "wide", "breakpoint")]
 case(
     "12-other-instructions",
-    {"A": class_file("A", [method("op%d" % op, u1(op), RETURN) for op in (*OTHERS, 194, 195)]), "B": b""},
+    {"A": class_file("A", [method("op%d" % OPCODES[name], opcode(name), RETURN) for name in OTHERS]), "B": b""},
     "B 1",
 )
 pool = Pool()
@@ -440,7 +441,7 @@ case(
         method("ldc", names(LDC, integer), POP, names(LDC, float_index), POP, names(LDC, text), POP, names(LDC, double), RETURN),
         method("ldc_w", names(LDC_W, integer), POP, names(LDC_W, float_index), POP, names(LDC_W, double), RETURN),
         method("ldc2_w", names(LDC2_W, long), names(LDC2_W, double), names(LDC2_W, float_index), RETURN),
-        method("near", names(LDC, integer), POP, names(LDC2_W, long), b"\x58", RETURN),
+        method("near", names(LDC, integer), POP, names(LDC2_W, long), opcode("pop2"), RETURN),
     ),
     "A 12",
     "A ldc()V 2 12",
@@ -452,7 +453,7 @@ case(
 )
 case(
     "12-newarray",
-    one("A", Pool(), *(method("m%d" % base, ZERO, b"\xbc", u1(base), POP, RETURN) for base in range(4, 12))),
+    one("A", Pool(), *(method("m%d" % base, instructions("iconst_0, newarray %s, pop, return" % name)) for name, base in BASES.items())),
     "A m6()V 1 12",
     "A m7()V 1 12",
 )
@@ -473,13 +474,13 @@ case(
     one(
         "A",
         Pool(),
-        method("jsr", NOP, b"\xa8\0\3", RETURN),
-        method("jsr_w", b"\xc9\0\0\0\5", RETURN),
-        method("ret", NOP, NOP, b"\xa9\1"),
-        method("wide_ret", b"\xc4\xa9\1\0"),
-        method("all", b"\xa8\0\4", RETURN, b"\x3a\1", b"\xa9\1"),
+        method("jsr", instructions("nop, jsr 3, return")),
+        method("jsr_w", instructions("jsr_w 5, return")),
+        method("ret", instructions("nop, nop, ret 1")),
+        method("wide_ret", instructions("wide ret 256")),
+        method("all", instructions("jsr 4, return, astore 1, ret 1")),
         # Their opcodes as operands.
-        method("near", b"\x10\xa8", POP, b"\x11\xa9\xc9", POP, RETURN),
+        method("near", opcode("bipush"), opcode("jsr"), POP, opcode("sipush"), opcode("ret"), opcode("jsr_w"), POP, RETURN),
     ),
     "A jsr()V 1 13",
     "A jsr_w()V 0 13",
@@ -490,7 +491,7 @@ case(
 )
 case(
     "14-breakpoints",
-    one("A", Pool(), method("m", b"\xca", NOP, b"\xca", RETURN, b"\xca"), method("near", b"\x10\xca", POP, RETURN)),
+    one("A", Pool(), method("m", instructions("breakpoint, nop, breakpoint, return, breakpoint")), method("near", opcode("bipush"), BREAKPOINT, POP, RETURN)),
     *("A m()V %d 14" % number for number in (0, 2, 4)),
 )
 pool = Pool()
@@ -543,7 +544,7 @@ case(
         method("one", names(LDC, of_class), POP, RETURN),
         method("two", ZERO, names(MULTIANEWARRAY, of_class, 1), POP, RETURN),
         method("handler", NOP, RETURN, names(NEW, of_class), POP, RETURN, handlers=[(0, 1, 2, death), (1, 2, 2, death)]),
-        method("float", NOP, RETURN, b"\x43", RETURN, handlers=[(0, 1, 2, death)]),
+        method("float", instructions("nop, return, fstore_0, return"), handlers=[(0, 1, 2, death)]),
         method("handle", names(LDC, handle), POP, RETURN),
     ),
     "A one()V 0 10",
@@ -557,14 +558,20 @@ case(
 )
 case(
     "equal-lines-of-instructions",
-    one("A", Pool(), method("f", b"\xca\xb1", descriptor="()LA(I)LB;"), method("f()LA", b"\xca\xca\xb1", descriptor="(I)LB;"), method("g", b"\xca\xb1")),
+    one(
+        "A",
+        Pool(),
+        method("f", BREAKPOINT, RETURN, descriptor="()LA(I)LB;"),
+        method("f()LA", BREAKPOINT, BREAKPOINT, RETURN, descriptor="(I)LB;"),
+        method("g", BREAKPOINT, RETURN),
+    ),
     "A f()LA(I)LB; 0 14",
     "A f()LA(I)LB; 1 14",
     "A g()V 0 14",
 )
 case(
     "order-of-numbers",
-    one("A", Pool(), method("m", *[b"\xca"] * 12, RETURN), method("l", b"\x0b\xca", RETURN, flags=PUBLIC | 8, descriptor="(F)V"), major=53),
+    one("A", Pool(), method("m", BREAKPOINT * 12, RETURN), method("l", instructions("fconst_0, breakpoint, return"), flags=PUBLIC | 8, descriptor="(F)V"), major=53),
     "A 2",
     "A l(F)V 12",
     "A l(F)V 0 12",
@@ -587,7 +594,7 @@ def rich_class():
     switches += "Far: {full top int long / ref:java/lang/Throwable} pop, Last: {chop 1} return"
     operands = [
         *(names(INVOKEDYNAMIC, call, 0, 0), names(LDC, handle), NULL, names(INVOKEVIRTUAL, getter), names(LDC2_W, number), names(LDC_W, text)),
-        *(names(MULTIANEWARRAY, matrix, 2), b"\xbc\x08", names(NEW, throwable), b"\xca", b"\xa8\0\3", b"\xa9\1", RETURN),
+        *(names(MULTIANEWARRAY, matrix, 2), instructions("newarray byte"), names(NEW, throwable), instructions("breakpoint, jsr 3, ret 1, return")),
     ]
     methods = [
         Method("m", switches).made(pool)[0],
@@ -619,8 +626,8 @@ case(
 pool = Pool()
 call, of_class, death = pool.add(invoke_dynamic(0, pool.name_and_type("call", "()V"))), pool.class_name("java/lang/Class"), pool.class_name(ERRORS[2])
 everything = [
-    method("m", names(INVOKEDYNAMIC, call, 0, 0), names(NEW, of_class), b"\xca", b"\xa9\1", handlers=[(0, 5, 8, death)]),
-    method("n", b"\x0b", ZERO, names(MULTIANEWARRAY, of_class, 1), RETURN),
+    method("m", names(INVOKEDYNAMIC, call, 0, 0), names(NEW, of_class), instructions("breakpoint, ret 1"), handlers=[(0, 5, 8, death)]),
+    method("n", instructions("fconst_0, iconst_0"), names(MULTIANEWARRAY, of_class, 1), RETURN),
     ("finalize", "()V", PUBLIC, [code(RETURN)]),
     native("o"),
 ]

@@ -17,7 +17,7 @@ USAGE = (
     b" | djvm raw FOLDER ENTRY INPUT [--steps N] | djvm assemble FILE\n"
 )
 NO_CLASS_FILE = b"djvm: the folder has no class file: give the folder that javac -d wrote\n"
-NO_RIGHT_PATH = b"djvm: no path is that of its class: give the folder that javac -d wrote\n"
+NO_RIGHT_PATH = b"djvm: no class file is at the path of its class: give the folder that javac -d wrote\n"
 OF_A_PATH = rb"djvm: \"[^\n]*\": [^\n]+\n"
 NOTES = {
     64: re.escape(USAGE),
@@ -28,8 +28,8 @@ NOTES = {
 
 
 class Outcome:
-    """How a run ended and what it wrote. `stderr` is all of what it wrote on standard error, or a wanted one; none where any line that
-    fits the report is right. The reference checker writes no such line, so its outcomes have no notes."""
+    """How a run ended and what it wrote, or what is wanted of it. A wanted `stderr` is None where any line that fits the report is right.
+    The reference checker writes nothing on standard error, so its outcomes have no notes."""
 
     def __init__(self, status, stdout, stderr=None, has_notes=True):
         self.status, self.stdout, self.stderr, self.has_notes = status, stdout, stderr, has_notes
@@ -64,8 +64,8 @@ def tree(folder):
 
 
 def copy(source, target, backwards):
-    """Copies a folder; its entries are made in the order of their names or in the opposite one, since some file systems
-    list them in an order that depends on that."""
+    """Copies a folder, whose entries are made in the order of their names or in the opposite one: some file systems list them in an
+    order that depends on that."""
     os.mkdir(target)
     for name in sorted(os.listdir(source), reverse=backwards):
         one, other = os.path.join(source, name), os.path.join(target, name)
@@ -84,7 +84,7 @@ def names_all_paths(lines):
 
 
 def fits_report(outcome):
-    """Whether what was written on standard error fits the report: where there may be a hint, nothing fits too."""
+    """Whether what was written on standard error fits the report. Where there may be a hint, there may also be nothing."""
     lines = outcome.stdout.split(b"\n")[1:-1]
     if outcome.status in NOTES:
         return re.fullmatch(NOTES[outcome.status], outcome.stderr)

@@ -1,30 +1,33 @@
-"""The bytes of straight instructions."""
+"""The bytes of instructions whose operands are given as numbers: a slot, an offset, a constant's index and so on.
 
-from class_files import u1
+    iconst_3, istore 8, goto -3, invokestatic 7, newarray byte, wide iload 300
 
-# The straight instructions by their names in JVMS 6.5. Loads and stores have a slot, bipush and sipush a number.
-PLAIN = {"nop": 0, "aconst_null": 1, "baload": 51, "bastore": 84, "pop": 87, "dup": 89, "areturn": 176, "arraylength": 190}
-PLAIN |= {"iadd": 96, "isub": 100, "imul": 104, "iand": 126, "ior": 128, "ixor": 130, "iconst_m1": 2}
-PLAIN |= {"iconst_%d" % number: 3 + number for number in range(6)}
-FORMS = {"iload": (21, 26), "aload": (25, 42), "istore": (54, 59), "astore": (58, 75)}
-PLAIN |= {"%s_%d" % (name, slot): short + slot for name, (_, short) in FORMS.items() for slot in range(4)}
-SLOT = {name: op for name, (op, _) in FORMS.items()}
-NUMBER = {"bipush": (16, 1), "sipush": (17, 2)}
+tableswitch and lookupswitch have no such form."""
+
+from opcodes import BASES, opcode
+
+# The lengths of the operands in bytes, below 0 where the operand has a sign.
+LENGTHS = {name: [1] for name in "ldc iload lload fload dload aload istore lstore fstore dstore astore ret newarray".split()}
+LENGTHS |= {name: [2] for name in "ldc_w ldc2_w getstatic putstatic getfield putfield invokevirtual invokespecial invokestatic".split()}
+LENGTHS |= {name: [2] for name in "new anewarray checkcast instanceof".split()}
+LENGTHS |= {name: [-2] for name in "ifeq ifne iflt ifge ifgt ifle if_icmpeq if_icmpne if_icmplt if_icmpge if_icmpgt if_icmple".split()}
+LENGTHS |= {name: [-2] for name in "if_acmpeq if_acmpne ifnull ifnonnull goto jsr sipush".split()}
+LENGTHS |= {"bipush": [-1], "iinc": [1, -1], "goto_w": [-4], "jsr_w": [-4]}
+LENGTHS |= {"multianewarray": [2, 1], "invokeinterface": [2, 1, 1], "invokedynamic": [2, 1, 1]}
 
 
 def instruction(text):
     """The bytes of one instruction."""
     name, *operands = text.split()
-    if name in PLAIN and not operands:
-        return u1(PLAIN[name])
-    if name in SLOT and len(operands) == 1:
-        return u1(SLOT[name]) + u1(int(operands[0]))
-    if name in NUMBER and len(operands) == 1:
-        op, length = NUMBER[name]
-        return u1(op) + int(operands[0]).to_bytes(length, "big", signed=True)
-    if text.split() == ["newarray", "byte"]:
-        return bytes([188, 8])
-    raise ValueError("no straight instruction: %s" % text)
+    lengths, start = LENGTHS.get(name, []), opcode(name)
+    if name == "wide":
+        name, *operands = operands
+        lengths, start = [2 * length for length in LENGTHS[name]], start + opcode(name)
+    if len(operands) != len(lengths) or name.endswith("switch"):
+        raise ValueError("no instruction: %s" % text)
+    if name == "newarray":
+        operands = [BASES[operands[0]]]
+    return start + b"".join(int(each).to_bytes(abs(length), "big", signed=length < 0) for each, length in zip(operands, lengths))
 
 
 def instructions(text):

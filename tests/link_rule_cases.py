@@ -9,16 +9,18 @@ import re
 
 from class_files import ABSTRACT, FIELD, INTEGER, INTERFACE_METHOD, METHOD, PUBLIC, STATIC, Pool, class_file, row, u2, u4
 from code_rule_cases import names
+from instructions import instructions
+from opcodes import numbers, opcode
 from rule_cases import A_CLASS, AN_INTERFACE, NOP, NULL, POP, RETURN, ZERO, case, method
 
-GETSTATIC, PUTSTATIC, GETFIELD, PUTFIELD = range(178, 182)
-VIRTUAL, SPECIAL, STATICALLY, INTERFACE, DYNAMIC, NEW = range(182, 188)
-ANEWARRAY, CHECKCAST, INSTANCEOF, MULTIANEWARRAY = 189, 192, 193, 197
+GETSTATIC, PUTSTATIC, GETFIELD, PUTFIELD = numbers("getstatic putstatic getfield putfield")
+VIRTUAL, SPECIAL, STATICALLY, INTERFACE, DYNAMIC = numbers("invokevirtual invokespecial invokestatic invokeinterface invokedynamic")
+NEW, ANEWARRAY, CHECKCAST, INSTANCEOF, MULTIANEWARRAY = numbers("new anewarray checkcast instanceof multianewarray")
 PRIVATE = 0x0002
 
 # What pushes and takes away a value that begins so in a descriptor.
-PUSHES = dict.fromkeys("BCISZ", ZERO) | {"J": b"\x09", "L": NULL, "[": NULL}
-DROPS = {"V": b"", "J": b"\x58"}
+PUSHES = dict.fromkeys("BCISZ", ZERO) | {"J": opcode("lconst_0"), "L": NULL, "[": NULL}
+DROPS = {"V": b"", "J": opcode("pop2")}
 
 FIELDS, METHODS = (GETSTATIC, PUTSTATIC, GETFIELD, PUTFIELD), (VIRTUAL, SPECIAL, STATICALLY, INTERFACE)
 OF_STATICS = (GETSTATIC, PUTSTATIC, STATICALLY)
@@ -80,9 +82,9 @@ def handled(pool, name, *catch_types, body=NOP + RETURN, flags=PUBLIC | STATIC):
 
 def declared(name, *told, flags=PUBLIC | STATIC):
     """Methods with code, given as name and descriptor."""
-    ends = {"V": RETURN, "I": ZERO + b"\xac", "J": b"\x09\xad"}
+    ends = {"V": RETURN, "I": instructions("iconst_0, ireturn"), "J": instructions("lconst_0, lreturn")}
     parted = [(text[: text.index("(")], text[text.index("(") :]) for text in (name, *told)]
-    return [method(each, ends.get(text[-1], NULL + b"\xb0"), flags=flags, descriptor=text) for each, text in parted]
+    return [method(each, ends.get(text[-1], instructions("aconst_null, areturn")), flags=flags, descriptor=text) for each, text in parted]
 
 
 def lines(of_file, rule, **numbers):
@@ -195,7 +197,7 @@ def told(kinds):
 def makes(pool, text):
     """An object of the class, made by the given constructor."""
     name, _, descriptor = text.split()
-    made = names(NEW, pool.class_name(name)) + b"\x59" + b"".join(PUSHES[each[0]] for each in parameters(descriptor))
+    made = names(NEW, pool.class_name(name)) + opcode("dup") + b"".join(PUSHES[each[0]] for each in parameters(descriptor))
     return made + names(SPECIAL, pool.member(METHOD, *text.split())) + POP
 
 
@@ -409,7 +411,7 @@ case(
         # The row and the instruction have lines of their own: neither silences the other.
         returning("cast", names(CHECKCAST, absent) + POP, death, away),
         returning("castAway", names(CHECKCAST, away) + POP, death, absent),
-        returning("halt", b"\xca" + POP, absent),
+        returning("halt", instructions("breakpoint, pop"), absent),
         returning("both", names(CHECKCAST, absent) + POP, absent),
         returning("reflection", names(CHECKCAST, pool.class_name("java/lang/Class")) + POP, away, death),
     ),
@@ -443,7 +445,7 @@ case(
 
 # The first example's class, which returns its argument, with another superclass or another call before that.
 
-ITS_ARGUMENT = b"\x2a\xb0"
+ITS_ARGUMENT = instructions("aload_0, areturn")
 
 
 def first_class(*told, **more):

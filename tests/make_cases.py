@@ -499,6 +499,24 @@ def write(path, data):
         file.write(data)
 
 
+def files_of(top):
+    """The bytes of each file in the folder, by its path there."""
+    found = {}
+    for inside, _, names in os.walk(top):
+        for name in names:
+            path = os.path.join(inside, name)
+            with open(path, "rb") as file:
+                found[os.path.relpath(path, top)] = file.read()
+    return found
+
+
+def unlike(made, there):
+    """The lines that say how the files of a case differ."""
+    lines = ["%s isn't there" % path for path in sorted(made.keys() - there.keys())]
+    lines += ["%s isn't made" % path for path in sorted(there.keys() - made.keys())]
+    return lines + ["%s differs" % path for path in sorted(made.keys() & there.keys()) if made[path] != there[path]]
+
+
 def outcome_of(inside, words):
     """What reference.py writes, run in this folder, and its status."""
     before = os.getcwd()
@@ -532,14 +550,15 @@ def make(target, name, files, words, folders):
     if name in rule_cases.found:
         told, wanted = told_lines(text), list(rule_cases.found[name][1])
         if sorted(told) != sorted(wanted):
-            sys.exit("%s: told %s, wanted %s" % (name, sorted(set(told) - set(wanted)), sorted(set(wanted) - set(told))))
+            sys.exit("%s: reported %s, wanted %s" % (name, sorted(set(told) - set(wanted)), sorted(set(wanted) - set(told))))
     if (text, status) == (b"", reference.NO_RUN) or name in raw_cases.told:
         if status != reference.NO_RUN:
-            sys.exit("%s: told %r with status %d, and the case tells a run" % (name, text, status))
+            sys.exit("%s: reported %r with status %d, and the case has a run" % (name, text, status))
         text, status = raw_cases.told[name]
     write(os.path.join(top, "words"), "".join(word + "\n" for word in words).encode())
     write(os.path.join(top, "stdout"), text)
     write(os.path.join(top, "status"), b"%d\n" % status)
+    return text, status
 
 
 def make_all(target):

@@ -83,7 +83,7 @@ case(
         "Long": with_pool("Long", LONG),
         "Double": with_pool("Double", DOUBLE),
         "String": with_pool("String", string(2), text_entry(b"")),
-        # Two strings name the text before them, and a method type one behind it.
+        # Two strings name the text before them, and a method type one after it.
         "Before": with_pool("Before", text_entry(b"I"), string(1), string(1), method_type(5), text_entry(b"()I")),
         "Longs": with_pool("Longs", LONG, LONG, DOUBLE, text_entry(b"x"), DOUBLE),
     },
@@ -148,7 +148,7 @@ links(
 )
 links("link-dynamic", lambda index: invoke_dynamic(0, index), [OF_METHOD], {"type-of-field": invoke_dynamic(0, OF_FIELD)})
 
-# A right entry whose own entries stand behind it, and one whose entries are wrong for it only there.
+# A right entry whose own entries come after it, and one whose entries are wrong for it only there.
 case(
     "link-forward",
     {

@@ -351,7 +351,7 @@ def check_index(array, index):
 
 
 def signed(number, bits):
-    """The number of so many bits, with a sign, that a whole number wraps to."""
+    """The number of this many bits, with a sign, that a whole number wraps to."""
     return (number + (1 << bits - 1)) % (1 << bits) - (1 << bits - 1)
 
 

@@ -31,6 +31,7 @@ from link_rule_cases import (
     of_class,
     one,
 )
+from opcodes import opcode
 from rule_cases import A_CLASS, AN_INTERFACE, FINAL, NULL, POP, RETURN, ZERO, case, found, method
 
 # 18 UNRESOLVED: members that aren't there.
@@ -282,8 +283,8 @@ case(
         method("castOfField", NULL, names(CHECKCAST, pool.member(FIELD, "java/lang/System", "out", "I")) + POP, RETURN),
         method("castOfAbsent", NULL, names(CHECKCAST, pool.member(FIELD, "java/util/List", "f", "I")) + POP, RETURN),
         method("pushOfAbsent", names(LDC, pool.member(METHOD, "java/util/List", "m", "()V")) + POP, RETURN),
-        method("longOfAbsent", names(LDC2_W, pool.class_name("java/util/List")) + b"\x58", RETURN),
-        method("longOfString", names(LDC2_W, pool.class_name("java/lang/String")) + b"\x58", RETURN),
+        method("longOfAbsent", names(LDC2_W, pool.class_name("java/util/List")) + opcode("pop2"), RETURN),
+        method("longOfString", names(LDC2_W, pool.class_name("java/lang/String")) + opcode("pop2"), RETURN),
         method("fieldOfMethod", NULL, names(GETFIELD, pool.member(METHOD, "java/lang/String", "length", "()I")) + POP, RETURN),
         method("fieldOfClass", NULL, names(GETFIELD, pool.class_name("java/lang/String")) + POP, RETURN),
         method("callOfField", names(STATICALLY, pool.member(FIELD, "java/lang/String", "f", "I")), RETURN),
@@ -551,7 +552,7 @@ case(
 def far(name="A", **more):
     pool = Pool()
     casts = [of_class(pool, CHECKCAST, text) for text in ("java/util/List", "B")]
-    return class_file(name, [method("m", *casts, b"\xca", RETURN)], pool=pool, **more)
+    return class_file(name, [method("m", *casts, opcode("breakpoint"), RETURN)], pool=pool, **more)
 
 
 case("17-18-where-1-to-6-hold", {"A": far(), "Other": class_file("Other")}, "A m()V 1 17", "A m()V 4 18", "A m()V 6 14")
@@ -642,7 +643,7 @@ def linked_set():
         o=(SPECIAL, "java/lang/Error <init> ()V"),
     )
     uses += classes(pool, p=(NEW, "B"), q=(ANEWARRAY, "[I"), r=(CHECKCAST, "I"), t=(INSTANCEOF, "java/lang/Runnable"))
-    uses.append(method("u", names(LDC, pool.string("m")) + POP, names(LDC2_W, pool.add(LONG)) + b"\x58", RETURN))
+    uses.append(method("u", names(LDC, pool.string("m")) + POP, names(LDC2_W, pool.add(LONG)) + opcode("pop2"), RETURN))
     uses.append(handled(pool, "v", pool.class_name("java/lang/Exception"), pool.class_name("[LB;"), 0))
     return {
         "A": class_file("A", uses, [("s", "I", STATIC)], ["I"], super_name="B", flags=A_CLASS | ABSTRACT, pool=pool),

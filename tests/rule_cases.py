@@ -30,13 +30,15 @@ from class_files import (
     u2,
     u4,
 )
+from instructions import instructions
+from opcodes import BASES, numbers, opcode
 
 FINAL, SUPER = 0x0010, 0x0020
 AN_INTERFACE = PUBLIC | INTERFACE | ABSTRACT
 A_CLASS = PUBLIC | SUPER
 
 # The instructions of most methods here.
-NOP, NULL, ZERO, POP, RETURN = b"\x00", b"\x01", b"\x03", b"\x57", b"\xb1"
+NOP, NULL, ZERO, POP, RETURN = map(opcode, ("nop", "aconst_null", "iconst_0", "pop", "return"))
 
 found = {}
 
@@ -115,52 +117,53 @@ refused(
     "01-opcodes-reserved",
     {"op-%d" % op: of_code(u1(op), NOP * 8, RETURN) for op in (203, 204, 210, 254, 255)} | {"behind-return": of_code(RETURN, u1(203))},
 )
-CUT = {"bipush": "10", "sipush": "1100", "ldc": "12", "ldc_w": "1300", "iload": "15", "iinc": "8400", "goto": "a700", "getstatic": "b200"}
-CUT |= {"invokeinterface": "b90001 01", "invokedynamic": "ba0001 00", "newarray": "bc", "wide": "c4", "wide-iload": "c41500", "wide-iinc": "c484000000"}
-CUT |= {"multianewarray": "c50001", "goto_w": "c8000000", "ifnull": "c600", "tableswitch": "aa", "tableswitch-padding": "aa0000"}
-CUT |= {"tableswitch-default": "aa000000", "tableswitch-low": "aa00000000 000000", "tableswitch-high": "aa00000000 00000000 000000"}
-CUT |= {"tableswitch-table": "aa00000000 00000000 00000001 00000000 000000", "lookupswitch-default": "ab000000"}
-CUT |= {"lookupswitch-pairs": "ab00000000 000000", "lookupswitch-table": "ab00000000 00000001 00000000 000000"}
-refused("01-instructions-cut", {name: of_code(NOP * 3, bytes.fromhex(text)) for name, text in CUT.items()})
+# What is there behind each opcode; the switches stand at 3, where they have no padding.
+CUT = {"bipush": b"", "sipush": b"\0", "ldc": b"", "ldc_w": b"\0", "iload": b"", "iinc": b"\0", "goto": b"\0", "getstatic": b"\0"}
+CUT |= {"invokeinterface": b"\0\1\1", "invokedynamic": b"\0\1\0", "newarray": b"", "wide": b""}
+CUT |= {"wide-iload": opcode("iload") + b"\0", "wide-iinc": opcode("iinc") + bytes(3)}
+CUT |= {"multianewarray": b"\0\1", "goto_w": bytes(3), "ifnull": b"\0", "tableswitch": b"", "tableswitch-padding": bytes(2)}
+CUT |= {"tableswitch-default": bytes(3), "tableswitch-low": bytes(7), "tableswitch-high": bytes(11)}
+CUT |= {"tableswitch-table": row(0, 0, 0, 0, 0, 1) + bytes(7), "lookupswitch-default": bytes(3)}
+CUT |= {"lookupswitch-pairs": bytes(7), "lookupswitch-table": row(0, 0, 0, 1) + bytes(7)}
+refused("01-instructions-cut", {name: of_code(NOP * 3, opcode(name.split("-")[0]), rest) for name, rest in CUT.items()})
 
-WIDE = [21, 22, 25, 54, 55, 58]
-NOT_WIDE = [0, 20, 26, 53, 59, 131, 133, 168, 170, 196, 202, 203, 255]
+NOT_WIDE = numbers("nop ldc2_w iload_0 saload istore_0 lxor i2l jsr tableswitch wide breakpoint") + [203, 255]
 refused(
     "01-wide",
-    {"op-%d" % op: of_code(b"\xc4", u1(op), NOP * 9, RETURN) for op in NOT_WIDE}
-    | {"op-132-of-one-byte": of_code(b"\xc4\x84\0\0\1"), "op-21-of-one-byte": of_code(b"\xc4\x15\1")},
-    {"A": of_code(*(b"\xc4" + u1(op) + row(1) for op in WIDE), b"\xc4\x84" + row(1, 1), RETURN)},
+    {"op-%d" % op: of_code(opcode("wide"), u1(op), NOP * 9, RETURN) for op in NOT_WIDE}
+    | {"op-132-of-one-byte": of_code(opcode("wide"), opcode("iinc"), b"\0\0\1"), "op-21-of-one-byte": of_code(opcode("wide"), opcode("iload"), b"\1")},
+    {"A": of_code(instructions("wide iload 1, wide lload 1, wide aload 1, wide istore 1, wide lstore 1, wide astore 1, wide iinc 1 1, return"))},
 )
 refused(
     "01-newarray",
-    {"type-%d" % base: of_code(ZERO, b"\xbc", u1(base), POP, RETURN) for base in (0, 1, 2, 3, 12, 13, 128, 255)},
-    {"A": of_code(*(ZERO + b"\xbc" + u1(base) + POP for base in (4, 5, 8, 9, 10, 11)), RETURN)},
+    {"type-%d" % base: of_code(ZERO, opcode("newarray"), u1(base), POP, RETURN) for base in (0, 1, 2, 3, 12, 13, 128, 255)},
+    {"A": of_code(*(instructions("iconst_0, newarray %s, pop" % name) for name in BASES if name not in ("float", "double")), RETURN)},
 )
 refused(
     "01-operands",
     {
-        "invokeinterface-count-0": of_code(b"\xb9\0\1\0\0", RETURN),
-        "invokeinterface-fourth": of_code(b"\xb9\0\1\1\1", RETURN),
-        "invokedynamic-third": of_code(b"\xba\0\1\1\0", RETURN),
-        "invokedynamic-fourth": of_code(b"\xba\0\1\0\1", RETURN),
-        "multianewarray-0": of_code(b"\xc5\0\1\0", RETURN),
-        "behind-a-return": of_code(RETURN, b"\xc5\0\1\0"),
+        "invokeinterface-count-0": of_code(opcode("invokeinterface"), row(1), b"\0\0", RETURN),
+        "invokeinterface-fourth": of_code(opcode("invokeinterface"), row(1), b"\1\1", RETURN),
+        "invokedynamic-third": of_code(opcode("invokedynamic"), row(1), b"\1\0", RETURN),
+        "invokedynamic-fourth": of_code(opcode("invokedynamic"), row(1), b"\0\1", RETURN),
+        "multianewarray-0": of_code(opcode("multianewarray"), row(1), b"\0", RETURN),
+        "behind-a-return": of_code(RETURN, opcode("multianewarray"), row(1), b"\0"),
     },
 )
 
 
-def table(low, high, *targets, padding=b"\0\0", op=0xAA):
+def table(low, high, *targets, padding=b"\0"):
     """nop, iconst_0, then a switch at 2 whose default and targets are given from 2 on."""
     numbers = [targets[0], low, high, *targets[1:]]
-    return NOP + ZERO + u1(op) + padding[:1] + b"".join(number.to_bytes(4, "big", signed=True) for number in numbers)
+    return NOP + ZERO + opcode("tableswitch") + padding + b"".join(number.to_bytes(4, "big", signed=True) for number in numbers)
 
 
 def pairs(*matches, default=None, count=None):
-    """nop, iconst_0, then a lookupswitch at 2, all of whose targets are right behind it."""
+    """nop, iconst_0, then a lookupswitch at 2, all of whose targets are right after it."""
     length = 10 + 8 * len(matches)
     numbers = [length if default is None else default, len(matches) if count is None else count]
     numbers += [number for match in matches for number in (match, length)]
-    return NOP + ZERO + b"\xab\0" + b"".join(number.to_bytes(4, "big", signed=True) for number in numbers)
+    return NOP + ZERO + opcode("lookupswitch") + b"\0" + b"".join(number.to_bytes(4, "big", signed=True) for number in numbers)
 
 
 def with_switches(*switches):
@@ -180,7 +183,7 @@ refused(
         "target-past": of_code(table(3, 3, 18, 19), RETURN),
         "target-before": of_code(table(3, 3, 18, -3), RETURN),
     },
-    {"A": with_switches(table(3, 3, 18, 18), table(-1, 1, 26, 26, 26, 26), table(5, 5, 18, 18, padding=b"\xff\xff"))},
+    {"A": with_switches(table(3, 3, 18, 18), table(-1, 1, 26, 26, 26, 26), table(5, 5, 18, 18, padding=b"\xff"))},
 )
 refused(
     "01-lookupswitch",
@@ -197,47 +200,41 @@ refused(
 )
 
 
-def jump(op, offset, size=2):
-    return u1(op) + offset.to_bytes(size, "big", signed=True)
-
-
-refused(
-    "01-targets",
-    {
-        "goto-within-itself": of_code(jump(167, 1), RETURN),
-        "goto-within-another": of_code(jump(167, 4), b"\x11\0\0", POP, RETURN),
-        "goto-the-end": of_code(jump(167, 3)),
-        "goto-past-the-end": of_code(jump(167, 4), RETURN),
-        "goto-before-the-start": of_code(jump(167, -1), RETURN),
-        "ifeq-within": of_code(ZERO, jump(153, 2), RETURN),
-        "if_icmpeq-within": of_code(ZERO, ZERO, jump(159, 1), RETURN),
-        "if_acmpne-before": of_code(NULL, NULL, jump(166, -3), RETURN),
-        "ifnull-past": of_code(NULL, jump(198, 5), RETURN),
-        "ifnonnull-within": of_code(NULL, jump(199, 1), RETURN),
-        "jsr-within": of_code(jump(168, 1), RETURN),
-        "goto_w-within": of_code(jump(200, 4, 4), RETURN),
-        "goto_w-far": of_code(jump(200, 65536, 4), RETURN),
-        "jsr_w-within": of_code(jump(201, 2, 4), RETURN),
-        "never-reached": of_code(RETURN, jump(167, 1)),
-    },
-)
-HANDLER = [NOP, b"\x11\0\0", POP, RETURN, POP, RETURN]  # at 0, 1, 4, 5, 6, 7; the length is 8
+TARGETS = {
+    "goto-within-itself": "goto 1, return",
+    "goto-within-another": "goto 4, sipush 0, pop, return",
+    "goto-the-end": "goto 3",
+    "goto-past-the-end": "goto 4, return",
+    "goto-before-the-start": "goto -1, return",
+    "ifeq-within": "iconst_0, ifeq 2, return",
+    "if_icmpeq-within": "iconst_0, iconst_0, if_icmpeq 1, return",
+    "if_acmpne-before": "aconst_null, aconst_null, if_acmpne -3, return",
+    "ifnull-past": "aconst_null, ifnull 5, return",
+    "ifnonnull-within": "aconst_null, ifnonnull 1, return",
+    "jsr-within": "jsr 1, return",
+    "goto_w-within": "goto_w 4, return",
+    "goto_w-far": "goto_w 65536, return",
+    "jsr_w-within": "jsr_w 2, return",
+    "never-reached": "return, goto 1",
+}
+refused("01-targets", {name: of_code(instructions(text)) for name, text in TARGETS.items()})
+HANDLER = instructions("nop, sipush 0, pop, return, pop, return")  # at 0, 1, 4, 5, 6, 7; the length is 8
 refused(
     "01-handlers",
     {
-        "start-within": of_code(*HANDLER, handlers=[(2, 5, 6, 0)]),
-        "start-past": of_code(*HANDLER, handlers=[(9, 10, 6, 0)]),
-        "start-at-the-end": of_code(*HANDLER, handlers=[(8, 8, 6, 0)]),
-        "end-within": of_code(*HANDLER, handlers=[(0, 3, 6, 0)]),
-        "end-past": of_code(*HANDLER, handlers=[(0, 9, 6, 0)]),
-        "empty": of_code(*HANDLER, handlers=[(1, 1, 6, 0)]),
-        "backwards": of_code(*HANDLER, handlers=[(4, 1, 6, 0)]),
-        "handler-within": of_code(*HANDLER, handlers=[(0, 5, 3, 0)]),
-        "handler-at-the-end": of_code(*HANDLER, handlers=[(0, 5, 8, 0)]),
-        "handler-past": of_code(*HANDLER, handlers=[(0, 5, 65535, 0)]),
-        "second-row": of_code(*HANDLER, handlers=[(0, 5, 6, 0), (0, 2, 6, 0)]),
+        "start-within": of_code(HANDLER, handlers=[(2, 5, 6, 0)]),
+        "start-past": of_code(HANDLER, handlers=[(9, 10, 6, 0)]),
+        "start-at-the-end": of_code(HANDLER, handlers=[(8, 8, 6, 0)]),
+        "end-within": of_code(HANDLER, handlers=[(0, 3, 6, 0)]),
+        "end-past": of_code(HANDLER, handlers=[(0, 9, 6, 0)]),
+        "empty": of_code(HANDLER, handlers=[(1, 1, 6, 0)]),
+        "backwards": of_code(HANDLER, handlers=[(4, 1, 6, 0)]),
+        "handler-within": of_code(HANDLER, handlers=[(0, 5, 3, 0)]),
+        "handler-at-the-end": of_code(HANDLER, handlers=[(0, 5, 8, 0)]),
+        "handler-past": of_code(HANDLER, handlers=[(0, 5, 65535, 0)]),
+        "second-row": of_code(HANDLER, handlers=[(0, 5, 6, 0), (0, 2, 6, 0)]),
     },
-    {"A": of_code(*HANDLER, handlers=[(0, 8, 6, 0), (0, 5, 6, 65535), (6, 7, 0, 0), (0, 5, 6, 0)])},
+    {"A": of_code(HANDLER, handlers=[(0, 8, 6, 0), (0, 5, 6, 65535), (6, 7, 0, 0), (0, 5, 6, 0)])},
 )
 
 

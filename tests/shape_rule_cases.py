@@ -7,6 +7,8 @@ room for nine operands and nine local variables where nothing else is said.
 
 from class_files import ABSTRACT, PUBLIC, STATIC, Pool, class_file, native, row, u4
 from code_rule_cases import BAD_MAPS, with_all_maps
+from instructions import instructions
+from opcodes import opcode
 from rule_cases import A_CLASS, AN_INTERFACE, NOP, RETURN, case, method
 from shaped_code import Method, made_all
 
@@ -140,7 +142,7 @@ shaped(
     Method("before", "N: nop, new A, !{stack new:N} pop, return"),
     Method("array", "iconst_0, N: anewarray A, !{stack new:N} pop, return"),
     Method("ints", "iconst_0, N: newarray int, !{stack new:N} pop, return"),
-    # Any new will do, behind it too, and it gives a reference.
+    # Any new will do, one after it too, and it gives a reference.
     Method("nearBehind", "aconst_null, {stack new:N} pop, N: new A, pop, return"),
     Method("nearKinds", "aconst_null, {stack null} pop, aconst_null, {stack this} pop, aconst_null, {stack ref:A} pop, return"),
     Method("int", "!iconst_0, {stack this} pop, return"),
@@ -178,12 +180,12 @@ case(
                 # There is one line, whatever else fails.
                 with_no_map("parameters", NOP, RETURN, descriptor="(J)V", max_locals=1),
                 with_no_map("instance", NOP, RETURN, flags=PUBLIC, max_locals=0),
-                with_no_map("instructions", b"\x57\x57\x57"),
+                with_no_map("instructions", instructions("pop, pop, pop")),
                 with_no_map("rows", NOP, RETURN, handlers=[(0, 1, 0, 0)]),
                 # A frame between two instructions is none of either.
-                method("within", b"\x11\0\0\x57", RETURN, listed=row(1, 1) + u4(3) + b"\0\1\1"),
-                method("near", b"\x11\0\0\x57", RETURN, listed=row(1, 1) + u4(3) + b"\0\1\4"),
-                with_no_map("halt", b"\xca", RETURN),
+                method("within", instructions("sipush 0, pop, return"), listed=row(1, 1) + u4(3) + b"\0\1\1"),
+                method("near", instructions("sipush 0, pop, return"), listed=row(1, 1) + u4(3) + b"\0\1\4"),
+                with_no_map("halt", opcode("breakpoint"), RETURN),
                 with_no_map("floats", RETURN, descriptor="(F)V"),
             ],
             pool=pool,

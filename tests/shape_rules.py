@@ -134,7 +134,7 @@ def kinds_of(descriptor):
 
 
 def kind_at(descriptor, at):
-    """The kind of the type that begins at this place, empty for none, and the place behind it."""
+    """The kind of the type that begins at this place, empty for none, and the place after it."""
     begin = at
     while descriptor[at : at + 1] == b"[":
         at += 1
@@ -302,7 +302,7 @@ def moved(op, operands):
 
 
 def cut(operands, count):
-    """The place below so many operands."""
+    """The place below this many operands."""
     place = len(operands) - count
     if place < 0 or operands[place : place + 1] == "L":
         raise NoShape

@@ -17,27 +17,8 @@ catch no others, separated by commas; TO may be `end`.
 import re
 
 from class_files import DOUBLE, FIELD, FLOAT, INTEGER, INTERFACE_METHOD, LONG, METHOD, PUBLIC, STATIC, code, invoke_dynamic, row, u1, u2, u4
+from opcodes import BASES, opcode
 
-
-def expanded(text):
-    for name in text.split():
-        yield from [name[:-1] + str(number) for number in range(4)] if name.endswith("_n") else [name]
-
-
-NAMES = "nop aconst_null iconst_m1 iconst_0 iconst_1 iconst_2 iconst_3 iconst_4 iconst_5 lconst_0 lconst_1 fconst_0 fconst_1 fconst_2 dconst_0"
-NAMES += " dconst_1 bipush sipush ldc ldc_w ldc2_w iload lload fload dload aload iload_n lload_n fload_n dload_n aload_n iaload laload faload"
-NAMES += " daload aaload baload caload saload istore lstore fstore dstore astore istore_n lstore_n fstore_n dstore_n astore_n iastore lastore"
-NAMES += " fastore dastore aastore bastore castore sastore pop pop2 dup dup_x1 dup_x2 dup2 dup2_x1 dup2_x2 swap iadd ladd fadd dadd isub lsub"
-NAMES += " fsub dsub imul lmul fmul dmul idiv ldiv fdiv ddiv irem lrem frem drem ineg lneg fneg dneg ishl lshl ishr lshr iushr lushr iand land"
-NAMES += " ior lor ixor lxor iinc i2l i2f i2d l2i l2f l2d f2i f2l f2d d2i d2l d2f i2b i2c i2s lcmp fcmpl fcmpg dcmpl dcmpg ifeq ifne iflt ifge"
-NAMES += " ifgt ifle if_icmpeq if_icmpne if_icmplt if_icmpge if_icmpgt if_icmple if_acmpeq if_acmpne goto jsr ret tableswitch lookupswitch"
-NAMES += " ireturn lreturn freturn dreturn areturn return getstatic putstatic getfield putfield invokevirtual invokespecial invokestatic"
-NAMES += " invokeinterface invokedynamic new newarray anewarray arraylength athrow checkcast instanceof monitorenter monitorexit wide"
-NAMES += " multianewarray ifnull ifnonnull goto_w jsr_w breakpoint"
-OPCODES = {name: op for op, name in enumerate(expanded(NAMES))}
-assert OPCODES["breakpoint"] == 202
-
-BASES = dict(zip("boolean char float double byte short int long".split(), range(4, 12)))
 TYPES = {"top": 0, "int": 1, "float": 2, "double": 3, "long": 4, "null": 5, "this": 6}
 CONSTANTS = {"int": INTEGER, "float": FLOAT, "long": LONG, "double": DOUBLE}
 
@@ -108,8 +89,8 @@ class Body:
         name, *operands = words
         if name == "wide":
             name, slot, *more = operands
-            return b"\xc4" + u1(OPCODES[name]) + u2(int(slot)) + b"".join(signed(each, 2) for each in more)
-        op = u1(OPCODES[name])
+            return opcode("wide") + opcode(name) + u2(int(slot)) + b"".join(signed(each, 2) for each in more)
+        op = opcode(name)
         if name in ("bipush", "sipush"):
             return op + signed(operands[0], 1 if name == "bipush" else 2)
         if name in WITH_SLOT:

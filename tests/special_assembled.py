@@ -10,6 +10,7 @@ sys.dont_write_bytecode = True
 import harness
 from class_files import class_entry, row, text_entry, u1, u4
 from harness import Outcome
+from instructions import instructions
 from meaning import differences
 from special_base import MEBIBYTES_4, file_limit
 
@@ -147,7 +148,7 @@ def file(data):
 
 
 def counted(count):
-    """Texts with so many interfaces, fields, methods, rows of an exception table, and types of a frame; the last line of each that counts,
+    """Texts with this many interfaces, fields, methods, rows of an exception table, and types of a frame; the last line of each that counts,
     and the class file."""
     method = b".method 9 m ()V\n.stack 1\n.locals 1\n"
     yield "interfaces", b".implements I\n" * count, 2 + count, lambda: class_of(7, texts_pool(b"I") + class_entry(5), (count, row(6) * count))
@@ -162,12 +163,12 @@ def counted(count):
 
 
 def caught_class(count):
-    method = coded_method(b"\0\xb1", (count, row(0, 1, 0, 0) * count))
+    method = coded_method(instructions("nop, return"), (count, row(0, 1, 0, 0) * count))
     return class_of(8, texts_pool(b"m", b"()V", b"Code"), methods=(1, method))
 
 
 def framed_class(frames):
-    method = coded_method(b"\xb1", map_of=frames)
+    method = coded_method(instructions("return"), map_of=frames)
     return class_of(9, texts_pool(b"m", b"()V", b"Code", b"StackMapTable"), methods=(1, method))
 
 
@@ -183,7 +184,7 @@ def coded_method(code, rows=(0, b""), map_of=None):
     return row(9, 5, 6, 1, 7) + u4(len(body)) + body
 
 
-# A pool with the names of so many fields, and a name or a long as its last entry.
+# A pool with the names of this many fields, and a name or a long as its last entry.
 
 
 def named(count):

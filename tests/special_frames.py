@@ -203,7 +203,7 @@ RAISES = "aconst_null, arraylength"
 
 
 def handles(last, raises, count):
-    """The last local variable is an int, and so many operands are there when the exception comes."""
+    """The last local variable is an int, and this many operands are there when the exception comes."""
     types = "ref:[B %s int / ref:%s" % (" ".join(["top"] * (last - 1)), NULL_POINTER)
     before = ["sipush 99, wide istore %d" % last, "From: iconst_1", *["iconst_1"] * (count - 1), raises]
     return before, ["To: pop, aload_0, areturn"], ["Handler: {full %s} pop, wide iload %d" % (types, last), *RETURNS]

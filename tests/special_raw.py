@@ -155,7 +155,7 @@ def jump_to_itself():
     """A class whose code is a goto to itself, with its frame."""
     pool = Pool()
     stack_map = u2(pool.text("StackMapTable")) + u4(3) + u2(1) + b"\0"
-    body = code(b"\xa7\0\0", 1, 1, listed=u2(1) + stack_map)
+    body = code(instructions("goto 0"), 1, 1, listed=u2(1) + stack_map)
     return class_file("A", [("verify", "([B)[B", PUBLIC | STATIC, [body])], pool=pool)
 
 

@@ -221,10 +221,10 @@ class WithShape(Drawn):
     def told(self, kinds):
         return [self.draw.choice(TYPES[kind]) for kind in kinds]
 
-    # A handler stands behind all else.
+    # A handler comes after all else.
 
     def handler(self, count):
-        """One of so many rows; its frame has what all of their ranges have."""
+        """One of this many rows; its frame has what all of their ranges have."""
         spans = [self.span() for _ in range(count)]
         states = [state for start, end in spans for state in self.before[start:end]]
         common = [kinds[0] if len(set(kinds)) == 1 else None for kinds in zip(*states)]
@@ -416,6 +416,6 @@ def drawn_shapes(program, results):
                 file.write(data)
         text, status = reference.report(["check", top])
         lines = harness.difference(Outcome(status, text), harness.run(program, ["check", "c"], folder))
-    # What is drawn with shape is told to have it.
+    # What is drawn with shape must be found to have it.
     lines += [line for line in text.decode().splitlines() if line.split()[1].startswith("near")]
     results.add("tests/special: shapes that are drawn at random", ["check", "c"], lines)

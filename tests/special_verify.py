@@ -9,7 +9,8 @@ sys.dont_write_bytecode = True
 import harness
 from class_files import ABSTRACT, INTERFACE, PUBLIC, STATIC, Pool, class_file, code, straight, u1, u2, u4
 from harness import Outcome
-from instructions import PLAIN, instructions
+from instructions import instructions
+from opcodes import BASES, OPCODES, opcode
 from special_base import (
     MEBIBYTES_4,
     cut,
@@ -222,10 +223,13 @@ def verify_each(program, results, name, classes):
     results.add("tests/special: " + name, VERIFY, [])
 
 
-# Every first byte of code, with its operands. An instruction alone is no code with shape; number 0 is told.
+# Every first byte of code, with its operands. An instruction alone is no code with shape; number 0 is reported.
 
-WITH_OPERANDS = {16: 1, 17: 2, 21: 1, 25: 1, 54: 1, 58: 1, 188: 1}
-STRAIGHT = set(PLAIN.values()) | set(WITH_OPERANDS)
+WITH_OPERANDS = {"bipush": 1, "sipush": 2, "iload": 1, "aload": 1, "istore": 1, "astore": 1, "newarray": 1}
+WITHOUT = "nop aconst_null iconst_m1 baload bastore pop dup iadd isub imul iand ior ixor areturn arraylength".split()
+WITHOUT += ["iconst_%d" % number for number in range(6)]
+WITHOUT += ["%s_%d" % (name, slot) for name in ("iload", "aload", "istore", "astore") for slot in range(4)]
+STRAIGHT = {OPCODES[name] for name in (*WITHOUT, *WITH_OPERANDS)}
 LATER_A = Outcome(75, b"LATER A.class\n")
 SHAPE_0 = rejected(b"A.class verify([B)[B 0 19 SHAPE")
 
@@ -236,15 +240,16 @@ def of_code(body):
 
 def opcodes(program, results):
     rows = []
+    lengths = {OPCODES[name]: length for name, length in WITH_OPERANDS.items()}
     for op in range(256):
-        operands = b"\x08" * WITH_OPERANDS.get(op, 0)
+        operands = b"\x08" * lengths.get(op, 0)
         rows.append((op, of_code(u1(op) + operands), SHAPE_0 if op in STRAIGHT else LATER_A))
         # Operands that are cut, and one byte of another opcode after them.
         if operands:
             rows.append(("%d cut" % op, of_code(u1(op) + operands[1:]), LATER_A))
-        rows.append(("%d and a goto" % op, of_code(u1(op) + operands + b"\xa7\0\0"), LATER_A))
+        rows.append(("%d and a goto" % op, of_code(u1(op) + operands + instructions("goto 0")), LATER_A))
     for kind in range(256):
-        rows.append(("newarray %d" % kind, of_code(bytes([188, kind])), SHAPE_0 if kind == 8 else LATER_A))
+        rows.append(("newarray %d" % kind, of_code(opcode("newarray") + u1(kind)), SHAPE_0 if kind == BASES["byte"] else LATER_A))
     verify_each(program, results, "opcodes", rows)
 
 

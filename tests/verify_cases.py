@@ -139,7 +139,7 @@ run("input-is-changed", "aload_0, iconst_0, aload_0, arraylength, bastore, aload
 # SHAPE.
 
 SHAPES = {
-    # name, which begins with the number that is told: (instructions, max_stack, max_locals)
+    # name, which begins with the number that is reported: (instructions, max_stack, max_locals)
     "00-areturn-alone": ("areturn", 1, 1),
     "00-no-locals": ("aconst_null, areturn", 1, 0),
     "00-no-stack": ("aload_0, areturn", 0, 1),
@@ -199,7 +199,7 @@ case("entry-of-units", {"c/%s.class" % PAIR: class_file(PAIR, [returns])}, entry
 
 bad_shape = straight(instructions("areturn"))
 
-case("later-goto", {"c/A.class": class_file("A", [straight(b"\xa7\0\0")])})
+case("later-goto", {"c/A.class": class_file("A", [straight(instructions("goto 0"))])})
 case("later-two-files", {"c/A.class": one, "c/A$B.class": class_file("A$B", [returns])})
 case("later-before-entry", {"c/A.class": class_file("A", [returns, bad_shape], fields=[("x", "I")])}, entry="B")
 case("later-javac", {"c/%s.class" % path: data for path, data in accepted.items()}, entry="cash.Transfer")
