@@ -26,6 +26,7 @@ from class_reader import (
     utf16,
 )
 from library_classes import LIBRARY, OBJECT
+from opcodes import BASES, OPCODES, by_number, numbers
 
 RULES = {
     1: "MALFORMED",
@@ -128,21 +129,24 @@ class Code(Reader):
 
 # Instructions (JVMS 6.5).
 
-WITH_SLOT = [*range(21, 26), *range(54, 59), 169]
-JUMPS = [*range(153, 169), 198, 199]
-WITH_CONSTANT = [19, 20, *range(178, 188), 189, 192, 193, 197]
-FLOAT_FAMILIES = (range(11, 16), (23, 24), range(34, 42), (48, 49, 56, 57), range(67, 75), (81, 82), (98, 99, 102, 103, 106, 107))
-FLOAT_FAMILIES += ((110, 111, 114, 115, 118, 119, 134, 135), range(137, 145), range(149, 153), (174, 175))
-OF_FLOATS = {op for family in FLOAT_FAMILIES for op in family}
+LDC, LDC_W, LDC2_W, IINC, TABLESWITCH, LOOKUPSWITCH = numbers("ldc ldc_w ldc2_w iinc tableswitch lookupswitch")
+INVOKEINTERFACE, INVOKEDYNAMIC, NEWARRAY, MULTIANEWARRAY = numbers("invokeinterface invokedynamic newarray multianewarray")
+JSR, RET, GOTO_W, JSR_W, WIDE, BREAKPOINT = numbers("jsr ret goto_w jsr_w wide breakpoint")
+
+WITH_SLOT = numbers("iload lload fload dload aload istore lstore fstore dstore astore ret")
+JUMPS = numbers("ifeq ifne iflt ifge ifgt ifle if_icmpeq if_icmpne if_icmplt if_icmpge if_icmpgt if_icmple if_acmpeq if_acmpne")
+JUMPS += numbers("goto jsr ifnull ifnonnull")
+WITH_CONSTANT = numbers("ldc_w ldc2_w getstatic putstatic getfield putfield invokevirtual invokespecial invokestatic invokeinterface")
+WITH_CONSTANT += numbers("invokedynamic new anewarray checkcast instanceof multianewarray")
+OF_FLOATS = numbers("fconst_0 fconst_1 fconst_2 fload fload_n faload fstore fstore_n fastore fadd fsub fmul fdiv frem fneg fcmpl fcmpg freturn")
+OF_FLOATS += numbers("dconst_0 dconst_1 dload dload_n daload dstore dstore_n dastore dadd dsub dmul ddiv drem dneg dcmpl dcmpg dreturn")
+OF_FLOATS += numbers("i2f i2d l2f l2d f2i f2l f2d d2i d2l d2f")
 
 # How many bytes follow an opcode. A switch and `wide` have lengths of their own.
-OPERANDS = dict.fromkeys(range(203), 0)
-OPERANDS |= dict.fromkeys([16, 18, 188, *WITH_SLOT], 1)
-OPERANDS |= dict.fromkeys([17, 132, *JUMPS, *WITH_CONSTANT], 2)
-OPERANDS |= {185: 4, 186: 4, 197: 3, 200: 4, 201: 4}
-
-LDC, LDC_W, LDC2_W, IINC, RET, TABLESWITCH, LOOKUPSWITCH = 18, 19, 20, 132, 169, 170, 171
-INVOKEINTERFACE, INVOKEDYNAMIC, NEWARRAY, WIDE, MULTIANEWARRAY, BREAKPOINT = 185, 186, 188, 196, 197, 202
+OPERANDS = dict.fromkeys(OPCODES.values(), 0)
+OPERANDS |= dict.fromkeys([*numbers("bipush ldc newarray"), *WITH_SLOT], 1)
+OPERANDS |= dict.fromkeys([*numbers("sipush iinc"), *JUMPS, *WITH_CONSTANT], 2)
+OPERANDS |= by_number(invokeinterface=4, invokedynamic=4, multianewarray=3, goto_w=4, jsr_w=4)
 
 
 class Instruction:
@@ -183,7 +187,7 @@ def read_operands(made, operands):
         made.constant = operands[0]
     elif op in WITH_CONSTANT:
         made.constant = int.from_bytes(operands[:2], "big")
-    elif op in JUMPS or op in (200, 201):
+    elif op in (*JUMPS, GOTO_W, JSR_W):
         made.targets = [made.at + int.from_bytes(operands, "big", signed=True)]
     elif op == NEWARRAY:
         made.base = operands[0]
@@ -191,7 +195,7 @@ def read_operands(made, operands):
         made.slot = operands[0]
     if op == INVOKEINTERFACE:
         made.count = operands[2]
-    is_bad = op == NEWARRAY and not 4 <= operands[0] <= 11
+    is_bad = op == NEWARRAY and operands[0] not in BASES.values()
     is_bad = is_bad or op == INVOKEINTERFACE and (operands[2] == 0 or operands[3] != 0)
     is_bad = is_bad or op == INVOKEDYNAMIC and operands[2:] != b"\0\0"
     if is_bad or op == MULTIANEWARRAY and operands[2] == 0:
@@ -364,9 +368,9 @@ def rules_of_instruction(pool, one):
         yield 9
     if is_short_load and tag == CLASS or is_reflective(pool, entry, has_member=one.op != INVOKEDYNAMIC):
         yield 10
-    if one.op in OF_FLOATS or one.base in (6, 7) or one.op in (LDC, LDC_W, LDC2_W) and tag in (FLOAT, DOUBLE):
+    if one.op in OF_FLOATS or one.base in (BASES["float"], BASES["double"]) or one.op in (LDC, LDC_W, LDC2_W) and tag in (FLOAT, DOUBLE):
         yield 12
-    if one.op in (168, RET, 201):
+    if one.op in (JSR, RET, JSR_W):
         yield 13
     if one.op == BREAKPOINT:
         yield 14

@@ -9,6 +9,8 @@ INTERFACE = 0x0200
 ABSTRACT = 0x0400
 
 OBJECT = "java/lang/Object"
+# A character outside the basic plane: two units, six bytes in a class file and four in a path.
+PAIR = "\U00010437"
 
 # A class A with one method that returns its argument, flags 21, major 52.
 RETURNS_ITS_ARGUMENT = bytes.fromhex(

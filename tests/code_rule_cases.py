@@ -16,7 +16,6 @@ from class_files import (
     PUBLIC,
     STATIC,
     Pool,
-    class_entry,
     class_file,
     code,
     invoke_dynamic,
@@ -24,8 +23,6 @@ from class_files import (
     method_type,
     native,
     row,
-    string,
-    text_entry,
     u1,
     u2,
     u4,
@@ -35,7 +32,8 @@ from opcodes import BASES, OPCODES, numbers, opcode
 from rule_cases import A_CLASS, AN_INTERFACE, FINAL, NOP, NULL, POP, RETURN, ZERO, case, method
 from shaped_code import Method
 
-GETSTATIC, GETFIELD, INVOKEVIRTUAL, INVOKESTATIC = numbers("getstatic getfield invokevirtual invokestatic")
+GETSTATIC, PUTSTATIC, GETFIELD, PUTFIELD = numbers("getstatic putstatic getfield putfield")
+INVOKEVIRTUAL, INVOKESPECIAL, INVOKESTATIC = numbers("invokevirtual invokespecial invokestatic")
 INVOKEINTERFACE, INVOKEDYNAMIC = numbers("invokeinterface invokedynamic")
 NEW, ANEWARRAY, CHECKCAST, INSTANCEOF, MULTIANEWARRAY = numbers("new anewarray checkcast instanceof multianewarray")
 LDC, LDC_W, LDC2_W = numbers("ldc ldc_w ldc2_w")
@@ -141,8 +139,8 @@ case(
         method("anewarray", ZERO, names(ANEWARRAY, of_class), POP, RETURN),
         method("instanceof", NULL, names(INSTANCEOF, of_class), POP, RETURN),
         method("get", names(GETSTATIC, members[0]), POP, NULL, names(GETFIELD, members[0]), POP, RETURN),
-        method("put", ZERO, names(179, members[0]), NULL, ZERO, names(181, members[0]), RETURN),
-        method("call", names(INVOKESTATIC, members[1]), NULL, names(INVOKEVIRTUAL, members[1]), NULL, names(183, members[1]), RETURN),
+        method("put", ZERO, names(PUTSTATIC, members[0]), NULL, ZERO, names(PUTFIELD, members[0]), RETURN),
+        method("call", names(INVOKESTATIC, members[1]), NULL, names(INVOKEVIRTUAL, members[1]), NULL, names(INVOKESPECIAL, members[1]), RETURN),
         method("face", NULL, names(INVOKEINTERFACE, members[2], 1, 0), RETURN),
         # Descriptors name classes too, and nobody uses them as such.
         method("near", NULL, POP, RETURN, descriptor="(Ljava/lang/Class;)V"),

@@ -35,9 +35,9 @@ from class_files import (
     code,
     row,
     u1,
-    u2,
 )
-from instructions import instructions
+from instructions import instruction, instructions
+from opcodes import OPCODES, opcode
 from reference import EXCEPTION, LATER, REJECTED, THRESHOLD, USAGE
 
 DRAWN = os.path.join(os.path.dirname(os.path.abspath(__file__)), "drawn")
@@ -116,7 +116,7 @@ def any_method(draw, name, descriptor):
         return ("finalize", "()V", *draw.one([(ABSTRACT, junk(draw)), (PUBLIC, [code()])]))
     if what < 6:
         return (name, descriptor, ABSTRACT | draw.below(16), junk(draw))
-    return (name, descriptor, draw.below(64), [*junk(draw), code(b"\xb1", draw.below(4), 4)])
+    return (name, descriptor, draw.below(64), [*junk(draw), code(opcode("return"), draw.below(4), 4)])
 
 
 def any_class(draw, name):
@@ -189,6 +189,9 @@ MEMBERS = ["run", "length", "hashCode", "toString", "compareTo", "append", "abs"
 OF_METHODS = ["()V", "()I", "(I)I", "(I)V", "()Ljava/lang/String;", "(Ljava/lang/Object;)Z", "(LA;)V"]
 OF_FIELDS = ["I", "J", "LA;", "[I"]
 CAUGHT = ["A", "B", "java/lang/Exception", "x/Y", "java/lang/Throwable"]
+NAMING_FIELDS = ["getstatic", "putstatic", "getfield", "putfield"]
+NAMING_METHODS = ["invokevirtual", "invokespecial", "invokestatic", "invokeinterface"]
+NAMING_CLASSES = ["new", "anewarray", "checkcast", "instanceof"]
 
 
 def any_class_name(draw, names):
@@ -199,23 +202,24 @@ def any_class_name(draw, names):
 
 def named_by(draw, pool, names):
     """An instruction that names a class or a member."""
-    op = draw.one([18, 178, 179, 180, 181, 182, 183, 184, 185, 187, 189, 192, 193])
+    op = draw.one(["ldc", *NAMING_FIELDS, *NAMING_METHODS, *NAMING_CLASSES])
     name = any_class_name(draw, names)
-    if op == 18:
-        return u1(op) + u1(pool.string("x"))
-    if op >= 187:
-        return u1(op) + u2(pool.class_name(name))
-    descriptor = draw.one(OF_FIELDS if op < 182 else OF_METHODS)
-    member = draw.one(MEMBERS[:9] if op < 182 else MEMBERS)
+    if op == "ldc":
+        return instruction("ldc %d" % pool.string("x"))
+    if op in NAMING_CLASSES:
+        return instruction("%s %d" % (op, pool.class_name(name)))
+    is_field = op in NAMING_FIELDS
+    descriptor = draw.one(OF_FIELDS if is_field else OF_METHODS)
+    member = draw.one(MEMBERS[:9] if is_field else MEMBERS)
     if draw.chance(3):
-        name, member, descriptor = ("java/lang/Class", "f", descriptor) if op < 182 else (name, "getClass", "()Ljava/lang/Class;")
-    tag = FIELD if op < 182 else INTERFACE_METHOD if op == 185 else METHOD
-    return u1(op) + u2(pool.member(tag, name, member, descriptor)) + (b"\1\0" if op == 185 else b"")
+        name, member, descriptor = ("java/lang/Class", "f", descriptor) if is_field else (name, "getClass", "()Ljava/lang/Class;")
+    tag = FIELD if is_field else INTERFACE_METHOD if op == "invokeinterface" else METHOD
+    return instruction("%s %d%s" % (op, pool.member(tag, name, member, descriptor), " 1 0" if op == "invokeinterface" else ""))
 
 
 def use(draw, pool, number, names):
     """A method of instructions that name classes and members, and of handlers."""
-    parts = [b"\0", *(named_by(draw, pool, names) for _ in range(draw.below(8))), b"\xb1"]
+    parts = [opcode("nop"), *(named_by(draw, pool, names) for _ in range(draw.below(8))), opcode("return")]
     starts = [len(b"".join(parts[:count])) for count in range(len(parts))]
     caught = [draw.one(CAUGHT) if draw.chance(95) else "java/lang/ThreadDeath" for _ in range(draw.below(3) if draw.chance(50) else 0)]
     rows = [(0, draw.one(starts[1:]), draw.one(starts), pool.class_name(name)) for name in caught]
@@ -227,7 +231,7 @@ def plain_method(draw, name, is_interface, short):
     descriptor = draw.one(OF_METHODS) if draw.chance(50) else "(%s)V" % draw.one(OF_FIELDS)
     if is_interface or draw.chance(20):
         return (name, descriptor, PUBLIC | ABSTRACT)
-    return (name, descriptor if short else descriptor.partition(")")[0] + ")V", PUBLIC | draw.one([0, STATIC]), [code(b"\0\xb1", 9, 9)])
+    return (name, descriptor if short else descriptor.partition(")")[0] + ")V", PUBLIC | draw.one([0, STATIC]), [code(instructions("nop, return"), 9, 9)])
 
 
 def user(draw, name, is_interface, names, most, short):
@@ -348,9 +352,9 @@ def with_code(draw, parts, change):
 
 
 def with_opcode(draw, parts):
-    op = draw.one([9, 31, 72, 95, 108, 116, 172, 177])
-    parts["methods"][0][3] = [code(instructions("aload_0") + u1(op) + instructions("areturn"), 4, 4)]
-    return "opcode-%d" % op
+    name = draw.one(["lconst_0", "lload_1", "dstore_1", "swap", "idiv", "ineg", "ireturn", "return"])
+    parts["methods"][0][3] = [code(instructions("aload_0, %s, areturn" % name), 4, 4)]
+    return "opcode-%d" % OPCODES[name]
 
 
 MORE = {

@@ -2,7 +2,7 @@
 
     iconst_3, istore 8, goto -3, invokestatic 7, newarray byte, wide iload 300
 
-tableswitch and lookupswitch have no such form."""
+A type of newarray may also be a number, as in `newarray 3`, which no type has. tableswitch and lookupswitch have no such form: `switch` makes them."""
 
 from opcodes import BASES, opcode
 
@@ -26,10 +26,16 @@ def instruction(text):
     if len(operands) != len(lengths) or name.endswith("switch"):
         raise ValueError("no instruction: %s" % text)
     if name == "newarray":
-        operands = [BASES[operands[0]]]
+        operands = [BASES.get(operands[0], operands[0])]
     return start + b"".join(int(each).to_bytes(abs(length), "big", signed=length < 0) for each, length in zip(operands, lengths))
 
 
 def instructions(text):
     """The bytes of instructions that are separated by commas."""
     return b"".join(instruction(part) for part in text.split(","))
+
+
+def switch(name, padding, *numbers):
+    """A tableswitch or a lookupswitch: its padding, its default, and then of the one the least number, the greatest and the targets, of the other the count
+    and the pairs. The default and the targets are offsets."""
+    return opcode(name) + padding + b"".join(number.to_bytes(4, "big", signed=True) for number in numbers)

@@ -8,10 +8,11 @@ So its number is how much it takes. A method that no rule refuses is named `near
 import re
 
 from class_files import ABSTRACT, FIELD, INTEGER, INTERFACE_METHOD, METHOD, PUBLIC, STATIC, Pool, class_file, row, u2, u4
-from code_rule_cases import names
+from code_rule_cases import names, one
 from instructions import instructions
 from opcodes import numbers, opcode
 from rule_cases import A_CLASS, AN_INTERFACE, NOP, NULL, POP, RETURN, ZERO, case, method
+from shaped_code import parameters, slots_of
 
 GETSTATIC, PUTSTATIC, GETFIELD, PUTFIELD = numbers("getstatic putstatic getfield putfield")
 VIRTUAL, SPECIAL, STATICALLY, INTERFACE, DYNAMIC = numbers("invokevirtual invokespecial invokestatic invokeinterface invokedynamic")
@@ -24,10 +25,6 @@ DROPS = {"V": b"", "J": opcode("pop2")}
 
 FIELDS, METHODS = (GETSTATIC, PUTSTATIC, GETFIELD, PUTFIELD), (VIRTUAL, SPECIAL, STATICALLY, INTERFACE)
 OF_STATICS = (GETSTATIC, PUTSTATIC, STATICALLY)
-
-
-def parameters(descriptor):
-    return re.findall(r"\[*(?:L[^;]*;|[A-Z])", descriptor[1 : descriptor.index(")")])
 
 
 def uses(op, index, descriptor=""):
@@ -43,8 +40,8 @@ def uses(op, index, descriptor=""):
     else:
         takes += [PUSHES[descriptor[0]]] if op in (PUTSTATIC, PUTFIELD) else []
         leaves = "V" if op in (PUTSTATIC, PUTFIELD) else descriptor
-    slots = 1 + sum(2 if text == "J" else 1 for text in parameters(descriptor)) if op == INTERFACE else 0
-    return b"".join(takes) + names(op, index, *([slots, 0] if slots else [])) + DROPS.get(leaves[0], POP)
+    more = [1 + slots_of(descriptor), 0] if op == INTERFACE else []
+    return b"".join(takes) + names(op, index, *more) + DROPS.get(leaves[0], POP)
 
 
 def member(pool, op, text, tag=None):
@@ -67,10 +64,6 @@ def members(pool, **told):
 def classes(pool, **told):
     """For each name a method with an instruction on a class, by an opcode and the class."""
     return [method(name, of_class(pool, *each), RETURN) for name, each in told.items()]
-
-
-def one(name, pool, *methods, **more):
-    return {name: class_file(name, methods, pool=pool, **more)}
 
 
 def handled(pool, name, *catch_types, body=NOP + RETURN, flags=PUBLIC | STATIC):

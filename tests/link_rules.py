@@ -5,16 +5,16 @@ They were written from the description of the rules and from the JVM Specificati
 nothing with the program. Lines are those of check_rules.py.
 """
 
-import check_rules
 from check_rules import ABSTRACT, INTERFACE, INVOKEINTERFACE, LDC, LDC2_W, LDC_W, UNCATCHABLE, name_of_class, rules_of_instruction
 from class_reader import CLASS, DOUBLE, FIELD, FLOAT, INTEGER, INTERFACE_METHOD, LONG, METHOD, METHOD_HANDLE, METHOD_TYPE, STRING
 from library_classes import OBJECT
+from opcodes import numbers
 
 STATIC, PRIVATE = 0x0008, 0x0002
 
-GETSTATIC, PUTSTATIC, GETFIELD, PUTFIELD = range(178, 182)
-INVOKEVIRTUAL, INVOKESPECIAL, INVOKESTATIC = range(182, 185)
-NEW, ANEWARRAY, CHECKCAST, INSTANCEOF = 187, 189, 192, 193
+GETSTATIC, PUTSTATIC, GETFIELD, PUTFIELD = numbers("getstatic putstatic getfield putfield")
+INVOKEVIRTUAL, INVOKESPECIAL, INVOKESTATIC = numbers("invokevirtual invokespecial invokestatic")
+NEW, ANEWARRAY, CHECKCAST, INSTANCEOF = numbers("new anewarray checkcast instanceof")
 
 # The tags that each instruction takes.
 OF_INT, OF_LONG = (INTEGER, FLOAT, STRING, CLASS, METHOD_HANDLE, METHOD_TYPE), (LONG, DOUBLE)

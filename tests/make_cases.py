@@ -31,8 +31,8 @@ import verify_cases
 from class_files import (
     ABSTRACT,
     NATIVE,
+    PAIR,
     RETURNS_ITS_ARGUMENT,
-    Pool,
     class_entry,
     class_file,
     code,
@@ -41,14 +41,13 @@ from class_files import (
     parts,
     row,
     text_entry,
-    u2,
 )
+from pool_cases import with_pool
 
 HERE = os.path.dirname(os.path.abspath(__file__))
 CASES = os.path.join(HERE, "cases")
 
 LONE = b"\xed\xa0\x81"  # a high surrogate alone
-PAIR = "\U00010437"  # a character outside the basic plane: two units, six bytes here and four in a path
 
 cases = {}
 
@@ -65,13 +64,6 @@ def plain(name, **more):
 
 def with_native(name):
     return class_file(name, [native("n")])
-
-
-def with_pool(name, *entries, **more):
-    pool = Pool()
-    for entry in entries:
-        pool.add(entry)
-    return class_file(name, pool=pool, **more)
 
 
 # The first rows.
@@ -499,6 +491,14 @@ def write(path, data):
         file.write(data)
 
 
+def write_parts(top, files, words):
+    """The files and the words of the case in this folder; the files that were there are removed."""
+    shutil.rmtree(os.path.join(top, "files"), ignore_errors=True)
+    for path, data in files.items():
+        write(os.path.join(top, "files", path), data)
+    write(os.path.join(top, "words"), "".join(word + "\n" for word in words).encode())
+
+
 def files_of(top):
     """The bytes of each file in the folder, by its path there."""
     found = {}
@@ -541,9 +541,8 @@ def told_lines(text):
 def make(target, name, files, words, folders):
     top = os.path.join(target, name)
     inside = os.path.join(top, "files")
-    os.makedirs(inside)
-    for path, data in files.items():
-        write(os.path.join(inside, path), data)
+    write_parts(top, files, words)
+    os.makedirs(inside, exist_ok=True)
     for folder in folders:
         write(os.path.join(inside, folder, ".keep"), b"")
     text, status = outcome_of(inside, words)
@@ -555,7 +554,6 @@ def make(target, name, files, words, folders):
         if status != reference.NO_RUN:
             sys.exit("%s: reported %r with status %d, and the case has a run" % (name, text, status))
         text, status = raw_cases.told[name]
-    write(os.path.join(top, "words"), "".join(word + "\n" for word in words).encode())
     write(os.path.join(top, "stdout"), text)
     write(os.path.join(top, "status"), b"%d\n" % status)
     return text, status

@@ -12,12 +12,7 @@ import sys
 
 sys.dont_write_bytecode = True
 
-# The length of an instruction by its opcode (JVMS 6.5), but for the switches and wide.
-LENGTHS = {op: 1 for op in range(202)}
-LENGTHS |= {op: 2 for op in (16, 18, *range(21, 26), *range(54, 59), 169, 188)}
-LENGTHS |= {op: 3 for op in (17, 19, 20, 132, *range(153, 169), *range(178, 185), 187, 189, 192, 193, 198, 199)}
-LENGTHS |= {op: 4 for op in (197,)} | {op: 5 for op in (185, 186, 200, 201)}
-INDEXED = (18, 19, 20, *range(178, 188), 189, 192, 193, 197)
+from check_rules import IINC, LDC, LOOKUPSWITCH, OPERANDS, TABLESWITCH, WIDE, WITH_CONSTANT
 
 
 class Reader:
@@ -62,17 +57,17 @@ def instructions(pool, code):
     found, at = [], 0
     while at < len(code):
         op = code[at]
-        if op in (170, 171):
+        if op in (TABLESWITCH, LOOKUPSWITCH):
             start = at + 4 - at % 4
             low, high = struct.unpack(">ii", code[start + 4 : start + 12])
-            length = start - at + (12 + 4 * (high - low + 1) if op == 170 else 8 + 8 * low)
-        elif op == 196:
-            length = 6 if code[at + 1] == 132 else 4
+            length = start - at + (12 + 4 * (high - low + 1) if op == TABLESWITCH else 8 + 8 * low)
+        elif op == WIDE:
+            length = 6 if code[at + 1] == IINC else 4
         else:
-            length = LENGTHS[op]
+            length = 1 + OPERANDS[op]
         operands = code[at + 1 : at + length]
-        if op in INDEXED:
-            size = 1 if op == 18 else 2
+        if op in (LDC, *WITH_CONSTANT):
+            size = 1 if op == LDC else 2
             operands = (constant(pool, int.from_bytes(operands[:size], "big")), operands[size:])
         found.append((at, op, operands))
         at += length

@@ -2,6 +2,7 @@
 
 
 def expanded(text):
+    """The names that are separated by blanks; `NAME_n` stands for NAME_0 to NAME_3."""
     for name in text.split():
         yield from [name[:-1] + str(number) for number in range(4)] if name.endswith("_n") else [name]
 
@@ -28,5 +29,15 @@ def opcode(name):
 
 
 def numbers(names):
-    """The numbers of opcodes, whose names are separated by blanks."""
-    return [OPCODES[name] for name in names.split()]
+    """The numbers of opcodes, whose names are separated by blanks; `iload_n` stands for four of them."""
+    return [OPCODES[name] for name in expanded(names)]
+
+
+def by_number(**values):
+    """These values by the numbers of the opcodes for which they are given."""
+    return {OPCODES[name]: value for name, value in values.items()}
+
+
+def opcodes_between(first, last):
+    """The bytes of the opcodes from one name to another."""
+    return bytes(range(OPCODES[first], OPCODES[last] + 1))

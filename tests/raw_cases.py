@@ -2,14 +2,11 @@
 folders. Where the run decides, which reference.py doesn't make, its report is written here by hand. Those of tests/raw go through
 what runs do."""
 
-from class_files import NATIVE, PUBLIC, STATIC, RETURNS_ITS_ARGUMENT, class_file, native, straight
+from class_files import NATIVE, PAIR, PUBLIC, RETURNS_ITS_ARGUMENT, STATIC, class_file, native, straight
 from instructions import instructions
-
-PAIR = "\U00010437"  # a character outside the basic plane: two units, six bytes in a class file and four in a path
+from verify_cases import bad_shape, returns
 
 one = RETURNS_ITS_ARGUMENT
-returns = straight(instructions("aload_0, areturn"))
-bad_shape = straight(instructions("areturn"))
 
 found = {}
 # What a run writes, and its status, by the names of the cases. The others are those of reference.py.

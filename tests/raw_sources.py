@@ -5,7 +5,6 @@ its files here. Their outputs are kept, and not made here.
 """
 
 import os
-import shutil
 import sys
 
 sys.dont_write_bytecode = True
@@ -249,11 +248,7 @@ def check(results):
 
 def main():
     for name, (files, words) in found.items():
-        top = os.path.join(RAW, name)
-        shutil.rmtree(os.path.join(top, "files"), ignore_errors=True)
-        for path, data in files.items():
-            make_cases.write(os.path.join(top, "files", path), data)
-        make_cases.write(os.path.join(top, "words"), "".join(word + "\n" for word in words).encode())
+        make_cases.write_parts(os.path.join(RAW, name), files, words)
     print("%d cases" % len(found))
 
 

@@ -8,7 +8,7 @@ program:
 
     DJVM=tests/reference.py tests/run
 
-Class files are read by class_reader.py, and the rules of `check` stand in check_rules.py, link_rules.py and shape_rules.py.
+Class files are read by class_reader.py, opcodes have their names in opcodes.py, and the rules of `check` stand in check_rules.py, link_rules.py and shape_rules.py.
 """
 
 import os
@@ -21,6 +21,7 @@ import check_rules
 import shape_rules
 from class_reader import UTF8, ClassFile, Malformed, Reader, units_of, utf16
 from library_classes import RAW_LIBRARY
+from opcodes import BASES, OPCODES, by_number
 
 MOST_FILES = 4096
 MOST_BYTES = 4194304
@@ -129,19 +130,22 @@ class Code(Reader):
 
 INT, REFERENCE = "int", "reference"
 
-COMPUTED = {
-    96: lambda a, b: a + b,
-    100: lambda a, b: a - b,
-    104: lambda a, b: a * b,
-    126: lambda a, b: a & b,
-    128: lambda a, b: a | b,
-    130: lambda a, b: a ^ b,
-}
-OTHERS = {0: "nop", 51: "baload", 84: "bastore", 87: "pop", 89: "dup", 176: "areturn", 190: "arraylength"}
+COMPUTED = by_number(
+    iadd=lambda a, b: a + b,
+    isub=lambda a, b: a - b,
+    imul=lambda a, b: a * b,
+    iand=lambda a, b: a & b,
+    ior=lambda a, b: a | b,
+    ixor=lambda a, b: a ^ b,
+)
+PUSHED = by_number(aconst_null=None, iconst_m1=-1, iconst_0=0, iconst_1=1, iconst_2=2, iconst_3=3, iconst_4=4, iconst_5=5)
+# How many bytes the number has.
+PUSHES = by_number(bipush=1, sipush=2)
+OTHERS = {OPCODES[name]: name for name in ("nop", "baload", "bastore", "pop", "dup", "areturn", "arraylength")}
 
 # The first opcode of the four short forms of loads and stores, and the opcode with a slot of one byte.
-SHORT_FORMS = {26: ("load", INT), 42: ("load", REFERENCE), 59: ("store", INT), 75: ("store", REFERENCE)}
-LONG_FORMS = {21: ("load", INT), 25: ("load", REFERENCE), 54: ("store", INT), 58: ("store", REFERENCE)}
+SHORT_FORMS = by_number(iload_0=("load", INT), aload_0=("load", REFERENCE), istore_0=("store", INT), astore_0=("store", REFERENCE))
+LONG_FORMS = by_number(iload=("load", INT), aload=("load", REFERENCE), istore=("store", INT), astore=("store", REFERENCE))
 
 
 def straight_instructions(code):
@@ -157,18 +161,16 @@ def straight_instruction(reader):
         return (OTHERS[op],)
     if op in COMPUTED:
         return "compute", COMPUTED[op]
-    if op == 1:
-        return "push", None
-    if 2 <= op <= 8:
-        return "push", op - 3
-    if op in (16, 17):
-        return "push", int.from_bytes(reader.bytes(op - 15), "big", signed=True)
+    if op in PUSHED:
+        return "push", PUSHED[op]
+    if op in PUSHES:
+        return "push", int.from_bytes(reader.bytes(PUSHES[op]), "big", signed=True)
     if op in LONG_FORMS:
         return *LONG_FORMS[op], reader.number(1)
     for first, form in SHORT_FORMS.items():
         if first <= op <= first + 3:
             return *form, op - first
-    if op == 188 and reader.number(1) == 8:
+    if op == OPCODES["newarray"] and reader.number(1) == BASES["byte"]:
         return ("newarray",)
     raise NotStraight
 

@@ -14,7 +14,6 @@ from class_files import (
     INTERFACE,
     LONG,
     NATIVE,
-    OBJECT,
     PUBLIC,
     STATIC,
     Pool,
@@ -30,7 +29,7 @@ from class_files import (
     u2,
     u4,
 )
-from instructions import instructions
+from instructions import instructions, switch
 from opcodes import BASES, numbers, opcode
 
 FINAL, SUPER = 0x0010, 0x0020
@@ -154,16 +153,14 @@ refused(
 
 def table(low, high, *targets, padding=b"\0"):
     """nop, iconst_0, then a switch at 2 whose default and targets are given from 2 on."""
-    numbers = [targets[0], low, high, *targets[1:]]
-    return NOP + ZERO + opcode("tableswitch") + padding + b"".join(number.to_bytes(4, "big", signed=True) for number in numbers)
+    return NOP + ZERO + switch("tableswitch", padding, targets[0], low, high, *targets[1:])
 
 
 def pairs(*matches, default=None, count=None):
     """nop, iconst_0, then a lookupswitch at 2, all of whose targets are right after it."""
     length = 10 + 8 * len(matches)
-    numbers = [length if default is None else default, len(matches) if count is None else count]
-    numbers += [number for match in matches for number in (match, length)]
-    return NOP + ZERO + opcode("lookupswitch") + b"\0" + b"".join(number.to_bytes(4, "big", signed=True) for number in numbers)
+    heads = length if default is None else default, len(matches) if count is None else count
+    return NOP + ZERO + switch("lookupswitch", b"\0", *heads, *(number for match in matches for number in (match, length)))
 
 
 def with_switches(*switches):

@@ -7,10 +7,11 @@ the program. Lines are those of check_rules.py.
 
 import check_rules
 import link_rules
-from check_rules import IINC, INVOKEINTERFACE, LDC, LDC2_W, LDC_W, LOOKUPSWITCH, NEWARRAY, TABLESWITCH, Malformed, StackMap
+from check_rules import IINC, INVOKEINTERFACE, LDC, LDC2_W, LDC_W, Malformed, StackMap
 from class_reader import CLASS, INTEGER, LONG, STRING
 from library_classes import LIBRARY
-from link_rules import ANEWARRAY, CHECKCAST, GETFIELD, GETSTATIC, INSTANCEOF, INVOKESTATIC, INVOKEVIRTUAL, NEW, PUTFIELD, PUTSTATIC, STATIC
+from link_rules import GETFIELD, GETSTATIC, INVOKESPECIAL, INVOKESTATIC, INVOKEVIRTUAL, NEW, PUTFIELD, PUTSTATIC, STATIC
+from opcodes import by_number, numbers
 
 # The kinds: ints I, longs L and references R. A local variable without a kind is None, and so is the second one of a long.
 # On the operands here a long is two, L and below it l.
@@ -18,48 +19,50 @@ from link_rules import ANEWARRAY, CHECKCAST, GETFIELD, GETSTATIC, INSTANCEOF, IN
 TABLE = {}
 
 
-def row(ops, taken, given):
-    for op in ops:
+def row(names, taken, given):
+    for op in numbers(names):
         TABLE[op] = taken, given
 
 
-row([0, 167, 200, 177], "", "")
-row([1, NEW], "", "R")
-row([*range(2, 9), 16, 17], "", "I")
-row([9, 10], "", "L")
-row([46, 51, 52, 53], "RI", "I")
-row([47], "RI", "L")
-row([50], "RI", "R")
-row([79, 84, 85, 86], "RII", "")
-row([80], "RIL", "")
-row([83], "RIR", "")
-row([96, 100, 104, 108, 112, 120, 122, 124, 126, 128, 130], "II", "I")
-row([97, 101, 105, 109, 113, 127, 129, 131], "LL", "L")
-row([121, 123, 125], "LI", "L")
-row([116, 145, 146, 147], "I", "I")
-row([117], "L", "L")
-row([133], "I", "L")
-row([136], "L", "I")
-row([148], "LL", "I")
-row([*range(153, 159), TABLESWITCH, LOOKUPSWITCH, 172], "I", "")
-row([*range(159, 165)], "II", "")
-row([165, 166], "RR", "")
-row([173], "L", "")
-row([176, 191, 194, 195, 198, 199], "R", "")
-row([NEWARRAY, ANEWARRAY], "I", "R")
-row([190, INSTANCEOF], "R", "I")
-row([CHECKCAST], "R", "R")
+row("nop goto goto_w return", "", "")
+row("aconst_null new", "", "R")
+row("iconst_m1 iconst_n iconst_4 iconst_5 bipush sipush", "", "I")
+row("lconst_0 lconst_1", "", "L")
+row("iaload baload caload saload", "RI", "I")
+row("laload", "RI", "L")
+row("aaload", "RI", "R")
+row("iastore bastore castore sastore", "RII", "")
+row("lastore", "RIL", "")
+row("aastore", "RIR", "")
+row("iadd isub imul idiv irem ishl ishr iushr iand ior ixor", "II", "I")
+row("ladd lsub lmul ldiv lrem land lor lxor", "LL", "L")
+row("lshl lshr lushr", "LI", "L")
+row("ineg i2b i2c i2s", "I", "I")
+row("lneg", "L", "L")
+row("i2l", "I", "L")
+row("l2i", "L", "I")
+row("lcmp", "LL", "I")
+row("ifeq ifne iflt ifge ifgt ifle tableswitch lookupswitch ireturn", "I", "")
+row("if_icmpeq if_icmpne if_icmplt if_icmpge if_icmpgt if_icmple", "II", "")
+row("if_acmpeq if_acmpne", "RR", "")
+row("lreturn", "L", "")
+row("areturn athrow monitorenter monitorexit ifnull ifnonnull", "R", "")
+row("newarray anewarray", "I", "R")
+row("arraylength instanceof", "R", "I")
+row("checkcast", "R", "R")
 
-LOADS = {21: "I", 22: "L", 25: "R"}
-STORES = {54: "I", 55: "L", 58: "R"}
-SHORT_LOADS = {26: "I", 30: "L", 42: "R"}
-SHORT_STORES = {59: "I", 63: "L", 75: "R"}
+LOADS = by_number(iload="I", lload="L", aload="R")
+STORES = by_number(istore="I", lstore="L", astore="R")
+# The first ones of the short forms, each of which has four.
+SHORT_LOADS = by_number(iload_0="I", lload_0="L", aload_0="R")
+SHORT_STORES = by_number(istore_0="I", lstore_0="L", astore_0="R")
 
+POP, POP2, SWAP = numbers("pop pop2 swap")
 # How many operands are moved, and above how many others they are put.
-COPIES = {89: (1, 0), 90: (1, 1), 91: (1, 2), 92: (2, 0), 93: (2, 1), 94: (2, 2)}
+COPIES = by_number(dup=(1, 0), dup_x1=(1, 1), dup_x2=(1, 2), dup2=(2, 0), dup2_x1=(2, 1), dup2_x2=(2, 2))
 
-RETURNS = {172: "I", 173: "L", 176: "R", 177: ""}
-LAST = [167, 200, TABLESWITCH, LOOKUPSWITCH, 191, *RETURNS]
+RETURNS = by_number(ireturn="I", lreturn="L", areturn="R", **{"return": ""})
+LAST = [*numbers("goto goto_w tableswitch lookupswitch athrow"), *RETURNS]
 
 
 def lines(files, library=LIBRARY):
@@ -105,14 +108,25 @@ def fault_of(view, method):
     if len(first) > method.code.max_locals:
         return 0
     shape = Shape(view, method.code, result)
-    for frame in frames:
-        number = shape.number[frame[0]]
+    number = fault_of_frames(shape, frames, list(parameters))
+    return fault_of_steps(shape, first) if number is None else number
+
+
+def fault_of_frames(shape, frames, entries):
+    """The number of the first frame that doesn't fit, or None. The frames are those of the shape from here on."""
+    for address, tag, lists in frames:
+        number = shape.number[address]
         try:
-            shape.add_frame(number, *frame[1:], entries=list(parameters))
+            shape.add_frame(number, tag, lists, entries)
         except NoShape:
             return number
-    state = Shape.padded(first, method.code.max_locals), ""
-    for number in range(len(method.code.instructions)):
+    return None
+
+
+def fault_of_steps(shape, first):
+    """The number of the first instruction that doesn't find what it takes, or None; `first` has the local variables before the first one."""
+    state = Shape.padded(first, shape.code.max_locals), ""
+    for number in range(len(shape.code.instructions)):
         try:
             state = shape.step(number, state)
         except NoShape:
@@ -218,7 +232,7 @@ class Shape:
 
     def after(self, one, locals, operands):
         op, slot = one.op, one.slot
-        for first, kinds, of_kind in ((26, SHORT_LOADS, LOADS), (59, SHORT_STORES, STORES)):
+        for kinds, of_kind in ((SHORT_LOADS, LOADS), (SHORT_STORES, STORES)):
             for base, kind in kinds.items():
                 if base <= op < base + 4:
                     op, slot = next(long for long, other in of_kind.items() if other == kind), op - base
@@ -232,7 +246,7 @@ class Shape:
             if slot >= len(locals) or locals[slot] != "I":
                 raise NoShape
             taken, given = "", ""
-        elif 87 <= op <= 95:
+        elif op in (POP, POP2, SWAP, *COPIES):
             return locals, self.fitting(moved(op, operands))
         elif op in RETURNS and RETURNS[op] != self.result:
             raise NoShape
@@ -258,7 +272,7 @@ class Shape:
         parameters, result = kinds_of(descriptor)
         if one.op == INVOKEINTERFACE and one.count != 1 + sum(len(slots(kind)) for kind in parameters):
             raise NoShape
-        if not INVOKEVIRTUAL <= one.op <= INVOKEINTERFACE:
+        if one.op not in (INVOKEVIRTUAL, INVOKESPECIAL, INVOKESTATIC, INVOKEINTERFACE):
             raise NoShape
         return (parameters if one.op == INVOKESTATIC else "R" + parameters), result
 
@@ -290,9 +304,9 @@ def pushed(kind):
 
 def moved(op, operands):
     """The operands after pop, pop2, swap and those that copy; a long is never cut."""
-    if op in (87, 88):
-        return operands[: cut(operands, op - 86)]
-    if op == 95:
+    if op in (POP, POP2):
+        return operands[: cut(operands, 1 if op == POP else 2)]
+    if op == SWAP:
         middle = cut(operands, 1)
         bottom = cut(operands, 2)
         return operands[:bottom] + operands[middle:] + operands[bottom:middle]

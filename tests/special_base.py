@@ -5,10 +5,14 @@ import sys
 
 sys.dont_write_bytecode = True
 
+import harness
+import reference
 from class_files import INTEGER, RETURNS_ITS_ARGUMENT, class_file, row, u4
 from harness import Outcome
 
 MEBIBYTES_4 = 4194304
+MOST_INPUT = 1048576
+VERIFY, RAW = ("verify", "c", "A", "in"), ("raw", "c", "A", "in")
 
 one = RETURNS_ITS_ARGUMENT
 # It ends with its pool's one entry.
@@ -24,11 +28,11 @@ input_limit = Outcome(7, b"LIMIT input 1048576\n")
 special_cases = []
 
 
-def special(*words, wanted, **more):
-    """Registers a function that makes the folder in which the program is run; it is called in that folder."""
+def special(*words, wanted, name=None, **more):
+    """Registers a function that makes the folder in which the program is run; it is called in that folder. The case has its name where none is given."""
 
     def register(make):
-        special_cases.append((make.__name__.replace("_", "-"), make, words or ("check", "c"), wanted, more))
+        special_cases.append(((name or make.__name__).replace("_", "-"), make, words or ("check", "c"), wanted, more))
         return make
 
     return register
@@ -48,11 +52,37 @@ def ok(result, alloc=0):
     return Outcome(0, (line + "costs alloc %d invoke 0 jump 0 throw 0\n" % alloc).encode())
 
 
+def returned(data):
+    """The same of `raw`, which makes two steps of `one`."""
+    return Outcome(0, (b"OK %d %s\n" % (len(data), data.hex().encode()) if data else b"OK 0\n") + b"steps 2\n")
+
+
+def by_reference(folder):
+    """What reference.py says of the folder `c` in this one."""
+    text, status = reference.report(["check", os.path.join(folder, "c")])
+    return Outcome(status, text)
+
+
+def misjudged(program, folder, wanted):
+    """The lines that say how `check` of the folder `c` in this one differs from what is wanted."""
+    return harness.difference(wanted, harness.run(program, ["check", "c"], folder))
+
+
 def write(path, data=b""):
     path = os.fsencode(path)
     os.makedirs(os.path.dirname(path) or b".", exist_ok=True)
     with open(path, "wb") as file:
         file.write(data)
+
+
+def write_one():
+    write("c/A.class", one)
+
+
+def write_classes(folder, files):
+    """The class files in the folder `c` of this one, by their names without `.class`."""
+    for name, data in files.items():
+        write(os.path.join(folder, "c", name + ".class"), data)
 
 
 def write_long(path, name, length):

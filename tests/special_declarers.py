@@ -5,15 +5,13 @@ In a chain of classes few declare the members, so that the nearest one is farthe
 have a private or a static one, which isn't found. Whether a member is static tells which one was found.
 """
 
-import os
 import random
 
 import harness
-import reference
 from class_files import ABSTRACT, OBJECT, PUBLIC, STATIC, Pool, class_file
-from harness import Outcome
 from link_rule_cases import GETFIELD, GETSTATIC, INTERFACE, PRIVATE, STATICALLY, VIRTUAL, members
 from rule_cases import A_CLASS, AN_INTERFACE
+from special_base import by_reference, misjudged, write_classes
 
 # The classes that stand beside the others have both members, and are more than are looked at one by one.
 BESIDE = 70
@@ -39,17 +37,21 @@ class Drawn:
         self.draw, self.names = draw, ("m" * length, "f" * length)
         self.faces, self.classes = ["I%d" % number for number in range(faces)], ["C%d" % number for number in range(classes)]
         self.files = {"D%d" % number: self.one("D%d" % number, AN_INTERFACE, True, True) for number in range(BESIDE)}
-        for number, name in enumerate(self.faces):
-            lists = draw.sample(self.faces[:number], min(number, draw.randrange(2)))
-            self.files[name] = self.one(name, AN_INTERFACE, draw.random() < 0.6, draw.random() < 0.04, lists, METHODS[:1] + METHODS[1:] * 8)
-        for number, name in enumerate(self.classes):
-            above = self.classes[number - 1] if number and draw.random() < together else OBJECT
-            has_members = every and number % every == 0
-            # They are static in every second of these classes.
-            methods, fields = (flags[number // every % 2 :: 2] if has_members else flags for flags in (METHODS, FIELDS))
-            lists = draw.sample(self.faces, draw.randrange(listed + 1))
-            self.files[name] = self.one(name, A_CLASS | ABSTRACT, has_members, has_members, lists, methods, fields, super_name=above)
+        self.files |= {name: self.face(number, name) for number, name in enumerate(self.faces)}
+        self.files |= {name: self.of_chain(number, name, together, every, listed) for number, name in enumerate(self.classes)}
         self.files["User"] = self.user()
+
+    def face(self, number, name):
+        lists = self.draw.sample(self.faces[:number], min(number, self.draw.randrange(2)))
+        return self.one(name, AN_INTERFACE, self.draw.random() < 0.6, self.draw.random() < 0.04, lists, METHODS[:1] + METHODS[1:] * 8)
+
+    def of_chain(self, number, name, together, every, listed):
+        above = self.classes[number - 1] if number and self.draw.random() < together else OBJECT
+        has_members = every and number % every == 0
+        # They are static in every second of these classes.
+        methods, fields = (flags[number // every % 2 :: 2] if has_members else flags for flags in (METHODS, FIELDS))
+        lists = self.draw.sample(self.faces, self.draw.randrange(listed + 1))
+        return self.one(name, A_CLASS | ABSTRACT, has_members, has_members, lists, methods, fields, super_name=above)
 
     def one(self, name, flags, has_method, has_field, interfaces=(), of_methods=METHODS, of_fields=(PUBLIC | STATIC,), **more):
         method, field = self.names
@@ -72,18 +74,9 @@ class Drawn:
         return class_file("User", members(pool, **told), pool=pool)
 
 
-def write(folder, files):
-    for name, data in files.items():
-        with open(os.path.join(folder, name + ".class"), "wb") as file:
-            file.write(data)
-
-
 def drawn_sets(program, results):
     for name, sizes in SETS.items():
         with harness.scratch() as folder:
-            top = os.path.join(folder, "c")
-            os.mkdir(top)
-            write(top, Drawn(random.Random(name), *sizes).files)
-            text, status = reference.report(["check", top])
-            lines = harness.difference(Outcome(status, text), harness.run(program, ["check", "c"], folder))
+            write_classes(folder, Drawn(random.Random(name), *sizes).files)
+            lines = misjudged(program, folder, by_reference(folder))
         results.add("tests/special: many declarers, %s" % name, ["check", "c"], lines)

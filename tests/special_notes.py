@@ -11,10 +11,9 @@ sys.dont_write_bytecode = True
 import harness
 from class_files import class_file, native
 from harness import Outcome
-from special_base import accepted, closed_pipe, full, link, one, rejected, special, usage, write
+from special_base import VERIFY, accepted, closed_pipe, full, link, one, rejected, special, usage, write
 
 LAUNCHER = os.path.join(os.path.dirname(os.path.dirname(os.path.abspath(__file__))), "djvm")
-VERIFY = ("verify", "c", "A", "in")
 
 
 def told(status, line, stdout=b""):

@@ -1,4 +1,4 @@
-"""The cases of `djvm raw` that no folder of the repository can hold: limits, full outputs, little memory; and the texts of the cases of tests/raw."""
+"""The cases of `djvm raw` alone that no folder of the repository can hold: limits and little memory; and the texts of the cases of tests/raw."""
 
 import os
 import re
@@ -11,106 +11,11 @@ import harness
 from class_files import PUBLIC, STATIC, Pool, class_file, code, straight, u2, u4
 from harness import Outcome
 from instructions import instructions
-from special_base import (
-    MEBIBYTES_4,
-    cut,
-    fault,
-    file_limit,
-    files_limit,
-    full,
-    input_limit,
-    one,
-    rejected,
-    special,
-    total_limit,
-    usage,
-    write,
-    write_files,
-    write_long,
-    write_zeros,
-)
+from special_base import MEBIBYTES_4, RAW, rejected, returned, special, total_limit, write, write_files, write_long, write_one, write_zeros
 
 HERE = os.path.dirname(os.path.abspath(__file__))
-TOP = os.path.dirname(HERE)
-MOST_INPUT = 1048576
-RAW = ("raw", "c", "A", "in")
 
-
-def returned(data):
-    return Outcome(0, (b"OK %d %s\n" % (len(data), data.hex().encode()) if data else b"OK 0\n") + b"steps 2\n")
-
-
-def write_one():
-    write("c/A.class", one)
-
-
-# The input.
-
-
-@special(*RAW, wanted=returned(b"\x5a" * MOST_INPUT))
-def raw_input_of_1048576():
-    write_one()
-    write("in", b"\x5a" * MOST_INPUT)
-
-
-@special(*RAW, wanted=input_limit)
-def raw_input_of_1048577():
-    write_one()
-    write_zeros("in", MOST_INPUT + 1)
-
-
-@special(*RAW, wanted=returned(b"\x01"))
-def raw_input_is_link():
-    write_one()
-    write("store", b"\x01")
-    os.symlink("store", "in")
-
-
-@special(*RAW, wanted=fault, as_nobody=True)
-def raw_input_unreadable():
-    write_one()
-    write("in")
-    os.chmod("in", 0)
-
-
-@special(*RAW, wanted=fault, as_nobody=True)
-def raw_class_file_unreadable():
-    write_one()
-    write("in")
-    os.chmod("c/A.class", 0)
-
-
-@special("raw", "c", "A", b"\xff", wanted=usage)
-def raw_input_word_not_utf8():
-    write_one()
-    write(b"\xff")
-
-
-# The order of work: the number of files, the input, each file and their sum, the rules.
-
-
-@special(*RAW, wanted=files_limit)
-def raw_files_before_an_absent_input():
-    write_files(4097)
-
-
-@special(*RAW, wanted=fault)
-def raw_absent_input_before_a_long_file():
-    write_zeros("c/A.class", MEBIBYTES_4 + 1)
-
-
-@special(*RAW, wanted=input_limit)
-def raw_long_input_before_a_long_file():
-    write_zeros("c/A.class", MEBIBYTES_4 + 1)
-    write_zeros("in", MOST_INPUT + 1)
-
-
-@special(*RAW, wanted=file_limit)
-def raw_long_file_before_rules():
-    write("c/A.class", cut)
-    write("c/B.class", b"")
-    write_zeros("c/C.class", MEBIBYTES_4 + 1)
-    write("in")
+# The sum of the class files is asked before the rules. special_runs.py has more of the order of work.
 
 
 @special(*RAW, wanted=total_limit)
@@ -132,20 +37,6 @@ def raw_class_file_of_4194304():
     write_long("c/B.class", "B", MEBIBYTES_4)
     write_one()
     write("in", b"\x01\x02")
-
-
-# A standard output that takes nothing.
-
-
-@special(*RAW, wanted=Outcome(66, b""), stdout=full)
-def raw_full_output():
-    write_one()
-    write("in")
-
-
-@special(*RAW, wanted=fault, stdout=full)
-def raw_nothing_written_of_an_absent_input():
-    write_one()
 
 
 # Where --steps isn't given there are 10,000,000.

@@ -5,15 +5,13 @@ the state flows, and each handler has a frame that fits its range. Those named `
 `any` are drawn without a thought of what fits.
 """
 
-import os
 import random
 
 import harness
-import reference
 from class_files import ABSTRACT, PUBLIC, STATIC, Pool, class_file
-from harness import Outcome
 from rule_cases import AN_INTERFACE
 from shaped_code import Method, made_all
+from special_base import by_reference, misjudged, write_classes
 
 SEED, CLASSES, METHODS = 19, 80, 45
 
@@ -409,13 +407,9 @@ def drawn_files():
 
 def drawn_shapes(program, results):
     with harness.scratch() as folder:
-        top = os.path.join(folder, "c")
-        os.mkdir(top)
-        for name, data in drawn_files().items():
-            with open(os.path.join(top, name + ".class"), "wb") as file:
-                file.write(data)
-        text, status = reference.report(["check", top])
-        lines = harness.difference(Outcome(status, text), harness.run(program, ["check", "c"], folder))
+        write_classes(folder, drawn_files())
+        wanted = by_reference(folder)
+        lines = misjudged(program, folder, wanted)
     # What is drawn with shape must be found to have it.
-    lines += [line for line in text.decode().splitlines() if line.split()[1].startswith("near")]
+    lines += [line for line in wanted.stdout.decode().splitlines() if line.split()[1].startswith("near")]
     results.add("tests/special: shapes that are drawn at random", ["check", "c"], lines)

@@ -1,4 +1,4 @@
-"""The cases of `djvm verify` that no folder of the repository can hold, and those that go through many class files."""
+"""The cases of `djvm verify` alone that no folder of the repository can hold, and those that go through many class files."""
 
 import os
 import resource
@@ -11,44 +11,9 @@ from class_files import ABSTRACT, INTERFACE, PUBLIC, STATIC, Pool, class_file, c
 from harness import Outcome
 from instructions import instructions
 from opcodes import BASES, OPCODES, opcode
-from special_base import (
-    MEBIBYTES_4,
-    cut,
-    fault,
-    file_limit,
-    files_limit,
-    full,
-    input_limit,
-    ok,
-    one,
-    rejected,
-    special,
-    usage,
-    write,
-    write_files,
-    write_zeros,
-)
-
-MOST_INPUT = 1048576
-VERIFY = ("verify", "c", "A", "in")
+from special_base import MOST_INPUT, VERIFY, fault, full, ok, one, rejected, special, usage, write, write_one, write_zeros
 
 # Verify: the input, and the longest code.
-
-
-def write_one():
-    write("c/A.class", one)
-
-
-@special(*VERIFY, wanted=ok("5a" * MOST_INPUT))
-def input_of_1048576():
-    write_one()
-    write("in", b"\x5a" * MOST_INPUT)
-
-
-@special(*VERIFY, wanted=input_limit)
-def input_of_1048577():
-    write_one()
-    write_zeros("in", MOST_INPUT + 1)
 
 
 @special(*VERIFY, wanted=fault)
@@ -60,20 +25,6 @@ def input_absent():
 def input_is_folder():
     write_one()
     os.mkdir("in")
-
-
-@special(*VERIFY, wanted=fault, as_nobody=True)
-def input_unreadable():
-    write_one()
-    write("in")
-    os.chmod("in", 0)
-
-
-@special(*VERIFY, wanted=fault, as_nobody=True)
-def unreadable_file_of_a_run():
-    write_one()
-    os.chmod("c/A.class", 0)
-    write("in")
 
 
 @special(*VERIFY, wanted=fault, as_nobody=True)
@@ -93,60 +44,16 @@ def input_with_slash():
     write("in")
 
 
-@special(*VERIFY, wanted=fault, as_nobody=True)
-def unreadable_input():
-    write_one()
-    write("in")
-    os.chmod("in", 0)
-
-
-@special(*VERIFY, wanted=ok(b"\x01"))
-def input_is_link():
-    write_one()
-    write("store", b"\x01")
-    os.symlink("store", "in")
-
-
-@special("verify", "c", "A", b"\xff", wanted=usage)
-def input_word_not_utf8():
-    write_one()
-    write(b"\xff")
-
-
 @special("verify", "c", b"\xff", "in", wanted=usage)
 def entry_word_not_utf8():
     write_one()
     write("in")
 
 
-@special(*VERIFY, wanted=files_limit)
-def files_before_an_absent_input():
-    write_files(4097)
-
-
-@special(*VERIFY, wanted=fault)
-def absent_input_before_long_file():
-    write_zeros("c/A.class", MEBIBYTES_4 + 1)
-
-
-@special(*VERIFY, wanted=input_limit)
-def long_input_before_long_file():
-    write_zeros("c/A.class", MEBIBYTES_4 + 1)
-    write_zeros("in", MOST_INPUT + 1)
-
-
-@special(*VERIFY, wanted=file_limit)
-def long_file_before_rules():
-    write("c/A.class", cut)
-    write("c/B.class", b"")
-    write_zeros("c/C.class", MEBIBYTES_4 + 1)
-    write("in")
-
-
 def longest(end):
     """A class whose code has 65,535 bytes, most of them nops, and ends so."""
     end = instructions(end)
-    return class_file("A", [straight(bytes(65535 - len(end)) + end, 1, 1)])
+    return class_file("A", [straight(opcode("nop") * (65535 - len(end)) + end, 1, 1)])
 
 
 @special(*VERIFY, wanted=ok(b"\x01\x02"))
@@ -168,20 +75,9 @@ def stack_and_locals_of_65535():
 
 
 @special(*VERIFY, wanted=Outcome(66, b""), stdout=full)
-def full_output_of_a_run():
-    write_one()
-    write("in")
-
-
-@special(*VERIFY, wanted=Outcome(66, b""), stdout=full)
 def full_output_of_a_long_result():
     write_one()
     write_zeros("in", MOST_INPUT)
-
-
-@special(*VERIFY, wanted=fault, stdout=full)
-def nothing_written_of_an_absent_input():
-    write_one()
 
 
 def little_memory():
@@ -248,8 +144,7 @@ def opcodes(program, results):
         if operands:
             rows.append(("%d cut" % op, of_code(u1(op) + operands[1:]), LATER_A))
         rows.append(("%d and a goto" % op, of_code(u1(op) + operands + instructions("goto 0")), LATER_A))
-    for kind in range(256):
-        rows.append(("newarray %d" % kind, of_code(opcode("newarray") + u1(kind)), SHAPE_0 if kind == BASES["byte"] else LATER_A))
+    rows += [("newarray %d" % kind, of_code(instructions("newarray %d" % kind)), SHAPE_0 if kind == BASES["byte"] else LATER_A) for kind in range(256)]
     verify_each(program, results, "opcodes", rows)
 
 
@@ -292,7 +187,7 @@ def not_straight(program, results):
         "a handler": class_of_method(listed=[code(BODY, 1, 1, handlers=[(0, 1, 1, 0)])]),
         "a stack map": with_map(),
         "code of no bytes": of_body(u2(1) + u2(1) + u4(0) + u2(0) + u2(0)),
-        "code of 65536": of_body(u2(1) + u2(1) + u4(65536) + bytes(65534) + BODY + u2(0) + u2(0)),
+        "code of 65536": of_body(u2(1) + u2(1) + u4(65536) + opcode("nop") * 65534 + BODY + u2(0) + u2(0)),
         "a body of no bytes": of_body(b""),
         "a cut body": of_body(right[:-1]),
         "a byte after the body": of_body(right + b"\0"),

@@ -2,6 +2,7 @@
 
 from class_files import (
     NATIVE,
+    PAIR,
     PUBLIC,
     RETURNS_ITS_ARGUMENT,
     STATIC,
@@ -15,10 +16,9 @@ from class_files import (
 from instructions import instructions
 from pool_cases import LONG, accepted, whole_pool, with_pool
 
-PAIR = "\U00010437"  # a character outside the basic plane: two units, six bytes in a class file and four in a path
-
 one = RETURNS_ITS_ARGUMENT
 returns = straight(instructions("aload_0, areturn"))
+bad_shape = straight(instructions("areturn"))
 
 found = {}
 
@@ -196,8 +196,6 @@ for name, entry in (("dots", "a.b.C"), ("slashes", "a/b/C"), ("both", "a.b/C")):
 case("entry-of-units", {"c/%s.class" % PAIR: class_file(PAIR, [returns])}, entry=PAIR)
 
 # LATER, and the order of the rules. tests/special has each reason for LATER.
-
-bad_shape = straight(instructions("areturn"))
 
 case("later-goto", {"c/A.class": class_file("A", [straight(instructions("goto 0"))])})
 case("later-two-files", {"c/A.class": one, "c/A$B.class": class_file("A$B", [returns])})

@@ -41,6 +41,11 @@ def above(name, *before, **more):
     return in_order(name, (OBJECT,), *before, **more)
 
 
+def of_method(name, attributes, *inner, flags=9):
+    """A file with one method; `inner` are constants that stand before the name of its code."""
+    return in_order(name, *inner, *(["Code"] if attributes else []), "m", "()V", methods=[("m", "()V", flags, attributes)])
+
+
 def by_indexes(flags, this_class, super_class, interfaces=(), fields=b"\0\0", methods=b"\0\0", listed=b"\0\0", count=None, pool=None):
     """A class file by its indexes; the count is that of the pool where it isn't given."""
     head = u4(0xCAFEBABE) + row(0, 52, pool.count if count is None else count) + b"".join(pool.entries)

@@ -9,7 +9,6 @@
 
 import os
 import re
-import shutil
 import sys
 
 sys.dont_write_bytecode = True
@@ -72,11 +71,7 @@ def check(results):
 
 def main():
     for name, (files, words) in found.items():
-        top = os.path.join(WRITTEN, name)
-        shutil.rmtree(os.path.join(top, "files"), ignore_errors=True)
-        for path, data in files.items():
-            make_cases.write(os.path.join(top, "files", path), data)
-        make_cases.write(os.path.join(top, "words"), "".join(word + "\n" for word in words).encode())
+        make_cases.write_parts(os.path.join(WRITTEN, name), files, words)
     print("%d cases" % len(found))
 
 

@@ -23,7 +23,22 @@ from class_files import (
     u2,
     u4,
 )
-from written_base import above, add_every, attribute, by_indexes, check, each_of, float_entry, found, in_order, integer_entry, pool_of, wide_entry
+from opcodes import opcode
+from written_base import (
+    above,
+    add_every,
+    attribute,
+    by_indexes,
+    check,
+    each_of,
+    float_entry,
+    found,
+    in_order,
+    integer_entry,
+    of_method,
+    pool_of,
+    wide_entry,
+)
 
 one = RETURNS_ITS_ARGUMENT
 LONG_1 = wide_entry(5, 1)
@@ -313,12 +328,7 @@ check(
 # What `verify` doesn't judge yet.
 
 
-def of_method(name, attributes, *inner, flags=9):
-    """A file with one method; `inner` are the names of the attributes of its code."""
-    return in_order(name, *inner, *(["Code"] if attributes else []), "m", "()V", methods=[("m", "()V", flags, attributes)])
-
-
-def with_code(name, body=b"\xb1", **more):
+def with_code(name, body=opcode("return"), **more):
     return of_method(name, [code(body, max_locals=0, **more)])
 
 
@@ -338,10 +348,10 @@ check(
     "class-file-not-yet",
     {
         "abstract-code": of_method("abstract-code", [code(max_locals=0)], flags=ABSTRACT | 1),
-        "code-cut": with_code("code-cut", b"\x10"),
+        "code-cut": with_code("code-cut", opcode("bipush")),
         "code-empty": of_method("code-empty", [("Code", b"")]),
-        "code-falls-out": with_code("code-falls-out", b"\0"),
-        "code-reserved": with_code("code-reserved", b"\xff"),
+        "code-falls-out": with_code("code-falls-out", opcode("nop")),
+        "code-reserved": with_code("code-reserved", u1(255)),
         "code-trailing": of_method("code-trailing", [trailing]),
         "code-zero-length": with_code("code-zero-length", b""),
         "cv-short": with_value("cv-short", [b"\0"]),

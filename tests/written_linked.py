@@ -3,7 +3,9 @@
 `uses` makes a method of instructions that name something, each behind what pushes what it takes, and `caught` one of handlers (written_base.py).
 """
 
-from class_files import FIELD, INTERFACE_METHOD, METHOD, OBJECT, RETURNS_ITS_ARGUMENT, class_file, code, invoke_dynamic, method_handle, method_type, u1, u2
+from class_files import FIELD, INTERFACE_METHOD, METHOD, OBJECT, RETURNS_ITS_ARGUMENT, class_file, code, invoke_dynamic, method_handle, method_type, u2
+from instructions import instructions
+from opcodes import OPCODES
 from shaped_code import Method
 from written_base import caught, check, coded, integer_entry, pool_of, uses, wide_entry
 
@@ -547,23 +549,23 @@ MORE = {
     "nope": lambda pool: pool.member(METHOD, OBJECT, "nope", "()V"),
     "death": lambda pool: pool.member(FIELD, "java/lang/ThreadDeath", "x", "I"),
 }
-LDC, INVOKEINTERFACE = 18, 185
-OPCODES = [LDC, 19, 20, *range(178, 186), 187, 189, 192, 193]
+NAMING = "ldc ldc_w ldc2_w getstatic putstatic getfield putfield invokevirtual invokespecial invokestatic invokeinterface new anewarray checkcast"
+NAMING += " instanceof"
 
 
-def named_by(pool, op, add):
+def named_by(pool, name, add):
     """The code of an instruction with this constant."""
-    index = add(pool)
-    return code(u1(op) + (u1 if op == LDC else u2)(index) + (b"\1\0" if op == INVOKEINTERFACE else b"") + b"\xb1", 9, 9)
+    more = " 1 0" if name == "invokeinterface" else ""
+    return code(instructions("%s %d%s, return" % (name, add(pool), more)), 9, 9)
 
 
 pool = pool_of(("A",), "Code", "t", "()V", "m")
 methods = [("t", "()V", 9, [code(max_locals=0)]), ("m", "()V", 1, [code()])]
-for op in OPCODES:
+for name in NAMING.split():
     for kind, add in ADDS.items():
-        if op != LDC or kind != "past":
-            body = named_by(pool, op, add)
-            methods.append(("o%d-%s" % (op, kind), "()V", 9, [body]))
+        if name != "ldc" or kind != "past":
+            body = named_by(pool, name, add)
+            methods.append(("o%d-%s" % (OPCODES[name], kind), "()V", 9, [body]))
             pool.text(methods[-1][0])
 I = coded("I", ("q", "()V", 0x401), ("st", "()V", 0x409), flags=0x601)
 check("linked-rule-18-tags", {"A": class_file("A", methods, [("s", "I", 9), ("i", "J", 1)], pool=pool), "I": I})
@@ -571,7 +573,7 @@ check("linked-rule-18-tags", {"A": class_file("A", methods, [("s", "I", 9), ("i"
 pool, methods = pool_of(("A",), "x", "Code"), []
 for kind, add in {**ADDS, **MORE}.items():
     if kind != "zero":
-        body = code(b"\0\xb1\x57\xb1", 9, 9, [(0, 1, 2, add(pool))])
+        body = code(instructions("nop, return, pop, return"), 9, 9, [(0, 1, 2, add(pool))])
         methods.append(("h-" + kind, "()V", 9, [body]))
         pool.text(methods[-1][0]), pool.text("()V")
 check("linked-rule-18-handlers", {"A": class_file("A", methods, pool=pool)})

@@ -20,17 +20,14 @@ from class_files import (
     u1,
     u2,
 )
+from instructions import instructions, switch
+from opcodes import BASES, opcode, opcodes_between
 from shaped_code import Method
-from written_base import above, attribute, caught, check, coded, float_entry, in_order, integer_entry, pool_of, uses, wide_entry
+from written_base import above, attribute, caught, check, coded, float_entry, in_order, integer_entry, of_method, pool_of, uses, wide_entry
 
-POP, RETURN = b"\x57", b"\xb1"
+NOP, RETURN = opcode("nop"), opcode("return")
 
 # 1 MALFORMED: code.
-
-
-def of_method(name, attributes, *inner, flags=9):
-    """A file with one method; `inner` are constants that stand before the name of its code."""
-    return in_order(name, *inner, *(["Code"] if attributes else []), "m", "()V", methods=[("m", "()V", flags, attributes)])
 
 
 def with_code(name, body=RETURN, max_stack=1, max_locals=1, flags=9, inner=(), **more):
@@ -83,52 +80,70 @@ check(
 )
 
 INSTRUCTIONS = {
-    "cut-bipush": "00 10",
-    "cut-goto": "a700",
-    "cut-wide": "c4",
-    "dynamic-fourth": "ba00010001 b1",
-    "dynamic-third": "ba00010100 b1",
-    "interface-0": "b900010000 b1",
-    "interface-zero": "b900010101 b1",
-    "lookup-empty": "03 ab0000 0000000b 00000000 b1",
-    "lookup-equal": "03 ab0000 0000001b 00000002 00000007 0000001b 00000007 0000001b b1",
-    "lookup-falling": "03 ab0000 0000001b 00000002 00000001 0000001b ffffffff 0000001b b1",
-    "lookup-minus": "03 ab0000 0000000b ffffffff b1",
-    "lookup-rising": "03 ab0000 0000001b 00000002 fffffffb 0000001b fffffffc 0000001b b1",
-    "multi-0": "c5000100 b1",
-    "newarray-11": "03 bc0b 57 b1",
-    "newarray-12": "03 bc0c 57 b1",
-    "newarray-3": "03 bc03 57 b1",
-    "newarray-4": "03 bc04 57 b1",
-    "op-202": "ca b1",
-    "op-203": "cb",
-    "op-254": "fe",
-    "op-255": "ff",
-    "table": "03 aa0000 00000013 00000000 00000000 00000013 b1",
-    "table-cut": "03 aa0000 00000013 00000000 00000001 00000013",
-    "table-low-high": "03 aa0000 0000000f 00000001 00000000 b1",
-    "table-padded": "03 aa07ff 00000013 00000000 00000000 00000013 b1",
-    "table-wide-range": "03 aa0000 00000013 80000000 7fffffff b1",
-    "target-default": "03 ab0000 0000000a 00000000 b1",
-    "target-end": "a70003",
-    "target-if": "03 990002 b1",
-    "target-jsr": "a80002 b1",
-    "target-lookup": "03 ab0000 00000013 00000001 00000000 00000014 b1",
-    "target-middle": "a70004 1000 57 b1",
-    "target-minus": "a7ffff b1",
-    "target-ok": "a70003 1000 57 b1",
-    "target-past": "a7007f b1",
-    "target-self": "a70000",
-    "target-table": "03 aa0000 00000013 00000000 00000000 00000012 b1",
-    "target-w": "c8ffffffff b1",
-    "target-w-huge": "c87fffffff b1",
-    "wide-iinc": "c48400000001 b1",
-    "wide-iload_0": "c41a0000 b1",
-    "wide-nop": "c4000000 b1",
-    "wide-ret": "c4a90000 b1",
-    "wide-wide": "c4c4150000 b1",
+    "dynamic-fourth": "invokedynamic 1 0 1, return",
+    "dynamic-third": "invokedynamic 1 1 0, return",
+    "interface-0": "invokeinterface 1 0 0, return",
+    "interface-zero": "invokeinterface 1 1 1, return",
+    "multi-0": "multianewarray 1 0, return",
+    "newarray-11": "iconst_0, newarray 11, pop, return",
+    "newarray-12": "iconst_0, newarray 12, pop, return",
+    "newarray-3": "iconst_0, newarray 3, pop, return",
+    "newarray-4": "iconst_0, newarray 4, pop, return",
+    "op-202": "breakpoint, return",
+    "target-end": "goto 3",
+    "target-if": "iconst_0, ifeq 2, return",
+    "target-jsr": "jsr 2, return",
+    "target-middle": "goto 4, bipush 0, pop, return",
+    "target-minus": "goto -1, return",
+    "target-ok": "goto 3, bipush 0, pop, return",
+    "target-past": "goto 127, return",
+    "target-self": "goto 0",
+    "target-w": "goto_w -1, return",
+    "target-w-huge": "goto_w 2147483647, return",
+    "wide-iinc": "wide iinc 0 1, return",
+    "wide-ret": "wide ret 0, return",
 }
-check("rule-1-instructions", {name: with_code(name, bytes.fromhex(text), 2) for name, text in INSTRUCTIONS.items()})
+
+
+def table(*numbers, padding=b"\0\0", end=RETURN):
+    """iconst_0, then a tableswitch at 1."""
+    return opcode("iconst_0") + switch("tableswitch", padding, *numbers) + end
+
+
+def lookup(*numbers):
+    """The same of a lookupswitch."""
+    return opcode("iconst_0") + switch("lookupswitch", b"\0\0", *numbers) + RETURN
+
+
+SWITCHES = {
+    "lookup-empty": lookup(11, 0),
+    "lookup-equal": lookup(27, 2, 7, 27, 7, 27),
+    "lookup-falling": lookup(27, 2, 1, 27, -1, 27),
+    "lookup-minus": lookup(11, -1),
+    "lookup-rising": lookup(27, 2, -5, 27, -4, 27),
+    "table": table(19, 0, 0, 19),
+    "table-cut": table(19, 0, 1, 19, end=b""),
+    "table-low-high": table(15, 1, 0),
+    "table-padded": table(19, 0, 0, 19, padding=b"\x07\xff"),
+    "table-wide-range": table(19, -(1 << 31), (1 << 31) - 1),
+    "target-default": lookup(10, 0),
+    "target-lookup": lookup(19, 1, 0, 20),
+    "target-table": table(19, 0, 0, 18),
+}
+# Instructions that are cut, opcodes that no instruction has, and `wide` before what can't be wide.
+NO_INSTRUCTIONS = {
+    "cut-bipush": NOP + opcode("bipush"),
+    "cut-goto": opcode("goto") + b"\0",
+    "cut-wide": opcode("wide"),
+    "op-203": u1(203),
+    "op-254": u1(254),
+    "op-255": u1(255),
+    "wide-iload_0": opcode("wide") + opcode("iload_0") + row(0) + RETURN,
+    "wide-nop": opcode("wide") + NOP + row(0) + RETURN,
+    "wide-wide": opcode("wide") + instructions("wide iload 0, return"),
+}
+bodies = {name: instructions(text) for name, text in INSTRUCTIONS.items()} | SWITCHES | NO_INSTRUCTIONS
+check("rule-1-instructions", {name: with_code(name, body, 2) for name, body in bodies.items()})
 
 # The rows of handlers of `bipush 0, pop, return`, whose instructions are at 0, 2 and 3.
 ROWS = {
@@ -147,8 +162,8 @@ ROWS = {
     "row-two": [(0, 4, 0, 0), (0, 4, 0, 0)],
     "row-whole": [(0, 4, 0, 0)],
 }
-check("rule-1-rows", {name: with_code(name, b"\x10\0" + POP + RETURN, handlers=rows) for name, rows in ROWS.items()})
-check("rule-1-length", {name: with_code(name, bytes(length - 1) + RETURN, 0, 0) for name, length in (("big", 65535), ("past", 65536))})
+check("rule-1-rows", {name: with_code(name, instructions("bipush 0, pop, return"), handlers=rows) for name, rows in ROWS.items()})
+check("rule-1-length", {name: with_code(name, NOP * (length - 1) + RETURN, 0, 0) for name, length in (("big", 65535), ("past", 65536))})
 
 finalizer = [("finalize", "()V", NATIVE | 1, [code(RETURN, 1, 1)])]
 finalizer = in_order("A", float_entry(), "Code", "finalize", "()V", methods=finalizer, super_name="x/Y", major=49)
@@ -297,16 +312,16 @@ BEFORE = ["m", "()V", name_and_type(3, 4), invoke_dynamic(0, 5), "Code", "dyn", 
 BEFORE += [invoke_dynamic(7, 11), "dyn-getClass", member_entry(METHOD, 2, 5), method_handle(6, 14), "ldc-handle", method_type(4), "ldc-type"]
 BEFORE += ["ldc_w-handle", "ldc_w-type", ("x/Y",), "dyn-wrong", "dyn-past"]
 DYNAMIC = {
-    "dyn": "ba00060000",
-    "dyn-getClass": "ba000c0000 57",
-    "ldc-handle": "120f 57",
-    "ldc-type": "1211 57",
-    "ldc_w-handle": "13000f 57",
-    "ldc_w-type": "00 130011 57",
-    "dyn-wrong": "ba00160000",
-    "dyn-past": "ba03e70000",
+    "dyn": "invokedynamic 6 0 0, return",
+    "dyn-getClass": "invokedynamic 12 0 0, pop, return",
+    "ldc-handle": "ldc 15, pop, return",
+    "ldc-type": "ldc 17, pop, return",
+    "ldc_w-handle": "ldc_w 15, pop, return",
+    "ldc_w-type": "nop, ldc_w 17, pop, return",
+    "dyn-wrong": "invokedynamic 22 0 0, return",
+    "dyn-past": "invokedynamic 999 0 0, return",
 }
-methods = [(name, "()V", 9, [code(bytes.fromhex(text) + RETURN, 9, 9)]) for name, text in DYNAMIC.items()]
+methods = [(name, "()V", 9, [code(instructions(text), 9, 9)]) for name, text in DYNAMIC.items()]
 UNUSED = [("A",), "m", "()V", name_and_type(5, 6), member_entry(METHOD, 4, 7), method_handle(6, 8), method_type(6), invoke_dynamic(0, 7)]
 unused = in_order("B", *UNUSED, "Code", "unused", methods=[("unused", "()V", 9, [code(RETURN, 9, 9)])])
 check("rule-9", {"A": in_order("A", *BEFORE, methods=methods), "B": unused})
@@ -350,8 +365,13 @@ check(
 
 BEFORE = ["getClass", "Ljava/lang/Class;", name_and_type(3, 4), member_entry(FIELD, 2, 5), "Code", "field", "()V", ("java/lang/Class",)]
 BEFORE += ["class-entry", string(10), "string", "B", class_entry(15), "()Ljava/lang/Class;", name_and_type(3, 17), member_entry(METHOD, 16, 18)]
-FIELD_OF_CLASS = {"field": "b20006 57", "class-entry": "01 b4000b 57", "string": "120d 57", "member-entry": "bb0013 57"}
-methods = [(name, "()V", 9, [code(bytes.fromhex(text) + RETURN, 9, 9)]) for name, text in FIELD_OF_CLASS.items()]
+FIELD_OF_CLASS = {
+    "field": "getstatic 6, pop, return",
+    "class-entry": "aconst_null, getfield 11, pop, return",
+    "string": "ldc 13, pop, return",
+    "member-entry": "new 19, pop, return",
+}
+methods = [(name, "()V", 9, [code(instructions(text), 9, 9)]) for name, text in FIELD_OF_CLASS.items()]
 check("rule-10-field", {"A": in_order("A", *BEFORE, "member-entry", methods=methods)})
 
 # 11 CATCH.
@@ -393,19 +413,19 @@ check(
 def with_first(name, text, body, **more):
     """A class whose first constant is the class of this name."""
     pool = pool_of(class_entry(2), text, (name,), "Code", "m", "()V")
-    return class_file(name, [("m", "()V", 9, [code(bytes.fromhex(body), 9, 9, **more)])], pool=pool)
+    return class_file(name, [("m", "()V", 9, [code(instructions(body), 9, 9, **more)])], pool=pool)
 
 
 handler = dict(handlers=[(0, 1, 2, 1)])
 check(
     "rule-11-first-entry",
     {
-        "A": with_first("A", "java/lang/ThreadDeath", "00 b1 57 b1", **handler),
-        "B": with_first("B", "java/lang/Thread", "00 b1 57 b1", **handler),
-        "C": with_first("C", "x/Y", "bb0001 57 b1"),
-        "D": with_first("D", "java/lang/Class", "01 c00001 57 1201 57 b1"),
-        "E": with_first("E", "[F", "b1"),
-        "F": with_first("F", "E", "bb0001 57 b1", handlers=[(0, 3, 4, 1)]),
+        "A": with_first("A", "java/lang/ThreadDeath", "nop, return, pop, return", **handler),
+        "B": with_first("B", "java/lang/Thread", "nop, return, pop, return", **handler),
+        "C": with_first("C", "x/Y", "new 1, pop, return"),
+        "D": with_first("D", "java/lang/Class", "aconst_null, checkcast 1, pop, ldc 1, pop, return"),
+        "E": with_first("E", "[F", "return"),
+        "F": with_first("F", "E", "new 1, pop, return", handlers=[(0, 3, 4, 1)]),
     },
 )
 
@@ -427,15 +447,11 @@ check("rule-12-class", {name: in_order(name, *before) for name, before in FLOATS
 
 def every_instruction():
     """All instructions of one byte up to dcmpg, loads and stores with a slot, wide and not, and then those with constants."""
-    body = bytes(range(15)) + b"\x0f"
-    for op in range(21, 26):
-        body += u1(op) + b"\0" + b"\xc4" + u1(op) + row(0)
-    body += bytes(range(26, 54))
-    for op in range(54, 59):
-        body += u1(op) + b"\0" + b"\xc4" + u1(op) + row(0)
-    body += bytes(op for op in range(59, 153) if op != 132) + bytes(range(172, 178))
-    body += b"".join(bytes([188, base]) for base in range(4, 12))
-    return body + bytes.fromhex("1203 130003 140004 1206 130006 140007 140003 1204") + RETURN
+    loads, stores = (", ".join("%s%s 0, wide %s%s 0" % (kind, name, kind, name) for kind in "ilfda") for name in ("load", "store"))
+    body = opcodes_between("nop", "dconst_1") + instructions(loads) + opcodes_between("iload_0", "saload")
+    body += instructions(stores) + opcodes_between("istore_0", "lxor") + opcodes_between("i2l", "dcmpg") + opcodes_between("ireturn", "return")
+    body += instructions(", ".join("newarray " + base for base in BASES))
+    return body + instructions("ldc 3, ldc_w 3, ldc2_w 4, ldc 6, ldc_w 6, ldc2_w 7, ldc2_w 3, ldc 4, return")
 
 
 BEFORE = [float_entry(), wide_entry(6), integer_entry(), wide_entry(5), "Code", "m", "()V"]
@@ -471,12 +487,12 @@ check(
 
 BEFORE = ["sub", "()V", "Code", "brk", "multi", ("[I",), ("[[Lx/Y;",), ("[Ljava/lang/Thread;",)]
 THREE = {
-    "sub": ("a80000 c9fffffffd a900 c4a9012c b1 a7fff1 c8ffffffee", 301),
-    "brk": ("00 ca b1 ca ca", 9),
-    "multi": ("04 c5000b01 57 c5000d02 c5000f01 bd000b b1", 9),
+    "sub": ("jsr 0, jsr_w -3, ret 0, wide ret 300, return, goto -15, goto_w -18", 301),
+    "brk": ("nop, breakpoint, return, breakpoint, breakpoint", 9),
+    "multi": ("iconst_1, multianewarray 11 1, pop, multianewarray 13 2, multianewarray 15 1, anewarray 11, return", 9),
 }
-methods = [(name, "()V", 9, [code(bytes.fromhex(text), 9, slots)]) for name, (text, slots) in THREE.items()]
-wrong = in_order("B", "x", "Code", "wrong", "()V", methods=[("wrong", "()V", 9, [code(bytes.fromhex("c5000301 b1"), 9, 9)])])
+methods = [(name, "()V", 9, [code(instructions(text), 9, slots)]) for name, (text, slots) in THREE.items()]
+wrong = in_order("B", "x", "Code", "wrong", "()V", methods=[("wrong", "()V", 9, [code(instructions("multianewarray 3 1, return"), 9, 9)])])
 check("rule-13-14-15", {"A": above("A", *BEFORE, methods=methods), "B": wrong})
 
 # 16 INTERFACE_CODE.

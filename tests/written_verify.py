@@ -14,8 +14,10 @@ from class_files import (
     name_and_type,
     native,
     row,
+    u1,
 )
 from instructions import instructions
+from opcodes import opcode
 from written_base import add_every, attribute, case, check, float_entry, integer_entry, pool_of
 
 DATA = b"\x0a\x0b"
@@ -62,7 +64,7 @@ run("negative-size", "iconst_m1, newarray byte, areturn")
 run("null", "aconst_null, areturn")
 run("other-entry", "aload_0, areturn", entry="B")
 run("shape", "areturn")
-case("verify-goto-later", {"c/A.class": method_first(*of_verify(b"\xa7\0\0")), "in": DATA}, ["verify", "c", "A", "in"])
+case("verify-goto-later", {"c/A.class": method_first(*of_verify(instructions("goto 0"))), "in": DATA}, ["verify", "c", "A", "in"])
 case("verify-no-classes", {"c/.keep": b"", "in": b""}, ["verify", "c", "A", "in"])
 
 # What is straight and what isn't. The constants begin with the class.
@@ -95,47 +97,48 @@ verify("attributes", a_class(of_verify(listed=listed), pool=ordered(inner=["Line
 verify("entry-other", a_class(), entry="B.c")
 verify("float-pool", a_class(pool=ordered(float_entry(), "x", "D", name_and_type(2, 3), ("[F",))))
 later("abstract", of_verify(flags=PUBLIC | STATIC | ABSTRACT))
-verify("later-before-entry", a_class(of_verify(b"\xb1")), entry="B")
+verify("later-before-entry", a_class(of_verify(opcode("return"))), entry="B")
 later("clinit", of_verify(), of_verify(name="<clinit>"), pool=ordered(behind=["<clinit>"]))
 trailing = (*of_verify()[:3], [("Code", code(RETURNS, 1)[1] + b"\0")])
 verify("later-code-trailing", method_first(*trailing))
-later_code("cut-operand", b"\x2a\x10")
+later_code("cut-operand", instructions("aload_0") + opcode("bipush"))
 later("desc", of_verify(descriptor="([C)[B"), pool=ordered(descriptor="([C)[B"))
 later_code("empty-code", b"")
 later("field", fields=[("x", "I", 9)], pool=pool_of("x", "I", "Code", "verify", DESCRIPTOR, ("A",)))
-later_code("getstatic", b"\xb2\0\1" + RETURNS)
-later_code("goto", b"\xa7\0\0")
+later_code("getstatic", instructions("getstatic 1") + RETURNS)
+later_code("goto", instructions("goto 0"))
 later("iface", interfaces=["I"], pool=ordered(behind=[(OBJECT,), ("I",)]))
 later("instance", of_verify(flags=PUBLIC))
 later("interface", flags=PUBLIC | INTERFACE | ABSTRACT)
-later_code("lconst", b"\x09\x58" + RETURNS, 2)
-later("ldc", of_verify(b"\x12\1\x57" + RETURNS, 2), pool=ordered(integer_entry(7)))
+later_code("lconst", instructions("lconst_0, pop2") + RETURNS, 2)
+later("ldc", of_verify(instructions("ldc 1, pop") + RETURNS, 2), pool=ordered(integer_entry(7)))
 later("map", of_verify(listed=row(1) + attribute(3, row(0))), pool=ordered(inner=["StackMapTable"]))
-later_code("newarray-int", b"\4\xbc\x0a\xb0")
+later_code("newarray-int", instructions("iconst_1, newarray int, areturn"))
 later("no-code", ("verify", DESCRIPTOR, PUBLIC | STATIC))
 verify("later-package", a_class(name="java/A", pool=ordered(name="java/A")), entry="java.A", path="java/A")
-later_code("reserved", b"\xff" + RETURNS)
-later_code("return", b"\xb1")
+later_code("reserved", u1(255) + RETURNS)
+later_code("return", opcode("return"))
 later("row", of_verify(handlers=[(0, 1, 0, 0)]))
 later("same-name", of_verify(), of_verify())
 later("super-0", super_name=None)
 later("super-other", super_name="B")
 later("super-string", super_name="java/lang/String")
-later_code("swap", instructions("aload_0, aload_0") + b"\x5f\x57\xb0", 2)
+later_code("swap", instructions("aload_0, aload_0, swap, pop, areturn"), 2)
 verify("later-two", a_class(), more={"B": class_file("B")})
 later("two-codes", (*of_verify()[:3], of_verify()[3] * 2))
-later_code("wide", b"\xc4\x19\0\0\xb0")
+later_code("wide", instructions("wide aload 0, areturn"))
 verify("malformed", a_class(pool=ordered(class_entry(9999))))
 verify("malformed-two", a_class(), more={"B": one[:4]})
 beside = ("verify", DESCRIPTOR, PUBLIC | STATIC, [("StackMapTable", b"zz"), code(RETURNS, 1), ("Exceptions", b"\0\0")])
 pool = pool_of(("A",), "StackMapTable", "Code", "Exceptions", "verify", DESCRIPTOR)
 verify("map-beside-code", class_file("A", [beside], pool=pool, listed=[("StackMapTable", b""), ("Code", b"")]))
 case("class-file-verify-none", {"c/.keep": b"", "in": DATA}, ["verify", "c", "A", "in"])
-ruled = [of_verify(b"\xb1"), ("finalize", "()V", NATIVE | 1)]
+ruled = [of_verify(opcode("return")), ("finalize", "()V", NATIVE | 1)]
 verify("rules-first", class_file("B", ruled, pool=ordered(name="B", behind=["finalize", "()V"]), major=49))
 
-SHAPES = [("g", RETURNS, {}), ("h", RETURNS, dict(max_stack=0)), ("k", RETURNS, dict(max_locals=0)), ("l", b"\x2a\0", {}), ("m", b"\0\3\x57\3\xb0", {})]
-shapes = [of_verify(body, name=name, **more) for name, body, more in SHAPES]
+SHAPES = [("g", "aload_0, areturn", {}), ("h", "aload_0, areturn", dict(max_stack=0)), ("k", "aload_0, areturn", dict(max_locals=0))]
+SHAPES += [("l", "aload_0, nop", {}), ("m", "nop, iconst_0, pop, iconst_0, areturn", {})]
+shapes = [of_verify(instructions(text), name=name, **more) for name, text, more in SHAPES]
 verify("shape-and-entry", class_file("A", shapes, pool=pool_of(("A",), "Code", "g", DESCRIPTOR, "h", "k", "l", "m")))
 
 # Constants of each tag, which the code doesn't name.
