@@ -123,10 +123,10 @@ def made(heap, values, argument):
 
 def with_all(kind, row):
     """A row of any table as one of those that have all: the method, what is left, arguments, answer, bytes used, bytes charged, and an object."""
-    if kind == "Row":
+    if kind == "LimitedCall":
         return row
     name, arguments, told, used, *after = row
-    used = [used, used] if kind == "Asked" else used
+    used = [used, used] if kind == "AskedCall" else used
     return [name, ENOUGH, arguments, told, used, used[1] - used[0], *(after or ["Any"])]
 
 

@@ -85,7 +85,7 @@ def note_on_a_pipe():
     os.mkfifo("c/X.class")
 
 
-@special(wanted=told(65, b'"c%s": it has a folder of level 65 or the 1048577th entry' % (b"/d" * 64)))
+@special(wanted=told(65, b'"c%s": it has a folder at level 65, or there are more than 1048576 entries' % (b"/d" * 64)))
 def note_on_65_levels():
     write("c" + "/d" * 65 + "/A.class", one)
 

@@ -79,7 +79,7 @@ flow_reported (acts.HeapFull used size) = Some (model.End (outcomes.HeapFull use
 flow_reported acts.Call = None
 flow_reported acts.Stuck = None
 
--- the operands after an effect: where the run doesn't just go on, those before it
+-- the operands after an effect; where the run doesn't simply go on, those before the effect
 abbrev pub acted_operands : List StackFrame → List StackFrame → Acted → List Value
 acted_operands old new (acts.Goes way) = reported_operands old new way
 acted_operands old new acted = top_operands old
@@ -122,7 +122,7 @@ abbrev pub IsThere : Heap ℕ → Value → Type 0
 IsThere heap (values.Ref r) = r ≤ length heap.objects
 IsThere heap v = ⊤
 
--- the top operand is
+-- where the top operand is a reference, it is null or that of an object
 abbrev pub IsTopThere : Heap ℕ → List Value → Type 0
 IsTopThere heap [] = ⊤
 IsTopThere heap (v ∷ operands) = IsThere heap v
@@ -191,7 +191,7 @@ abbrev pub IsMadeBy : Imaged → PlainAction → ℕ → Type 0
 IsMadeBy imaged (actions.NewArray base element) k = IsClassAt imaged (base_array base) k
 IsMadeBy imaged action k = ⊤
 
--- what a member resolves to has this number, or one of its class, its name and its descriptor has
+-- the field with this number is the one to which a member resolves, or has the same class, name and descriptor
 pub record IsMember (imaged : Imaged) (member : Member) (found : FoundField) (n : ℕ) : Type 0 where
   pub resolves : resolve_field (program_of imaged) imaged.prefix member ≡ Some found
   pub other : FoundField

@@ -19,7 +19,7 @@ use Rattle.dj_acting.specs.Acting.{ActsOnHeap}
 abbrev pub HasStore : Imaged → LimitedHeap → Type 0
 HasStore imaged heap = (statics : List ℕ) × (literals : LiteralTable) × IsStore imaged (store heap statics literals)
 
--- the top frame is at the instruction at which the run goes on in it
+-- the top frame is at the instruction at which the run goes on
 abbrev pub IsGone : Acted → List StackFrame → List StackFrame → Type 0
 IsGone (acts.Goes ways.Next) old new = (top_number new ≡ top_number old + 1) × SameButNumber old new
 IsGone (acts.Goes (ways.To number)) old new = (top_number new ≡ number) × SameButNumber old new

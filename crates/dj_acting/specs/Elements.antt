@@ -5,6 +5,6 @@ use Rattle.dj_names.specs.declared.run.Element.{Element}
 use Rattle.dj_natives.specs.Numbered.{type_at, holds_references}
 use Rattle.dj_model.specs.trusted.Natives.{is_reference}
 
--- where the elements are references, the class is one of arrays of such
+-- where the elements are references, the class is that of an array of references
 abbrev pub HoldsElements : List Ty → ℕ → Element → Type 0
 HoldsElements types class element = is_reference element ≡ true → holds_references (type_at types class) ≡ true

@@ -1,6 +1,6 @@
 -- Instructions that are done without new memory.
 use Rattle.std.specs.Prelude.{◌≡◌, ◌≤◌, ⊤, ℕ, Bool, true, false, List, map, Some, Result, IfErr, IsFalse, slice_get}
-use Rattle.dj_bytes.specs.declared.memory.NoMemory.{NoMemory}
+use Rattle.std.specs.declared.alloc.AllocError.{AllocError}
 use Rattle.dj_names.specs.declared.run.Value.{Value}
 use Rattle.dj_names.specs.trusted.Types.{Name}
 use Rattle.dj_names.specs.trusted.Values.{value_kind}
@@ -52,20 +52,20 @@ LoadsByKnown imaged method number = (code : PooledCode) (op index : ℕ) → cod
 
 -- ---- used by the code alone: want of memory isn't answered
 
-abbrev pub NeverMemory : Result Acted NoMemory → Type 0
+abbrev pub NeverMemory : Result Acted AllocError → Type 0
 NeverMemory result = IfErr result (λ e. ⊥)
 
--- of what changes nothing but frames and heap
-abbrev pub FrugalOnHeap : Imaged → Instruction → List StackFrame → LimitedHeap → Result Acted NoMemory → Type 0
+-- the same of an instruction that changes nothing but frames and heap
+abbrev pub FrugalOnHeap : Imaged → Instruction → List StackFrame → LimitedHeap → Result Acted AllocError → Type 0
 FrugalOnHeap imaged i frames heap result =
     (statics : List ℕ) (literals : LiteralTable) → IsStore imaged (store heap statics literals) → IsFrugal imaged i (machine frames (store heap statics literals)) → NeverMemory result
 
 -- the same for static fields
-abbrev pub FrugalOnStatics : Imaged → Instruction → List StackFrame → List ℕ → Result Acted NoMemory → Type 0
+abbrev pub FrugalOnStatics : Imaged → Instruction → List StackFrame → List ℕ → Result Acted AllocError → Type 0
 FrugalOnStatics imaged i frames statics result =
     (heap : LimitedHeap) (literals : LiteralTable) → IsStore imaged (store heap statics literals) → IsFrugal imaged i (machine frames (store heap statics literals)) → NeverMemory result
 
 -- and of fields of both sorts
-abbrev pub FrugalOnFields : Imaged → Instruction → List StackFrame → LimitedHeap → List ℕ → Result Acted NoMemory → Type 0
+abbrev pub FrugalOnFields : Imaged → Instruction → List StackFrame → LimitedHeap → List ℕ → Result Acted AllocError → Type 0
 FrugalOnFields imaged i frames heap statics result =
     (literals : LiteralTable) → IsStore imaged (store heap statics literals) → IsFrugal imaged i (machine frames (store heap statics literals)) → NeverMemory result

@@ -11,7 +11,7 @@ abbrev pub slot_count : Slots → ℕ
 slot_count slots.One = 1
 slot_count slots.Two = 2
 
--- by what is put on once more
+-- by how many operands a movement grows them: those that it copies
 abbrev pub move_growth : Movement → ℕ
 move_growth (moves.Double upper) = slot_count upper
 move_growth (moves.Under upper lower) = slot_count upper

@@ -17,7 +17,7 @@ abbrev pub IsOf : Imaged → LimitedHeap → ℕ → ℕ → Bool → Type 0
 IsOf imaged heap r class is =
     is_subtype (program_of imaged) imaged.prefix (class_at_number (heap_map (type_at (types_of (typed_of imaged))) heap.heap) r) (type_at (types_of (typed_of imaged)) class) ≡ is
 
--- of what is no array of references it doesn't matter
+-- the answer says whether the array takes the reference; of what is no array of references nothing is said
 abbrev pub IsTakenBy : Imaged → LimitedHeap → ℕ → ℕ → Bool → Type 0
 IsTakenBy imaged heap r v taken = (class : ℕ) (contents : List ℤ) → array_at heap.heap r ≡ IsArray class elements.Ref contents
     → takes (program_of imaged) imaged.prefix (heap_map (type_at (types_of (typed_of imaged))) heap.heap) r v ≡ taken

@@ -7,7 +7,7 @@ use Rattle.dj_model.specs.trusted.Opcodes.{instruction_of}
 use Rattle.dj_effects.specs.Actions.{action_view}
 use Rattle.dj_effects.specs.declared.actions.PlainAction.{PlainAction}
 
--- the instruction has no index, and does so
+-- the instruction has no index, and does what the action says
 pub record IsUnnamed (instr : Instr) (action : PlainAction) : Type 0 where
   pub index : index_of instr ≡ None
   pub does : instruction_of instr Nothing ≡ action_view action

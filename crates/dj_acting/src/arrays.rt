@@ -15,8 +15,9 @@ use crate::taking::takes_top;
 use dj_effects::{Access, array_length, load_element, new_array, store_element};
 use dj_heap::Heap;
 use dj_image::Image;
-use dj_names::{Element, NoMemory};
+use dj_names::Element;
 use dj_stack::Frames;
+use std::alloc::AllocError;
 
 /// An element is loaded.
 pub fn act_load(image: &Image, frames: &mut Frames, heap: &Heap, access: Access) -> Acted
@@ -32,7 +33,7 @@ pub fn act_store(
     frames: &mut Frames,
     heap: &mut Heap,
     access: Access,
-) -> Result<Acted, NoMemory>
+) -> Result<Acted, AllocError>
     requires { IsHeap image.now heap.old }
     ensures done { IfOk result (λ acted. ActsOnHeap image.now (StoreElement (access_view access)) frames.old frames.new heap.old heap.new acted) }
     ensures known { IfOk result (λ _. AreKnown (types_of (typed_of image.now)) heap.new) }
@@ -41,7 +42,7 @@ pub fn act_store(
     let is_taken = takes_top(image, frames, heap);
     let Some(flow) = store_element(frames, heap, access, is_taken) else {
         // Never in a sound program.
-        return Err(NoMemory::Memory);
+        return Err(AllocError);
     };
     Ok(flow_acted(Some(flow)))
 }
@@ -61,7 +62,7 @@ pub fn act_new_array(
     heap: &mut Heap,
     class: u32,
     element: Element,
-) -> Result<Acted, NoMemory>
+) -> Result<Acted, AllocError>
     requires known { AreKnown (types_of (typed_of image.now)) heap.old }
     requires within { class < length (types_of (typed_of image.now)) }
     requires room { length (top_operands frames.old) ≤ top_room frames.old }
@@ -70,12 +71,12 @@ pub fn act_new_array(
 {
     if !holds_elements(image, class, element) {
         // Never in a sound program.
-        return Err(NoMemory::Memory);
+        return Err(AllocError);
     }
     let made = new_array(frames, heap, class, element)?;
     let Some(flow) = made else {
         // Never in a sound program.
-        return Err(NoMemory::Memory);
+        return Err(AllocError);
     };
     Ok(flow_acted(Some(flow)))
 }

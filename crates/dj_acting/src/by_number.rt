@@ -27,10 +27,10 @@ use dj_heap::Heap;
 use dj_image::{Image, MethodCode, MethodId, Operand};
 use dj_initialising::StaticPlaces;
 use dj_members::{Literals, Statics};
-use dj_names::NoMemory;
 use dj_natives::Classes;
 use dj_ops::Instr;
 use dj_stack::Frames;
+use std::alloc::AllocError;
 
 // The instruction of a number in code.
 fn instr_in(code: &MethodCode, number: u32) -> Option<&Instr>
@@ -66,7 +66,7 @@ fn act_with(
     literals: &mut Literals,
     instr: &Instr,
     operand: Operand,
-) -> Result<Acted, NoMemory>
+) -> Result<Acted, AllocError>
     requires beside { IsBeside image.now places.now throwable }
     requires known { IsHeap image.now heap.old }
     requires are { IsStore image.now (store heap.old statics.old literals.old) }
@@ -88,7 +88,7 @@ fn act_with(
         Operand::Field(field) => act_field(image, places, frames, heap, statics, field, instr),
         Operand::Method(_) => Ok(Acted::Call),
         // Never in a sound program.
-        Operand::Unresolved => Err(NoMemory::Memory),
+        Operand::Unresolved => Err(AllocError),
     }
 }
 
@@ -103,7 +103,7 @@ fn act_settled(
     literals: &mut Literals,
     method: MethodId,
     number: u32,
-) -> Result<Acted, NoMemory>
+) -> Result<Acted, AllocError>
     requires settled { AreSettled (typed_of image.now) }
     requires ready { IsReady image.now places.now throwable method.number number (machine frames.old (store heap.old statics.old literals.old)) }
     requires room { length (top_operands frames.old) ≤ top_room frames.old }
@@ -136,7 +136,7 @@ pub fn act(
     literals: &mut Literals,
     method: MethodId,
     number: u32,
-) -> Result<Acted, NoMemory>
+) -> Result<Acted, AllocError>
     requires ready { IsReady image.now places.now throwable method.number number (machine frames.old (store heap.old statics.old literals.old)) }
     ensures done { IfOk result (λ acted. IsDone image.now method.number number
         (machine frames.old (store heap.old statics.old literals.old)) (machine frames.new (store heap.new statics.new literals.new)) acted) }

@@ -20,9 +20,10 @@ use crate::uses::{ClassUse, class_use};
 use dj_effects::plain_action;
 use dj_heap::Heap;
 use dj_image::Image;
-use dj_names::{Element, NoMemory};
+use dj_names::Element;
 use dj_ops::Instr;
 use dj_stack::Frames;
+use std::alloc::AllocError;
 
 /// An instruction that names nothing is done. The class of the array that it makes is given, where it makes one, and the class Throwable.
 pub fn act_unnamed(
@@ -32,7 +33,7 @@ pub fn act_unnamed(
     throwable: u32,
     class: u32,
     instr: &Instr,
-) -> Result<Acted, NoMemory>
+) -> Result<Acted, AllocError>
     requires known { IsHeap image.now heap.old }
     requires throwable { IsClassAt image.now (class_type (throwable_name image.now.prefix)) throwable }
     requires made { IsMade image.now (instruction_of instr.now Nothing) class }
@@ -54,7 +55,7 @@ pub fn act_class(
     throwable: u32,
     class: u32,
     instr: &Instr,
-) -> Result<Acted, NoMemory>
+) -> Result<Acted, AllocError>
     requires known { IsHeap image.now heap.old }
     requires throwable { IsClassAt image.now (class_type (throwable_name image.now.prefix)) throwable }
     requires plain { ArePlain (types_of (typed_of image.now)) }

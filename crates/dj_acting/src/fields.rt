@@ -17,9 +17,9 @@ use crate::kinds::kind_of;
 use dj_heap::Heap;
 use dj_image::{FieldId, Image};
 use dj_members::{FieldAccess, get_field, put_field};
-use dj_names::NoMemory;
 use dj_stack::Frames;
 use dj_standing::Superclasses;
+use std::alloc::AllocError;
 
 /// getfield of the field of a number.
 pub fn act_get_field(image: &Image, frames: &mut Frames, heap: &Heap, field: FieldId) -> Acted
@@ -42,7 +42,7 @@ pub fn act_put_field(
     frames: &mut Frames,
     heap: &mut Heap,
     field: FieldId,
-) -> Result<Acted, NoMemory>
+) -> Result<Acted, AllocError>
     requires settled { AreSettled (typed_of image.now) }
     requires known { IsHeap image.now heap.old }
     requires there { field.number < length (all_fields (program_of image.now)) }
@@ -56,7 +56,7 @@ pub fn act_put_field(
     };
     let Some(flow) = put_field(&Superclasses { image }, frames, heap, access) else {
         // Never in a sound program.
-        return Err(NoMemory::Memory);
+        return Err(AllocError);
     };
     Ok(flow_acted(Some(flow)))
 }

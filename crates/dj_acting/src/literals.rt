@@ -12,19 +12,20 @@ use crate::acted::{Acted, way_acted};
 use crate::asking::has_room;
 use dj_effects::{Way, nop, push};
 use dj_image::Operand;
-use dj_names::{NoMemory, Value};
+use dj_names::Value;
 use dj_stack::Frames;
+use std::alloc::AllocError;
 
 /// ldc of a number.
 #[tactic(auto, using(crate::proofs::LiteralPushes::literal_room))]
-pub fn act_literal(frames: &mut Frames, operand: Operand) -> Result<Acted, NoMemory>
+pub fn act_literal(frames: &mut Frames, operand: Operand) -> Result<Acted, AllocError>
     ensures done { (imaged : Imaged) (heap : LimitedHeap) (v : Value) → literal_value operand ≡ Some v
         → IfOk result (λ acted. ActsOnHeap imaged (Push v) frames.old frames.new heap heap acted) }
     ensures frugal { (imaged : Imaged) (heap : LimitedHeap) (v : Value) → FrugalOnHeap imaged (Push v) frames.old heap result }
 {
     if !has_room(frames, 1) {
         // Never in a sound program.
-        return Err(NoMemory::Memory);
+        return Err(AllocError);
     }
     Ok(way_acted(push_literal(frames, operand)))
 }

@@ -21,9 +21,9 @@ use dj_heap::Heap;
 use dj_image::{FieldId, Image};
 use dj_initialising::StaticPlaces;
 use dj_members::Statics;
-use dj_names::NoMemory;
 use dj_ops::Instr;
 use dj_stack::Frames;
+use std::alloc::AllocError;
 
 /// An instruction on the field of a number is done.
 pub fn act_field(
@@ -34,7 +34,7 @@ pub fn act_field(
     statics: &mut Statics,
     field: FieldId,
     instr: &Instr,
-) -> Result<Acted, NoMemory>
+) -> Result<Acted, AllocError>
     requires settled { AreSettled (typed_of image.now) }
     requires places { ArePlaces (program_of image.now) places.now }
     requires known { IsHeap image.now heap.old }

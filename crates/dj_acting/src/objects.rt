@@ -20,8 +20,9 @@ use dj_effects::Way;
 use dj_heap::Heap;
 use dj_image::Image;
 use dj_members::{check_cast, instance_of, new_object, throw_top};
-use dj_names::{NoMemory, Raised, Value};
+use dj_names::{Raised, Value};
 use dj_stack::Frames;
+use std::alloc::AllocError;
 
 /// An instance of the class of a number is made, with as many fields as it has.
 pub fn act_new(
@@ -29,7 +30,7 @@ pub fn act_new(
     frames: &mut Frames,
     heap: &mut Heap,
     class: u32,
-) -> Result<Acted, NoMemory>
+) -> Result<Acted, AllocError>
     requires known { AreKnown (types_of (typed_of image.now)) heap.old }
     requires within { class < length (types_of (typed_of image.now)) }
     ensures done { (name : Name) → name_at (program_of image.now) class ≡ Some name
@@ -38,7 +39,7 @@ pub fn act_new(
 {
     if !has_room(frames, 1) {
         // Never in a sound program.
-        return Err(NoMemory::Memory);
+        return Err(AllocError);
     }
     let flow = new_object(frames, heap, class, image.field_count(class))?;
     Ok(flow_acted(Some(flow)))

@@ -16,8 +16,8 @@ use crate::values::act_on_values;
 use dj_effects::PlainAction;
 use dj_heap::Heap;
 use dj_image::Image;
-use dj_names::NoMemory;
 use dj_stack::Frames;
+use std::alloc::AllocError;
 
 /// An action is done. The class of the array that it makes is given, where it makes one, and the class Throwable.
 #[tactic(auto, using(crate::proofs::Growths::room_for))]
@@ -28,7 +28,7 @@ pub fn act_plain(
     throwable: u32,
     class: u32,
     action: PlainAction<'_>,
-) -> Result<Acted, NoMemory>
+) -> Result<Acted, AllocError>
     requires known { IsHeap image.now heap.old }
     requires throwable { IsClassAt image.now (class_type (throwable_name image.now.prefix)) throwable }
     requires made { IsMadeBy image.now action class }
@@ -39,7 +39,7 @@ pub fn act_plain(
     have_room(frames);
     if !has_room(frames, growth(action)) {
         // Never in a sound program.
-        return Err(NoMemory::Memory);
+        return Err(AllocError);
     }
     act_in_room(image, frames, heap, throwable, class, action)
 }
@@ -53,7 +53,7 @@ fn act_in_room(
     throwable: u32,
     class: u32,
     action: PlainAction<'_>,
-) -> Result<Acted, NoMemory>
+) -> Result<Acted, AllocError>
     requires known { IsHeap image.now heap.old }
     requires throwable { IsClassAt image.now (class_type (throwable_name image.now.prefix)) throwable }
     requires made { IsMadeBy image.now action class }

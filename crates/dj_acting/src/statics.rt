@@ -15,8 +15,8 @@ use crate::kinds::kind_of;
 use dj_image::{FieldId, Image};
 use dj_initialising::StaticPlaces;
 use dj_members::{Statics, get_static, put_static};
-use dj_names::NoMemory;
 use dj_stack::Frames;
+use std::alloc::AllocError;
 
 /// getstatic of the field of a number.
 pub fn act_get_static(
@@ -25,7 +25,7 @@ pub fn act_get_static(
     frames: &mut Frames,
     statics: &Statics,
     field: FieldId,
-) -> Result<Acted, NoMemory>
+) -> Result<Acted, AllocError>
     requires places { ArePlaces (program_of image.now) places.now }
     requires counted { length statics.now ≡ static_count (program_of image.now) }
     requires there { field.number < length (all_fields (program_of image.now)) }
@@ -39,7 +39,7 @@ pub fn act_get_static(
     };
     if !has_room(frames, 1) {
         // Never in a sound program.
-        return Err(NoMemory::Memory);
+        return Err(AllocError);
     }
     Ok(way_acted(get_static(frames, statics, places.place(field), kind)))
 }

@@ -11,8 +11,8 @@ use crate::asking::has_room;
 use dj_heap::Heap;
 use dj_image::Image;
 use dj_members::{Literals, push_text};
-use dj_names::NoMemory;
 use dj_stack::Frames;
+use std::alloc::AllocError;
 
 /// ldc of the text of a number.
 pub fn act_push_text(
@@ -21,7 +21,7 @@ pub fn act_push_text(
     heap: &mut Heap,
     literals: &mut Literals,
     text: u32,
-) -> Result<Acted, NoMemory>
+) -> Result<Acted, AllocError>
     requires texts { AreTexts image.now }
     requires within { text < length image.now.texts }
     requires counted { literals.old.count ≡ length image.now.texts }
@@ -32,7 +32,7 @@ pub fn act_push_text(
 {
     if !has_room(frames, 1) {
         // Never in a sound program.
-        return Err(NoMemory::Memory);
+        return Err(AllocError);
     }
     let string = Image::string(image);
     let flow = push_text(frames, heap, literals, string, text, image.text(text))?;

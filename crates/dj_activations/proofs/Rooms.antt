@@ -14,7 +14,7 @@ use Rattle.dj_model.specs.trusted.Numbers.{is_wide}
 use Rattle.dj_model.specs.trusted.Kinds.{Signature, signature_of, Kinds, kind_slots, depth, entry_slots, fitting, Entries, form_entries, stack_of, Placed, Map, Read, Faulty, NoMap, and_then, with_fitting, with_frame, frames_after, frames_in, parameter_entries, map_of, placed_at}
 use Rattle.dj_model.specs.trusted.Instructions.{Instruction, Invoke}
 use Rattle.dj_model.specs.Instructions.{calls}
-use Rattle.dj_model.specs.trusted.Shape.{taken, leaving, with_result, counts, is_static_mode, call_kinds, after, is_handler_frame, Holds}
+use Rattle.dj_model.specs.trusted.Shape.{taken, leaving, with_result, counts, is_static_mode, call_kinds, after, is_handler_frame, HoldsAt}
 use Rattle.dj_model.specs.Shape.{AllHold}
 use Rattle.dj_model.specs.Sound.{IsCode, IsSoundCode, IsSound}
 use Rattle.dj_model.proofs.MappedNames.{either}
@@ -119,7 +119,7 @@ handler_room program prefix is m method code there body range own = by (map_of s
   by (Faulty at) e each = absurd each
   by NoMap e each = absurd each
   by (Read placed) e each =
-      let h : Holds signature code placed range.handler = each range.handler (c.1.handlers_within range own) in
+      let h : HoldsAt signature code placed range.handler = each range.handler (c.1.handlers_within range own) in
       let frame = not_or (nat_eq range.handler range.handler) (is_handler_frame (placed_at placed range.handler))
       (all_at (λ (r : Range). not (nat_eq range.handler r.handler) || is_handler_frame (placed_at placed range.handler)) code.ranges range h.handles own) (equal_self range.handler) in
       one_fits code (placed_at placed range.handler) frame (reported_fits signature code placed e range.handler)

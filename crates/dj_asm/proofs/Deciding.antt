@@ -6,7 +6,7 @@ use Rattle.std.proofs.lemmas.Bool.{cases_lt, false≢true}
 use Rattle.std.proofs.lemmas.Int.{ints}
 use Rattle.dj_ops.specs.declared.instruction.Instr.{Instr}
 use Rattle.dj_ops.specs.declared.instruction.Instr.TheVariants as instrs
-use Rattle.dj_ops.specs.trusted.Forms.{Form, Bare, SignedByte, SignedShort, ShortLiteral, LongLiteral, Slot, ShortOffset, LongOffset, MemberIndex, ClassIndex, form_of}
+use Rattle.dj_ops.specs.trusted.Forms.{OperandForm, Bare, SignedByte, SignedShort, ShortLiteral, LongLiteral, Slot, ShortOffset, LongOffset, MemberIndex, ClassIndex, form_of}
 use Rattle.dj_ops.specs.trusted.Instructions.{IsPushed, IsOffset, IsLiteral, IsLocal, IsIncrement, IsTable, IsLookup, IsProper, IsFar, AreOffsets, offset}
 use Rattle.dj_ops.specs.trusted.Lookups.{rises}
 use Rattle.dj_ops.proofs.Rising.{rising_from, rises_if}
@@ -79,41 +79,41 @@ below_half n = elim (cases_lt n 2147483648) [ inl lt ↦ inl (omega (arith, lt))
 
 -- ---- forms
 
-is_bare : (form : Form) → Is (form ≡ Bare)
+is_bare : (form : OperandForm) → Is (form ≡ Bare)
 is_bare Bare = inl refl
 is_bare form = inr (λ e. absurd cc)
 
-is_slot : (form : Form) → Is (form ≡ Slot)
+is_slot : (form : OperandForm) → Is (form ≡ Slot)
 is_slot Slot = inl refl
 is_slot form = inr (λ e. absurd cc)
 
-is_short_offset : (form : Form) → Is (form ≡ ShortOffset)
+is_short_offset : (form : OperandForm) → Is (form ≡ ShortOffset)
 is_short_offset ShortOffset = inl refl
 is_short_offset form = inr (λ e. absurd cc)
 
-is_long_offset : (form : Form) → Is (form ≡ LongOffset)
+is_long_offset : (form : OperandForm) → Is (form ≡ LongOffset)
 is_long_offset LongOffset = inl refl
 is_long_offset form = inr (λ e. absurd cc)
 
-is_member : (form : Form) → Is (form ≡ MemberIndex)
+is_member : (form : OperandForm) → Is (form ≡ MemberIndex)
 is_member MemberIndex = inl refl
 is_member form = inr (λ e. absurd cc)
 
-is_class : (form : Form) → Is (form ≡ ClassIndex)
+is_class : (form : OperandForm) → Is (form ≡ ClassIndex)
 is_class ClassIndex = inl refl
 is_class form = inr (λ e. absurd cc)
 
-pushed : (form : Form) (z : ℤ) → Is (IsPushed form z)
+pushed : (form : OperandForm) (z : ℤ) → Is (IsPushed form z)
 pushed SignedByte z = fits_byte z
 pushed SignedShort z = fits_short z
 pushed form z = inr (λ h. absurd h)
 
-literal : (form : Form) (index : ℕ) → Is (IsLiteral form index)
+literal : (form : OperandForm) (index : ℕ) → Is (IsLiteral form index)
 literal ShortLiteral index = below_byte index
 literal LongLiteral index = below_short index
 literal form index = inr (λ h. absurd h)
 
-offset_fits : (form : Form) (z : ℤ) → Is (IsOffset form z)
+offset_fits : (form : OperandForm) (z : ℤ) → Is (IsOffset form z)
 offset_fits ShortOffset z = fits_short z
 offset_fits LongOffset z = fits_int z
 offset_fits form z = inr (λ h. absurd h)

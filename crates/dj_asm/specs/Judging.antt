@@ -199,7 +199,7 @@ unfoldable pub in_sections : List (List Line) → ℕ → Bool
 in_sections [] place = false
 in_sections (section ∷ sections) place = in_first (is_large_in section) (length section) (in_sections sections) place
 
--- none of the first n lines is large, and the sections of those after them decide of these
+-- none of the first `before` lines is large, and whether a later line is large is decided by the sections of the later lines
 pub record AreLeft (lines : List Line) (before : ℕ) : Type 0 where
   pub left : (place : ℕ) → in_sections (sections_of lines) (before + place) ≡ in_sections (sections_of (drop before lines)) place
   pub none : NoneBelow (in_sections (sections_of lines)) before

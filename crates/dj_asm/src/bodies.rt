@@ -11,16 +11,15 @@ ghost use Rattle.dj_asm.specs.Filing.{constant_bodies, stack_at, locals_at, firs
 use crate::code::code_body;
 use dj_entries::PoolBuilder;
 use dj_names::Bytes;
-use dj_pool::NoMemory;
 use dj_source::{Line, Value, section_size};
-use std::alloc::Global;
+use std::alloc::{AllocError, Global};
 
 /// The body of a ConstantValue (JVMS 4.7.2): the index of the constant.
-fn constant_body(alloc: Global, pool: &PoolBuilder, value: Value<'_>) -> Result<Bytes, NoMemory>
+fn constant_body(alloc: Global, pool: &PoolBuilder, value: Value<'_>) -> Result<Bytes, AllocError>
     ensures { IfOk result (λ bytes. bytes ≡ u2 (found_index pool.now (value_entry (value_view value.entry)))) }
 {
     let index = pool.value_index(alloc, value)?;
-    Bytes::from_slice(alloc, &index.to_be_bytes()).or(Err(NoMemory::Memory))
+    Bytes::from_slice(alloc, &index.to_be_bytes())
 }
 
 /// Appends the body of a field's attribute, or none, where the line is a field's.
@@ -29,7 +28,7 @@ fn push_constant(
     bodies: &mut Vec<Bytes>,
     pool: &PoolBuilder,
     line: &Line<'_>,
-) -> Result<(), NoMemory>
+) -> Result<(), AllocError>
     ensures { OnOk result (bodies.new.items ≡ bodies.old.items ++ constant_bodies (found_index pool.now) (line_view line.now)) }
 {
     match line {
@@ -66,7 +65,7 @@ pub(crate) fn constants_of(
     alloc: Global,
     pool: &PoolBuilder,
     lines: &[Line<'_>],
-) -> Result<Vec<Bytes>, NoMemory>
+) -> Result<Vec<Bytes>, AllocError>
     ensures { IfOk result (λ bodies. bodies.items ≡ flat_map (constant_bodies (found_index pool.now)) (map line_view lines.now)) }
 {
     let mut bodies = Vec::new(alloc);
@@ -179,7 +178,7 @@ fn locals_of(lines: &[Line<'_>]) -> u16
 }
 
 /// The body of the Code attribute of a method's lines, or none.
-fn method_body(alloc: Global, lines: &[Line<'_>], pool: &PoolBuilder) -> Result<Bytes, NoMemory>
+fn method_body(alloc: Global, lines: &[Line<'_>], pool: &PoolBuilder) -> Result<Bytes, AllocError>
     requires few { length lines.now < 2 ^ 32 }
     requires may { MayHaveBody pool.now (map line_view lines.now) }
     ensures { IfOk result (λ bytes. IsBody pool.now (map line_view lines.now) bytes) }
@@ -196,7 +195,7 @@ pub(crate) fn bodies_of(
     alloc: Global,
     lines: &[Line<'_>],
     pool: &PoolBuilder,
-) -> Result<Vec<Bytes>, NoMemory>
+) -> Result<Vec<Bytes>, AllocError>
     requires few { length lines.now < 2 ^ 32 }
     requires may { MayHaveBodies pool.now (map line_view lines.now) }
     ensures { IfOk result (λ bodies. AreBodies pool.now (map line_view lines.now) bodies.items) }

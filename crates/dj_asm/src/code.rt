@@ -20,10 +20,9 @@ use dj_labels::Labelled;
 use dj_layout::{Laid, lay_out};
 use dj_names::Bytes;
 use dj_ops::Frames;
-use dj_pool::NoMemory;
 use dj_source::{Line, MethodLabels};
 use dj_write::write_code;
-use std::alloc::Global;
+use std::alloc::{AllocError, Global};
 
 /// The attribute of frames with this body, where there are frames.
 fn attributes_of<'m>(
@@ -31,7 +30,7 @@ fn attributes_of<'m>(
     pool: &PoolBuilder,
     frames: &Frames,
     map: &'m [u8],
-) -> Result<Attributes<'m>, NoMemory>
+) -> Result<Attributes<'m>, AllocError>
     ensures { IfOk result (λ attributes. (starts : List ℕ) (body : List lines.Line) → map.now ≡ stack_map_bytes starts frames.now → attributes ≡ stack_map_of (places_of (found_index pool.now) body) starts frames.now) }
 {
     let mut attributes = Attributes::new(alloc);
@@ -51,7 +50,7 @@ fn spelled(
     max_locals: u16,
     laid: Laid,
     attributes: Attributes<'_>,
-) -> Result<Bytes, NoMemory>
+) -> Result<Bytes, AllocError>
     ensures { IfOk result (λ bytes. bytes ≡ code_info_bytes (record { max_stack = max_stack; max_locals = max_locals; code = laid.code; table = laid.table; attributes = attributes.entry })) }
 {
     let Laid {
@@ -66,7 +65,7 @@ fn spelled(
         table,
         attributes,
     };
-    write_code(alloc, &view).or(Err(NoMemory::Memory))
+    write_code(alloc, &view).or(Err(AllocError))
 }
 
 /// The bytes of the attribute's body with these frames.
@@ -77,12 +76,12 @@ fn with_frames(
     laid: Laid,
     frames: &Frames,
     pool: &PoolBuilder,
-) -> Result<Bytes, NoMemory>
+) -> Result<Bytes, AllocError>
     requires { AreWellFormed laid.starts frames.now }
     ensures { IfOk result (λ bytes. (body : List lines.Line) → bytes ≡ code_info_bytes (record { max_stack = max_stack; max_locals = max_locals; code = laid.code; table = laid.table; attributes = stack_map_of (places_of (found_index pool.now) body) laid.starts frames.now })) }
 {
-    let map = write_frames(alloc, frames, laid.starts.as_slice()).or(Err(NoMemory::Memory))?;
-    let attributes = attributes_of(alloc, pool, frames, map.as_slice()).or(Err(NoMemory::Memory))?;
+    let map = write_frames(alloc, frames, laid.starts.as_slice()).or(Err(AllocError))?;
+    let attributes = attributes_of(alloc, pool, frames, map.as_slice())?;
     spelled(alloc, max_stack, max_locals, laid, attributes)
 }
 
@@ -93,7 +92,7 @@ fn laid_of(
     lines: &[Line<'_>],
     labels: &MethodLabels<'_, '_>,
     pool: &PoolBuilder,
-) -> Result<Laid, NoMemory>
+) -> Result<Laid, AllocError>
     requires can { CanBeCode pool.now (map line_view lines.now) }
     requires labels { labels.now ≡ map line_view lines.now }
     ensures { IfOk result (IsLaidFor (places_of (found_index pool.now) labels.now) (map line_view lines.now)) }
@@ -102,7 +101,7 @@ fn laid_of(
     let ranges = ranges_of(alloc, lines, labels, pool)?;
     let labelled = Labelled { code, ranges };
     // Code that fits is refused only for want of memory.
-    lay_out(alloc, &labelled).or(Err(NoMemory::Memory))
+    lay_out(alloc, &labelled).or(Err(AllocError))
 }
 
 /// The body of the Code attribute, by the labels of the lines.
@@ -114,14 +113,14 @@ fn body_of(
     max_stack: u16,
     max_locals: u16,
     pool: &PoolBuilder,
-) -> Result<Bytes, NoMemory>
+) -> Result<Bytes, AllocError>
     requires few { length lines.now < 2 ^ 32 }
     requires can { CanBeCode pool.now (map line_view lines.now) }
     requires labels { labels.now ≡ map line_view lines.now }
     ensures { IfOk result (λ bytes. IsCodeBody (found_index pool.now) (pos max_stack) (pos max_locals) (map line_view lines.now) bytes) }
 {
     let laid = laid_of(alloc, lines, labels, pool)?;
-    let frames = frames_of(alloc, lines, labels, pool).or(Err(NoMemory::Memory))?;
+    let frames = frames_of(alloc, lines, labels, pool)?;
     with_frames(alloc, max_stack, max_locals, laid, &frames, pool)
 }
 
@@ -132,11 +131,11 @@ pub(crate) fn code_body(
     max_stack: u16,
     max_locals: u16,
     pool: &PoolBuilder,
-) -> Result<Bytes, NoMemory>
+) -> Result<Bytes, AllocError>
     requires few { length lines.now < 2 ^ 32 }
     requires can { CanBeCode pool.now (map line_view lines.now) }
     ensures { IfOk result (λ bytes. IsCodeBody (found_index pool.now) (pos max_stack) (pos max_locals) (map line_view lines.now) bytes) }
 {
-    let labels = MethodLabels::of(alloc, lines).or(Err(NoMemory::Memory))?;
+    let labels = MethodLabels::of(alloc, lines)?;
     body_of(alloc, lines, &labels, max_stack, max_locals, pool)
 }

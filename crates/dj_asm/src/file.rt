@@ -18,10 +18,10 @@ use crate::member_list::members_of;
 use dj_class::{Attributes, ClassView, Members};
 use dj_entries::PoolBuilder;
 use dj_names::Bytes;
-use dj_pool::{Entry, NoMemory, Pool};
+use dj_pool::{Entry, Pool};
 use dj_source::{Line, section_size};
 use dj_write::write_class_with;
-use std::alloc::Global;
+use std::alloc::{AllocError, Global};
 
 /// The fields, by the lines before the methods.
 fn fields_of<'b>(
@@ -29,7 +29,7 @@ fn fields_of<'b>(
     pool: &PoolBuilder,
     constants: &'b [Bytes],
     head: &[Line<'_>],
-) -> Result<Members<'b>, NoMemory>
+) -> Result<Members<'b>, AllocError>
     ensures { IfOk result (λ members. members ≡ members_in (found_index pool.now) (found_index pool.now constant_value_name) constants.now (map line_view head.now)) }
 {
     let attribute = pool.utf8_index(b"ConstantValue");
@@ -42,7 +42,7 @@ fn methods_of<'b>(
     pool: &PoolBuilder,
     bodies: &'b [Bytes],
     lines: &[Line<'_>],
-) -> Result<Members<'b>, NoMemory>
+) -> Result<Members<'b>, AllocError>
     ensures { IfOk result (λ members. members ≡ members_in (found_index pool.now) (found_index pool.now code_name) bodies.now (map line_view lines.now)) }
 {
     let attribute = pool.utf8_index(b"Code");
@@ -50,10 +50,10 @@ fn methods_of<'b>(
 }
 
 /// The bytes of a class file of these parts and constants.
-fn bytes_of(alloc: Global, entries: &[Entry<'_>], view: &ClassView<'_>) -> Result<Bytes, NoMemory>
+fn bytes_of(alloc: Global, entries: &[Entry<'_>], view: &ClassView<'_>) -> Result<Bytes, AllocError>
     ensures { IfOk result (λ bytes. bytes ≡ class_bytes (with_pool (map constant_of entries.now) (class_of view.now))) }
 {
-    write_class_with(alloc, entries, view).or(Err(NoMemory::Memory))
+    write_class_with(alloc, entries, view).or(Err(AllocError))
 }
 
 /// A class file of a heading and interfaces, which are those of the lines before the methods, and these fields and methods; its constants are given apart.
@@ -63,7 +63,7 @@ fn class_view<'b>(
     head: &[Line<'_>],
     fields: Members<'b>,
     methods: Members<'b>,
-) -> Result<ClassView<'b>, NoMemory>
+) -> Result<ClassView<'b>, AllocError>
     ensures { IfOk result (λ view. with_pool (pool_of pool.now) (class_of view) ≡ file_with pool.now (map line_view head.now) fields.entry methods.entry) }
 {
     let heading = heading_of(pool, head);
@@ -90,7 +90,7 @@ fn written(
     methods: &[Line<'_>],
     constants: &[Bytes],
     bodies: &[Bytes],
-) -> Result<Bytes, NoMemory>
+) -> Result<Bytes, AllocError>
     ensures { IfOk result (λ bytes. bytes ≡ class_bytes (file_in pool.now (map line_view head.now) (map line_view methods.now) constants.now bodies.now)) }
 {
     let fields = fields_of(alloc, pool, constants, head)?;
@@ -105,7 +105,7 @@ pub(crate) fn write_file(
     alloc: Global,
     lines: &[Line<'_>],
     pool: &PoolBuilder,
-) -> Result<Bytes, NoMemory>
+) -> Result<Bytes, AllocError>
     requires few { length lines.now < 2 ^ 32 }
     requires fitting { (s : Source) × IsFitting s (map line_view lines.now) pool.now }
     ensures { IfOk result (λ bytes. (s : Source) → IsFitting s (map line_view lines.now) pool.now → AreFileBytes s bytes) }

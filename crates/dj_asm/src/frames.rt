@@ -12,9 +12,8 @@ ghost use Rattle.dj_asm.specs.CodeBodies.{framed};
 
 use dj_entries::PoolBuilder;
 use dj_ops::{Form, Frame as OpsFrame, Frames, VType, VTypes};
-use dj_pool::NoMemory;
 use dj_source::{Frame, FrameType, Line, MethodLabels, SimpleType};
-use std::alloc::Global;
+use std::alloc::{AllocError, Global};
 
 /// The type that a word names.
 fn simple_type(simple: SimpleType) -> VType
@@ -48,7 +47,7 @@ fn types_of(
     labels: &MethodLabels<'_, '_>,
     pool: &PoolBuilder,
     list: &[FrameType<'_>],
-) -> Result<VTypes, NoMemory>
+) -> Result<VTypes, AllocError>
     ensures { IfOk result (λ types. types ≡ map (type_of (places_of (found_index pool.now) labels.now)) (map type_view list.now)) }
 {
     let mut types = VTypes::new(alloc);
@@ -64,7 +63,7 @@ fn form_of(
     labels: &MethodLabels<'_, '_>,
     pool: &PoolBuilder,
     frame: &Frame<'_>,
-) -> Result<Form, NoMemory>
+) -> Result<Form, AllocError>
     ensures { IfOk result (λ form. form ≡ form_of (places_of (found_index pool.now) labels.now) (frame_view frame.now)) }
 {
     match frame {
@@ -91,7 +90,7 @@ fn push_line(
     pool: &PoolBuilder,
     number: u32,
     line: &Line<'_>,
-) -> Result<(), NoMemory>
+) -> Result<(), AllocError>
     ensures { IfOk result (λ x. frames.new ≡ frames.old ++ framed (places_of (found_index pool.now) labels.now) number (line_view line.now)) }
 {
     match line {
@@ -156,7 +155,7 @@ pub(crate) fn frames_of(
     lines: &[Line<'_>],
     labels: &MethodLabels<'_, '_>,
     pool: &PoolBuilder,
-) -> Result<Frames, NoMemory>
+) -> Result<Frames, AllocError>
     requires { length lines.now < 2 ^ 32 }
     ensures { IfOk result (λ frames. frames ≡ frames_in (places_of (found_index pool.now) labels.now) 0 (map line_view lines.now)) }
 {

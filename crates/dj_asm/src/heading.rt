@@ -6,9 +6,9 @@ ghost use Rattle.dj_entries.specs.Pooling.{found_index};
 ghost use Rattle.dj_asm.specs.Filing.{no_heading, heading_with, heading_from, interface_indexes};
 
 use dj_entries::PoolBuilder;
-use dj_pool::{Indexes, NoMemory};
+use dj_pool::Indexes;
 use dj_source::Line;
-use std::alloc::Global;
+use std::alloc::{AllocError, Global};
 
 /// The versions, the flags, and the indexes of the class and its superclass.
 #[derive(Clone, Copy)]
@@ -75,7 +75,7 @@ fn push_interface(
     indexes: &mut Indexes,
     pool: &PoolBuilder,
     line: &Line<'_>,
-) -> Result<(), NoMemory>
+) -> Result<(), AllocError>
     ensures { OnOk result (indexes.new ≡ indexes.old ++ interface_indexes (found_index pool.now) (line_view line.now)) }
 {
     match line {
@@ -101,7 +101,7 @@ pub(crate) fn interfaces_of(
     alloc: Global,
     pool: &PoolBuilder,
     lines: &[Line<'_>],
-) -> Result<Indexes, NoMemory>
+) -> Result<Indexes, AllocError>
     ensures { IfOk result (λ indexes. indexes ≡ flat_map (interface_indexes (found_index pool.now)) (map line_view lines.now)) }
 {
     let mut indexes = Indexes::new(alloc);

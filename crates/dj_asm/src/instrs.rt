@@ -20,9 +20,8 @@ ghost use Rattle.dj_asm.specs.CodeBodies.{IsAlone, IsOfPool, IsProperIn, AreProp
 use dj_entries::PoolBuilder;
 use dj_names::{read_desc, slots};
 use dj_ops::{Instr, Instrs, Pairs, Targets};
-use dj_pool::NoMemory;
 use dj_source::{Line, MethodLabels, Operation, Pair, Word};
-use std::alloc::Global;
+use std::alloc::{AllocError, Global};
 
 /// The number of the instruction at a label.
 fn target_of(labels: &MethodLabels<'_, '_>, label: Word<'_>) -> i64
@@ -36,7 +35,7 @@ fn targets_of(
     alloc: Global,
     labels: &MethodLabels<'_, '_>,
     words: &[Word<'_>],
-) -> Result<Targets, NoMemory>
+) -> Result<Targets, AllocError>
     ensures { IfOk result (λ targets. targets ≡ map (λ (label : Label). pos (label_number labels.now label)) (map units_of words.now)) }
 {
     let mut targets = Targets::new(alloc);
@@ -51,7 +50,7 @@ fn pairs_of(
     alloc: Global,
     labels: &MethodLabels<'_, '_>,
     list: &[Pair<'_>],
-) -> Result<Pairs, NoMemory>
+) -> Result<Pairs, AllocError>
     ensures { IfOk result (λ pairs. pairs ≡ map (λ (pair : ℤ × Label). (pair.0, pos (label_number labels.now pair.1))) (map pair_view list.now)) }
 {
     let mut pairs = Vec::new(alloc);
@@ -68,10 +67,10 @@ fn table_of(
     low: i32,
     words: &[Word<'_>],
     default: Word<'_>,
-) -> Result<Instr, NoMemory>
+) -> Result<Instr, AllocError>
     ensures { IfOk result (λ instr. instr ≡ instrs.Table (pos (label_number labels.now (units_of default.entry))) low (map (λ (label : Label). pos (label_number labels.now label)) (map units_of words.now))) }
 {
-    let targets = targets_of(alloc, labels, words).or(Err(NoMemory::Memory))?;
+    let targets = targets_of(alloc, labels, words)?;
     Ok(Instr::Table {
         default: target_of(labels, default),
         low,
@@ -85,10 +84,10 @@ fn lookup_of(
     labels: &MethodLabels<'_, '_>,
     list: &[Pair<'_>],
     default: Word<'_>,
-) -> Result<Instr, NoMemory>
+) -> Result<Instr, AllocError>
     ensures { IfOk result (λ instr. instr ≡ instrs.Lookup (pos (label_number labels.now (units_of default.entry))) (map (λ (pair : ℤ × Label). (pair.0, pos (label_number labels.now pair.1))) (map pair_view list.now))) }
 {
-    let pairs = pairs_of(alloc, labels, list).or(Err(NoMemory::Memory))?;
+    let pairs = pairs_of(alloc, labels, list)?;
     Ok(Instr::Lookup {
         default: target_of(labels, default),
         pairs,
@@ -97,12 +96,12 @@ fn lookup_of(
 
 /// A call of an interface's method of this index, whose count is one more than the slots of the parameters.
 #[tactic(auto, using(crate::proofs::ProperCode::few_slots, crate::proofs::ProperCode::few_places, crate::proofs::ProperCode::call_is))]
-fn interface_call(alloc: Global, index: u16, desc: &[u8]) -> Result<Instr, NoMemory>
+fn interface_call(alloc: Global, index: u16, desc: &[u8]) -> Result<Instr, AllocError>
     requires { (instr : Instr) → IsInterfaceCall index desc.now instr → IsProper instr }
     ensures { IfOk result (IsInterfaceCall index desc.now) }
 {
     // The descriptor is one of a method.
-    let described = read_desc(alloc, desc).or(Err(NoMemory::Memory))?;
+    let described = read_desc(alloc, desc).or(Err(AllocError))?;
     Ok(Instr::Interface {
         index,
         count: slots(&described) as u8 + 1,
@@ -110,7 +109,7 @@ fn interface_call(alloc: Global, index: u16, desc: &[u8]) -> Result<Instr, NoMem
 }
 
 /// A field or a method of this index.
-fn member_instr(alloc: Global, op: u8, index: u16, desc: &[u8]) -> Result<Instr, NoMemory>
+fn member_instr(alloc: Global, op: u8, index: u16, desc: &[u8]) -> Result<Instr, AllocError>
     requires { (instr : Instr) → IsMemberInstr (is_interface_call op) op index desc.now instr → IsProper instr }
     ensures { IfOk result (IsMemberInstr (is_interface_call op) op index desc.now) }
 {
@@ -156,7 +155,11 @@ fn alone(operation: &Operation<'_>) -> Instr
 }
 
 /// An instruction that names one entry, except fields and methods.
-fn of_pool(alloc: Global, pool: &PoolBuilder, operation: &Operation<'_>) -> Result<Instr, NoMemory>
+fn of_pool(
+    alloc: Global,
+    pool: &PoolBuilder,
+    operation: &Operation<'_>,
+) -> Result<Instr, AllocError>
     requires { IsOfPool (operation_view operation.now) }
     ensures { IfOk result (λ instr. (body : List lines.Line) → IsInstrOf (places_of (found_index pool.now) body) (operation_view operation.now) instr) }
 {
@@ -198,7 +201,7 @@ fn instr_of(
     labels: &MethodLabels<'_, '_>,
     pool: &PoolBuilder,
     operation: &Operation<'_>,
-) -> Result<Instr, NoMemory>
+) -> Result<Instr, AllocError>
     requires { IsProperIn (places_of (found_index pool.now) labels.now) (operation_view operation.now) }
     ensures { IfOk result (IsInstrOf (places_of (found_index pool.now) labels.now) (operation_view operation.now)) }
 {
@@ -247,14 +250,14 @@ fn push_line(
     labels: &MethodLabels<'_, '_>,
     pool: &PoolBuilder,
     line: &Line<'_>,
-) -> Result<(), NoMemory>
+) -> Result<(), AllocError>
     requires { AreProperIn (places_of (found_index pool.now) labels.now) (operation_in (line_view line.now)) }
     ensures { IfOk result (λ x. HasOneMore (places_of (found_index pool.now) labels.now) (line_view line.now) instrs.old instrs.new) }
 {
     match line {
         Line::Does(operation) => {
             let instr = instr_of(alloc, labels, pool, operation)?;
-            instrs.push(instr).or(Err(NoMemory::Memory))
+            instrs.push(instr)
         }
         Line::Class { .. }
         | Line::Version { .. }
@@ -279,7 +282,7 @@ pub(crate) fn instrs_of(
     lines: &[Line<'_>],
     labels: &MethodLabels<'_, '_>,
     pool: &PoolBuilder,
-) -> Result<Instrs, NoMemory>
+) -> Result<Instrs, AllocError>
     requires { AreProperIn (places_of (found_index pool.now) labels.now) (flat_map operation_in (map line_view lines.now)) }
     ensures { IfOk result (λ instrs. AreInstrsOf (places_of (found_index pool.now) labels.now) (map line_view lines.now) instrs) }
 {

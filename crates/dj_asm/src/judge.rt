@@ -10,9 +10,8 @@ use crate::counted::{Kind, first_past};
 use crate::proper::first_alone;
 use crate::reach::first_wide_line;
 use dj_entries::PoolBuilder;
-use dj_pool::NoMemory;
 use dj_source::{Line, section_size};
-use std::alloc::Global;
+use std::alloc::{AllocError, Global};
 
 /// The lesser place, where there is one.
 fn earliest(first: Option<usize>, second: Option<usize>) -> Option<usize>
@@ -38,7 +37,7 @@ fn first_past_table(lines: &[Line<'_>]) -> Option<usize>
 
 /// The first line of a section with a range too many, a far jump or the end of long code.
 #[tactic(auto, using(crate::proofs::JudgedFirst::earliest_is))]
-fn first_large_in(alloc: Global, lines: &[Line<'_>]) -> Result<Option<usize>, NoMemory>
+fn first_large_in(alloc: Global, lines: &[Line<'_>]) -> Result<Option<usize>, AllocError>
     requires { length lines.now < 2 ^ 32 }
     ensures { IfOk result (λ first. IsFirstOf (is_large_in (map line_view lines.now)) (length lines.now) first) }
 {
@@ -49,7 +48,7 @@ fn first_large_in(alloc: Global, lines: &[Line<'_>]) -> Result<Option<usize>, No
 
 /// The first line with a range too many, a far jump or the end of long code.
 #[tactic(auto, using(crate::proofs::JudgedSections::none_in_all, crate::proofs::JudgedSections::at_beginning))]
-fn first_in_sections(alloc: Global, lines: &[Line<'_>]) -> Result<Option<usize>, NoMemory>
+fn first_in_sections(alloc: Global, lines: &[Line<'_>]) -> Result<Option<usize>, AllocError>
     requires { length lines.now < 2 ^ 32 }
     ensures { IfOk result (λ first. IsFirstOf (in_sections (sections_of (map line_view lines.now))) (length lines.now) first) }
 {
@@ -71,7 +70,7 @@ fn first_judged(
     alloc: Global,
     lines: &[Line<'_>],
     pool: &PoolBuilder,
-) -> Result<Option<usize>, NoMemory>
+) -> Result<Option<usize>, AllocError>
     requires { length lines.now < 2 ^ 32 }
     ensures { IfOk result (λ first. IsFirstOf (is_judged pool.now (map line_view lines.now)) (length lines.now) first) }
 {
@@ -86,7 +85,7 @@ pub(crate) fn first_large(
     alloc: Global,
     lines: &[Line<'_>],
     pool: &PoolBuilder,
-) -> Result<Option<usize>, NoMemory>
+) -> Result<Option<usize>, AllocError>
     requires { length lines.now < 2 ^ 32 }
     ensures { IfOk result (λ first. (s : Source) → IsJudged s (map line_view lines.now) pool.now → IsFirstBeside s first) }
 {

@@ -8,9 +8,8 @@ ghost use Rattle.dj_asm.specs.Filing.{member_with, one_attribute, attributes_at,
 use dj_class::{Attribute, Attributes, MemberView, Members};
 use dj_entries::PoolBuilder;
 use dj_names::Bytes;
-use dj_pool::NoMemory;
 use dj_source::{Line, Text};
-use std::alloc::Global;
+use std::alloc::{AllocError, Global};
 
 /// Appends a field or a method.
 fn push_member<'b>(
@@ -20,7 +19,7 @@ fn push_member<'b>(
     name: &Text<'_>,
     desc: &Text<'_>,
     attributes: Attributes<'b>,
-) -> Result<(), NoMemory>
+) -> Result<(), AllocError>
     ensures { OnOk result (members.new ≡ members.old ++ member_with (found_index pool.now) flags (text_view name.now) (text_view desc.now) attributes.entry ∷ []) }
 {
     let member = MemberView {
@@ -29,17 +28,15 @@ fn push_member<'b>(
         desc: pool.utf8_index(desc.as_slice()),
         attributes,
     };
-    members.push(member).or(Err(NoMemory::Memory))
+    members.push(member)
 }
 
 /// One attribute.
-fn one_attribute<'b>(alloc: Global, name: u16, body: &'b [u8]) -> Result<Attributes<'b>, NoMemory>
+fn one_attribute<'b>(alloc: Global, name: u16, body: &'b [u8]) -> Result<Attributes<'b>, AllocError>
     ensures { IfOk result (λ attributes. attributes ≡ one_attribute name body.now) }
 {
     let mut attributes = Attributes::new(alloc);
-    attributes
-        .push(Attribute { name, body })
-        .or(Err(NoMemory::Memory))?;
+    attributes.push(Attribute { name, body })?;
     Ok(attributes)
 }
 
@@ -49,7 +46,7 @@ fn attributes_at<'b>(
     attribute: u16,
     body: &'b [u8],
     line: &Line<'_>,
-) -> Result<Attributes<'b>, NoMemory>
+) -> Result<Attributes<'b>, AllocError>
     ensures { IfOk result (λ attributes. attributes ≡ attributes_at attribute body.now (line_view line.now)) }
 {
     match line {
@@ -80,7 +77,7 @@ fn push_line<'b>(
     attribute: u16,
     body: &'b [u8],
     line: &Line<'_>,
-) -> Result<(), NoMemory>
+) -> Result<(), AllocError>
     ensures { OnOk result (members.new ≡ members.old ++ members_at (found_index pool.now) attribute body.now (line_view line.now)) }
 {
     let attributes = attributes_at(alloc, attribute, body, line)?;
@@ -170,7 +167,7 @@ pub(crate) fn members_of<'b>(
     attribute: u16,
     bodies: &'b [Bytes],
     lines: &[Line<'_>],
-) -> Result<Members<'b>, NoMemory>
+) -> Result<Members<'b>, AllocError>
     ensures { IfOk result (λ members. members ≡ members_in (found_index pool.now) attribute bodies.now (map line_view lines.now)) }
 {
     let mut members = Members::new(alloc);

@@ -10,9 +10,8 @@ ghost use Rattle.dj_asm.specs.Judging.{IsFirstOf, is_long_frame, is_table, rise_
 
 use dj_entries::PoolBuilder;
 use dj_names::{DescError, read_desc, slots};
-use dj_pool::NoMemory;
 use dj_source::{Frame, Line, Literal, Operation, Pair};
-use std::alloc::Global;
+use std::alloc::{AllocError, Global};
 
 // A list of types has a count of two bytes (JVMS 4.7.4).
 const MOST_TYPES: usize = 65535;
@@ -70,18 +69,22 @@ fn is_lookup(pairs: &[Pair<'_>]) -> bool
 
 /// Whether a method's parameters have more slots than a count of one byte has room for, with the object.
 #[tactic(auto, using(crate::proofs::JudgedLines::many_slots, crate::proofs::JudgedLines::few_slots))]
-fn has_many_slots(alloc: Global, desc: &[u8]) -> Result<bool, NoMemory>
+fn has_many_slots(alloc: Global, desc: &[u8]) -> Result<bool, AllocError>
     ensures { IfOk result (λ many. many ≡ has_many_slots desc.now) }
 {
     match read_desc(alloc, desc) {
         Ok(described) => Ok(254 < slots(&described)),
         Err(DescError::NotADescriptor) => Ok(false),
-        Err(DescError::Memory) => Err(NoMemory::Memory),
+        Err(DescError::Memory) => Err(AllocError),
     }
 }
 
 /// Whether a constant's index is past one byte.
-fn is_past_byte(alloc: Global, pool: &PoolBuilder, literal: &Literal<'_>) -> Result<bool, NoMemory>
+fn is_past_byte(
+    alloc: Global,
+    pool: &PoolBuilder,
+    literal: &Literal<'_>,
+) -> Result<bool, AllocError>
     ensures { IfOk result (λ past. past ≡ nat_lt 255 (found_index pool.now (literal_entry (literal_view literal.now)))) }
 {
     Ok(255 < pool.literal_index(alloc, literal)?)
@@ -92,7 +95,7 @@ fn is_improper(
     alloc: Global,
     pool: &PoolBuilder,
     operation: &Operation<'_>,
-) -> Result<bool, NoMemory>
+) -> Result<bool, AllocError>
     ensures { IfOk result (λ improper. improper ≡ is_improper pool.now (operation_view operation.now)) }
 {
     match operation {
@@ -126,7 +129,7 @@ fn is_improper(
 }
 
 /// Whether a line alone is too large.
-fn is_alone(alloc: Global, pool: &PoolBuilder, line: &Line<'_>) -> Result<bool, NoMemory>
+fn is_alone(alloc: Global, pool: &PoolBuilder, line: &Line<'_>) -> Result<bool, AllocError>
     ensures { IfOk result (λ large. large ≡ is_alone pool.now (Some (line_view line.now))) }
 {
     match line {
@@ -153,7 +156,7 @@ pub(crate) fn first_alone(
     alloc: Global,
     lines: &[Line<'_>],
     pool: &PoolBuilder,
-) -> Result<Option<usize>, NoMemory>
+) -> Result<Option<usize>, AllocError>
     ensures { IfOk result (λ first. IsFirstOf (alone pool.now (map line_view lines.now)) (length lines.now) first) }
 {
     for place in 0..lines.len() {

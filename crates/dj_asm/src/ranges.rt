@@ -13,9 +13,8 @@ ghost use Rattle.dj_asm.specs.trusted.Files.{places_of};
 
 use dj_entries::PoolBuilder;
 use dj_labels::{Protected, Ranges};
-use dj_pool::NoMemory;
 use dj_source::{Line, MethodLabels, Text, Word};
-use std::alloc::Global;
+use std::alloc::{AllocError, Global};
 
 /// The index of the class that is caught, or 0 for any.
 fn catch_index(pool: &PoolBuilder, class: &Option<Text<'_>>) -> u16
@@ -58,7 +57,7 @@ fn push_line(
     labels: &MethodLabels<'_, '_>,
     pool: &PoolBuilder,
     line: &Line<'_>,
-) -> Result<(), NoMemory>
+) -> Result<(), AllocError>
     ensures { IfOk result (λ x. ranges.new ≡ ranges.old ++ ranges_in (places_of (found_index pool.now) labels.now) (line_view line.now)) }
 {
     match line {
@@ -69,7 +68,7 @@ fn push_line(
             handler,
         } => {
             let range = range_of(labels, *from, *to, *handler, catch_index(pool, class));
-            ranges.push(range).or(Err(NoMemory::Memory))?;
+            ranges.push(range)?;
             Ok(())
         }
         Line::Class { .. }
@@ -95,7 +94,7 @@ pub(crate) fn ranges_of(
     lines: &[Line<'_>],
     labels: &MethodLabels<'_, '_>,
     pool: &PoolBuilder,
-) -> Result<Ranges, NoMemory>
+) -> Result<Ranges, AllocError>
     ensures { IfOk result (λ ranges. ranges ≡ flat_map (ranges_in (places_of (found_index pool.now) labels.now)) (map line_view lines.now)) }
 {
     let mut ranges = Ranges::new(alloc);

@@ -9,9 +9,8 @@ ghost use Rattle.dj_source.specs.LineViews.{line_view};
 ghost use Rattle.dj_asm.specs.Judging.{IsFirstOf, is_near, reaches, target, is_reached, is_wide_line, is_wide, wide_code};
 
 use crate::sizes::{half_of, starts_of};
-use dj_pool::NoMemory;
 use dj_source::{Line, MethodLabels, Operation, Pair, Word};
-use std::alloc::Global;
+use std::alloc::{AllocError, Global};
 
 // The most bytes of a method's code (JVMS 4.7.3, code_length).
 const MOST_BYTES: u64 = 65535;
@@ -185,11 +184,14 @@ fn first_wide(
 }
 
 /// The first line of a method whose jump is far, or its `.end` where its code is long.
-pub(crate) fn first_wide_line(alloc: Global, lines: &[Line<'_>]) -> Result<Option<usize>, NoMemory>
+pub(crate) fn first_wide_line(
+    alloc: Global,
+    lines: &[Line<'_>],
+) -> Result<Option<usize>, AllocError>
     requires { length lines.now < 2 ^ 32 }
     ensures { IfOk result (λ first. IsFirstOf (wide_code (map line_view lines.now)) (length lines.now) first) }
 {
-    let labels = MethodLabels::of(alloc, lines).or(Err(NoMemory::Memory))?;
+    let labels = MethodLabels::of(alloc, lines)?;
     let (starts, stop) = starts_of(alloc, lines)?;
     Ok(first_wide(&labels, &starts, stop, lines))
 }

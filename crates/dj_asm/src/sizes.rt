@@ -5,9 +5,8 @@ ghost use Rattle.dj_source.specs.LineViews.{line_view};
 ghost use Rattle.dj_asm.specs.trusted.Codes.{operation_in};
 ghost use Rattle.dj_asm.specs.Judging.{wide_size, switch_size, size_at, half_of, AreStarts};
 
-use dj_pool::NoMemory;
 use dj_source::{Line, Operation};
-use std::alloc::Global;
+use std::alloc::{AllocError, Global};
 
 /// How far back the offset of a jump goes.
 pub(crate) fn half_of(op: u8) -> u64
@@ -53,15 +52,15 @@ fn size_at(at: u64, operation: &Operation<'_>) -> Option<u64>
 }
 
 /// The address after an instruction; code past all addresses has no room in memory.
-fn end_after(at: u64, operation: &Operation<'_>) -> Result<u64, NoMemory>
+fn end_after(at: u64, operation: &Operation<'_>) -> Result<u64, AllocError>
     ensures { IfOk result (λ next. next ≡ at + size_at at (operation_view operation.now)) }
 {
     match size_at(at, operation) {
         Some(size) => match at.checked_add(size) {
             Some(next) => Ok(next),
-            None => Err(NoMemory::Memory),
+            None => Err(AllocError),
         },
-        None => Err(NoMemory::Memory),
+        None => Err(AllocError),
     }
 }
 
@@ -90,7 +89,7 @@ fn done<'l, 't>(line: &'l Line<'t>) -> Option<&'l Operation<'t>>
 
 /// The addresses of the instructions of these lines, and the address after the last.
 #[tactic(auto, using(crate::proofs::JudgedCode::none_left, crate::proofs::JudgedCode::at_first, crate::proofs::JudgedCode::one_further, crate::proofs::JudgedCode::none_further))]
-pub(crate) fn starts_of(alloc: Global, lines: &[Line<'_>]) -> Result<(Vec<u64>, u64), NoMemory>
+pub(crate) fn starts_of(alloc: Global, lines: &[Line<'_>]) -> Result<(Vec<u64>, u64), AllocError>
     ensures { IfOk result (λ x. AreStarts (map line_view lines.now) x.0.items x.1) }
 {
     let mut starts = Vec::new(alloc);

@@ -2,7 +2,5 @@
 #![tactic(auto)]
 
 mod cursor;
-mod memory;
 
 pub use cursor::{Cursor, Cut};
-pub use memory::NoMemory;

@@ -84,7 +84,7 @@ few_names boxed = map class_name (few_types boxed)
 abbrev pub few_below : Bool → List (List Bool)
 few_below boxed = map (λ (a : Ty). map (is_subtype (few_program boxed) (few_prefix boxed) a) (few_types boxed)) (few_types boxed)
 
--- of a declaring class and of another one, whether that has its fields; no class here has interfaces, so those below it have them
+-- whether a class has the fields that another one declares; no class here has interfaces, so the declaring class and those below it have them
 abbrev pub few_has : Bool → ℕ → ℕ → Bool
 few_has boxed declaring class =
     nat_lt declaring (length (few_types boxed))

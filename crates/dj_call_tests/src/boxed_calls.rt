@@ -2,8 +2,8 @@ use crate::calls::are_done;
 use crate::few::Few;
 use crate::rows::After::Any;
 use crate::rows::Argument::{Int, Null, Numbers, Object, References};
-use crate::rows::Reported::{GivesInt, GivesText, Nothing, Stops};
-use crate::rows::Row;
+use crate::rows::LimitedCall;
+use crate::rows::WantedAnswer::{GivesInt, GivesText, Nothing, Stops};
 use dj_names::Element;
 use dj_names::NativeId::{
     CheckCatch, ObjectHashCode, ObjectToString, RecordAllocation, RecordArray, RecordInvocation,
@@ -11,7 +11,7 @@ use dj_names::NativeId::{
 };
 
 // Methods under a prefix, and those of the accounter, where little is left.
-const BOXED_LIMITED: [Row; 17] = [
+const BOXED_LIMITED: [LimitedCall; 17] = [
     (
         ObjectToString,
         (Some(1000), 1_000_000),

@@ -2,8 +2,8 @@ use crate::calls::{are_done, are_kept};
 use crate::few::Few;
 use crate::rows::After::FirstIs;
 use crate::rows::Argument::{Builder, Int, Long, Null, Text};
-use crate::rows::Reported::{Full, GivesInt, GivesObject, GivesText, Nothing, Raises, Stops};
-use crate::rows::{Kept, Row};
+use crate::rows::WantedAnswer::{Full, GivesInt, GivesObject, GivesText, Nothing, Raises, Stops};
+use crate::rows::{KeepingCall, LimitedCall};
 use dj_names::NativeId::{
     BuilderAppendBoolean, BuilderAppendChar, BuilderAppendInt, BuilderAppendLong,
     BuilderAppendText, BuilderCharAt, BuilderLength, BuilderNew, BuilderNewText, BuilderToString,
@@ -11,7 +11,7 @@ use dj_names::NativeId::{
 use dj_names::Raised;
 
 // Methods of StringBuilder, which change something.
-const BUILDERS_KEPT: [Kept; 31] = [
+const BUILDERS_KEPT: [KeepingCall; 31] = [
     (
         BuilderNew,
         &[Builder(None)],
@@ -232,7 +232,7 @@ const BUILDERS_KEPT: [Kept; 31] = [
 ];
 
 // Methods of StringBuilder, where little is left.
-const BUILDERS_LIMITED: [Row; 3] = [
+const BUILDERS_LIMITED: [LimitedCall; 3] = [
     (
         BuilderAppendInt,
         (Some(31), 1_000_000),

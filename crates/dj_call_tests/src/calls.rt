@@ -3,7 +3,9 @@ use crate::arguments::{units, values_of};
 use crate::few::Few;
 use crate::heaps::{are_elements, field, is_of_class, is_text};
 use crate::known::are_known;
-use crate::rows::{After, Asked, ENOUGH, Kept, Made, Reported, Row, Text};
+use crate::rows::{
+    After, AskedCall, ENOUGH, KeepingCall, LimitedCall, MakingCall, Text, WantedAnswer,
+};
 use crate::taken::are_arguments;
 use dj_calls::{Accounter, NativeAnswer, call_native};
 use dj_heap::Heap;
@@ -32,13 +34,19 @@ fn is_object(few: &Few, heap: &Heap, r: u32, class: &[u8]) -> bool {
 }
 
 // Whether this object is the expected one.
-fn is_reference(alloc: Global, few: &Few, heap: &Heap, given: u32, reported: &Reported) -> bool {
+fn is_reference(
+    alloc: Global,
+    few: &Few,
+    heap: &Heap,
+    given: u32,
+    reported: &WantedAnswer,
+) -> bool {
     match reported {
-        Reported::GivesNull => given == 0,
-        Reported::GivesText(r, text) => given == *r
+        WantedAnswer::GivesNull => given == 0,
+        WantedAnswer::GivesText(r, text) => given == *r
             && is_text_object(alloc, few, heap, given, text),
-        Reported::GivesObject(r, class) => given == *r && is_object(few, heap, given, class),
-        Reported::GivesChars(r, elements) => {
+        WantedAnswer::GivesObject(r, class) => given == *r && is_object(few, heap, given, class),
+        WantedAnswer::GivesChars(r, elements) => {
             given == *r
                 && is_of_class(heap, given, few.chars())
                 && are_elements(heap, given, elements)
@@ -47,10 +55,10 @@ fn is_reference(alloc: Global, few: &Few, heap: &Heap, given: u32, reported: &Re
     }
 }
 
-fn is_value(alloc: Global, few: &Few, heap: &Heap, value: Value, reported: &Reported) -> bool {
+fn is_value(alloc: Global, few: &Few, heap: &Heap, value: Value, reported: &WantedAnswer) -> bool {
     match value {
-        Value::Int(z) => matches!(reported, Reported::GivesInt(int) if *int == z),
-        Value::Long(z) => matches!(reported, Reported::GivesLong(long) if *long == z),
+        Value::Int(z) => matches!(reported, WantedAnswer::GivesInt(int) if *int == z),
+        Value::Long(z) => matches!(reported, WantedAnswer::GivesLong(long) if *long == z),
         Value::Ref(r) => is_reference(alloc, few, heap, r, reported),
     }
 }
@@ -61,16 +69,16 @@ fn is_reported(
     few: &Few,
     heap: &Heap,
     answer: NativeAnswer,
-    reported: &Reported,
+    reported: &WantedAnswer,
 ) -> bool {
     match answer {
-        NativeAnswer::Nothing => matches!(reported, Reported::Nothing),
+        NativeAnswer::Nothing => matches!(reported, WantedAnswer::Nothing),
         NativeAnswer::Gives(value) => is_value(alloc, few, heap, value, reported),
         NativeAnswer::Raise(raised) =>
-            matches!(reported, Reported::Raises(other) if *other == raised),
-        NativeAnswer::Stop => matches!(reported, Reported::Stops),
+            matches!(reported, WantedAnswer::Raises(other) if *other == raised),
+        NativeAnswer::Stop => matches!(reported, WantedAnswer::Stops),
         NativeAnswer::Full { used, size } => {
-            matches!(reported, Reported::Full(bytes, wanted) if *bytes == used && *wanted == size)
+            matches!(reported, WantedAnswer::Full(bytes, wanted) if *bytes == used && *wanted == size)
         }
         NativeAnswer::Memory => false,
     }
@@ -103,7 +111,7 @@ fn is_after(alloc: Global, heap: &Heap, after: &After) -> bool {
 
 // ---- calls
 
-// Calls the method, where all is known and the arguments are some of it.
+// Calls the method, where the heap's objects are known and the values are arguments of the method.
 fn called(
     alloc: Global,
     few: &Few,
@@ -137,7 +145,7 @@ fn charged(
 }
 
 // Whether the call does what the row says; none where it can't be made.
-fn does(alloc: Global, few: &Few, row: &Row) -> Option<bool> {
+fn does(alloc: Global, few: &Few, row: &LimitedCall) -> Option<bool> {
     let (most, limit) = row.1;
     let mut heap = Heap::new(alloc, limit.min(1 << 31));
     let values = values_of(alloc, few, &mut heap, row.2)?;
@@ -151,12 +159,12 @@ fn does(alloc: Global, few: &Few, row: &Row) -> Option<bool> {
     )
 }
 
-fn is_done(alloc: Global, few: &Few, row: &Row) -> bool {
+fn is_done(alloc: Global, few: &Few, row: &LimitedCall) -> bool {
     does(alloc, few, row) == Some(true)
 }
 
 // With enough of all.
-fn is_kept(alloc: Global, few: &Few, row: &Kept) -> bool {
+fn is_kept(alloc: Global, few: &Few, row: &KeepingCall) -> bool {
     let (id, arguments, reported, used, after) = *row;
     let charged = used.1.saturating_sub(used.0);
     is_done(
@@ -167,22 +175,22 @@ fn is_kept(alloc: Global, few: &Few, row: &Kept) -> bool {
 }
 
 /// Whether each of the calls does what its row says.
-pub fn are_done(alloc: Global, few: &Few, rows: &[Row]) -> bool {
+pub fn are_done(alloc: Global, few: &Few, rows: &[LimitedCall]) -> bool {
     rows.iter().all(|row| is_done(alloc, few, row))
 }
 
 /// The same, with enough of all.
-pub fn are_kept(alloc: Global, few: &Few, rows: &[Kept]) -> bool {
+pub fn are_kept(alloc: Global, few: &Few, rows: &[KeepingCall]) -> bool {
     rows.iter().all(|row| is_kept(alloc, few, row))
 }
 
 /// The same, where no object is changed.
-pub fn are_made(alloc: Global, few: &Few, rows: &[Made]) -> bool {
+pub fn are_made(alloc: Global, few: &Few, rows: &[MakingCall]) -> bool {
     rows.iter().all(|row| is_kept(alloc, few, &(row.0, row.1, row.2, row.3, After::Any)))
 }
 
 /// The same, where nothing is made either.
-pub fn are_asked(alloc: Global, few: &Few, rows: &[Asked]) -> bool {
+pub fn are_asked(alloc: Global, few: &Few, rows: &[AskedCall]) -> bool {
     rows.iter().all(|row| {
         is_kept(
             alloc,

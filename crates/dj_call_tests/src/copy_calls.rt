@@ -2,13 +2,13 @@ use crate::calls::{are_asked, are_kept};
 use crate::few::Few;
 use crate::rows::After::ElementsAre;
 use crate::rows::Argument::{Int, Null, Numbers, Object, References, Same, Text};
-use crate::rows::Reported::{Nothing, Raises};
-use crate::rows::{Asked, Kept};
+use crate::rows::WantedAnswer::{Nothing, Raises};
+use crate::rows::{AskedCall, KeepingCall};
 use dj_names::NativeId::ArrayCopy;
 use dj_names::{Element, Raised};
 
 // Copies of elements.
-const COPIES: [Asked; 2] = [
+const COPIES: [AskedCall; 2] = [
     (
         ArrayCopy,
         &[
@@ -30,7 +30,7 @@ const COPIES: [Asked; 2] = [
 ];
 
 // Copies of elements, which change something.
-const COPIES_KEPT: [Kept; 32] = [
+const COPIES_KEPT: [KeepingCall; 32] = [
     (
         ArrayCopy,
         &[

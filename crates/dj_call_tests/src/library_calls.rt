@@ -2,8 +2,8 @@ use crate::calls::{are_asked, are_done, are_kept, are_made};
 use crate::few::Few;
 use crate::rows::After::{Any, FieldsAre};
 use crate::rows::Argument::{Int, Long, Null, Numbers, Object, References, Same, Text, Throwable};
-use crate::rows::Reported::{Full, GivesInt, GivesLong, GivesNull, GivesText, Nothing, Stops};
-use crate::rows::{Asked, Kept, Made, Row};
+use crate::rows::WantedAnswer::{Full, GivesInt, GivesLong, GivesNull, GivesText, Nothing, Stops};
+use crate::rows::{AskedCall, KeepingCall, LimitedCall, MakingCall};
 use dj_names::Element;
 use dj_names::NativeId::{
     AbsInt, AbsLong, GetCause, GetMessage, IdentityHashCode, MaxInts, MaxLongs, MinInts, MinLongs,
@@ -12,7 +12,7 @@ use dj_names::NativeId::{
 };
 
 // Methods of Object, and numbers of objects.
-const OBJECTS: [Asked; 10] = [
+const OBJECTS: [AskedCall; 10] = [
     (ObjectNew, &[Object(b"java/lang/Object", 0)], Nothing, 16),
     (ObjectEquals, &[Object(b"A", 0), Same(0)], GivesInt(1), 16),
     (
@@ -36,7 +36,7 @@ const OBJECTS: [Asked; 10] = [
 ];
 
 // Methods of Object, and numbers of objects, which make something.
-const OBJECTS_MADE: [Made; 6] = [
+const OBJECTS_MADE: [MakingCall; 6] = [
     (
         ObjectToString,
         &[Object(b"A", 0)],
@@ -76,7 +76,7 @@ const OBJECTS_MADE: [Made; 6] = [
 ];
 
 // Methods of Object, and numbers of objects, where little is left.
-const OBJECTS_LIMITED: [Row; 4] = [
+const OBJECTS_LIMITED: [LimitedCall; 4] = [
     (
         ObjectToString,
         (Some(23), 1_000_000),
@@ -116,7 +116,7 @@ const OBJECTS_LIMITED: [Row; 4] = [
 ];
 
 // Methods of Throwable and the classes below it.
-const THROWABLES: [Asked; 3] = [
+const THROWABLES: [AskedCall; 3] = [
     (
         GetMessage,
         &[Throwable(b"java/lang/Error", Some(b"A"))],
@@ -138,7 +138,7 @@ const THROWABLES: [Asked; 3] = [
 ];
 
 // Methods of Throwable and the classes below it, which change something.
-const THROWABLES_KEPT: [Kept; 5] = [
+const THROWABLES_KEPT: [KeepingCall; 5] = [
     (
         ThrowableNew,
         &[Throwable(b"java/lang/Throwable", Some(b"A"))],
@@ -184,7 +184,7 @@ const THROWABLES_KEPT: [Kept; 5] = [
 ];
 
 // Methods of Math.
-const NUMBERS: [Asked; 23] = [
+const NUMBERS: [AskedCall; 23] = [
     (AbsInt, &[Int(5)], GivesInt(5), 0),
     (AbsInt, &[Int(-5)], GivesInt(5), 0),
     (AbsInt, &[Int(0)], GivesInt(0), 0),

@@ -30,7 +30,7 @@ pub enum Went {
     Raised(Raised),
     Link,
     Full(u64, u64),
-    /// In another way than these instructions do.
+    /// In a way in which none of these instructions goes on.
     Elsewhere,
 }
 
@@ -343,7 +343,7 @@ fn got(alloc: Global, heap: &Heap, field: FieldAccess, r: u32) -> Option<(Went, 
     Some((went, pop(&mut frames)))
 }
 
-// Whether the value is got that was put, where one was, and the run goes on the same way else.
+// Whether the value that was put is read back, where one was put, and whether the run goes on as the row says.
 fn is_got(went: Went, value: Option<Value>, row: &FieldRow) -> bool {
     match row.4 {
         Went::Next => went == Went::Next && value == Some(row.3),
@@ -394,7 +394,7 @@ fn got_at(alloc: Global, statics: &Statics, place: u32, kind: Kind) -> Option<Va
     }
 }
 
-// Whether the value is got that was put, and another field is still 0.
+// Whether the value that was put is read back, and another field is still 0.
 fn keeps(alloc: Global, kind: Kind, value: Value) -> Option<bool> {
     let mut statics = Statics::new(alloc, 3).ok()?;
     put_at_one(alloc, &mut statics, kind, value)?;

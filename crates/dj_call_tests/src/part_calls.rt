@@ -2,8 +2,8 @@ use crate::calls::{are_asked, are_done, are_made};
 use crate::few::Few;
 use crate::rows::After::Any;
 use crate::rows::Argument::{Int, Long, Null, Numbers, Same, Text};
-use crate::rows::Reported::{Full, GivesChars, GivesText, Raises, Stops};
-use crate::rows::{Asked, Made, Row};
+use crate::rows::WantedAnswer::{Full, GivesChars, GivesText, Raises, Stops};
+use crate::rows::{AskedCall, LimitedCall, MakingCall};
 use dj_names::NativeId::{
     StringConcat, StringSubstring, StringSubstringFrom, StringToCharArray, StringValueOfBoolean,
     StringValueOfChar, StringValueOfChars, StringValueOfInt, StringValueOfLong,
@@ -11,7 +11,7 @@ use dj_names::NativeId::{
 use dj_names::{Element, Raised};
 
 // Parts and sums of texts.
-const PARTS: [Asked; 12] = [
+const PARTS: [AskedCall; 12] = [
     (
         StringConcat,
         &[Text(b"ab"), Text(b"")],
@@ -82,7 +82,7 @@ const PARTS: [Asked; 12] = [
 ];
 
 // Parts and sums of texts, which make something.
-const PARTS_MADE: [Made; 12] = [
+const PARTS_MADE: [MakingCall; 12] = [
     (
         StringConcat,
         &[Text(b""), Text(b"b")],
@@ -158,7 +158,7 @@ const PARTS_MADE: [Made; 12] = [
 ];
 
 // Parts and sums of texts, where little is left.
-const PARTS_LIMITED: [Row; 6] = [
+const PARTS_LIMITED: [LimitedCall; 6] = [
     (
         StringConcat,
         (Some(0), 1_000_000),
@@ -216,10 +216,10 @@ const PARTS_LIMITED: [Row; 6] = [
 ];
 
 // Texts of values, and the chars of texts.
-const VALUES: [Asked; 1] = [(StringValueOfChars, &[Null], Raises(Raised::NullPointer), 0)];
+const VALUES: [AskedCall; 1] = [(StringValueOfChars, &[Null], Raises(Raised::NullPointer), 0)];
 
 // Texts of values, and the chars of texts, which make something.
-const VALUES_MADE: [Made; 27] = [
+const VALUES_MADE: [MakingCall; 27] = [
     (
         StringToCharArray,
         &[Text(b"")],
@@ -355,7 +355,7 @@ const VALUES_MADE: [Made; 27] = [
 ];
 
 // Texts of values, and the chars of texts, where little is left.
-const VALUES_LIMITED: [Row; 2] = [
+const VALUES_LIMITED: [LimitedCall; 2] = [
     (
         StringToCharArray,
         (Some(31), 1_000_000),

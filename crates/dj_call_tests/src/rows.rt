@@ -26,7 +26,7 @@ pub enum Argument {
 
 /// What a call answers.
 #[derive(Clone, Copy)]
-pub enum Reported {
+pub enum WantedAnswer {
     Nothing,
     GivesInt(i32),
     GivesLong(i64),
@@ -56,20 +56,26 @@ pub enum After {
 }
 
 /// A call that makes nothing: a method, its arguments, the answer, and the bytes that are used before it and after it.
-pub type Asked = (NativeId, &'static [Argument], Reported, u64);
+pub type AskedCall = (NativeId, &'static [Argument], WantedAnswer, u64);
 
 /// A call that makes an object: the bytes that are used before it and after it, and what is between them is charged.
-pub type Made = (NativeId, &'static [Argument], Reported, (u64, u64));
+pub type MakingCall = (NativeId, &'static [Argument], WantedAnswer, (u64, u64));
 
 /// A call after which an object is changed, or is not.
-pub type Kept = (NativeId, &'static [Argument], Reported, (u64, u64), After);
+pub type KeepingCall = (
+    NativeId,
+    &'static [Argument],
+    WantedAnswer,
+    (u64, u64),
+    After,
+);
 
 /// A call with the threshold of what is allocated, where there is an accounter, and the limit of the heap; the bytes that are used before it and after it, those that are charged, and what an object is then.
-pub type Row = (
+pub type LimitedCall = (
     NativeId,
     (Option<u64>, u64),
     &'static [Argument],
-    Reported,
+    WantedAnswer,
     (u64, u64),
     u64,
     After,

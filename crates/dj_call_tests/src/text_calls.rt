@@ -2,8 +2,8 @@ use crate::calls::{are_asked, are_kept};
 use crate::few::Few;
 use crate::rows::After::FirstIs;
 use crate::rows::Argument::{Builder, Int, Null, Numbers, Object, Same, Text};
-use crate::rows::Reported::{GivesInt, GivesText, Raises};
-use crate::rows::{Asked, Kept};
+use crate::rows::WantedAnswer::{GivesInt, GivesText, Raises};
+use crate::rows::{AskedCall, KeepingCall};
 use dj_names::NativeId::{
     StringCharAt, StringCompareTo, StringCompareToObject, StringEquals, StringHashCode,
     StringIsEmpty, StringLength, StringStartsWith, StringToString,
@@ -11,7 +11,7 @@ use dj_names::NativeId::{
 use dj_names::{Element, Raised};
 
 // Methods of String that make no object.
-const TEXTS: [Asked; 50] = [
+const TEXTS: [AskedCall; 50] = [
     (StringLength, &[Text(b"")], GivesInt(0), 16),
     (StringIsEmpty, &[Text(b"")], GivesInt(1), 16),
     (StringHashCode, &[Text(b"")], GivesInt(0), 16),
@@ -210,7 +210,7 @@ const TEXTS: [Asked; 50] = [
 ];
 
 // Methods of String that make no object, which change something.
-const TEXTS_KEPT: [Kept; 2] = [
+const TEXTS_KEPT: [KeepingCall; 2] = [
     (
         StringEquals,
         &[Text(b""), Builder(None)],

@@ -4,7 +4,7 @@ use Rattle.std.proofs.lemmas.Bool.{ne_eqb, le-leb, leb-true, both_ways}
 use Rattle.dj_names.specs.declared.run.Raised.TheVariants as raises
 use Rattle.std.proofs.Common.{◌≡◌, ℕ, ◌≤◌, ℤ, pos, negsuc, Bool, true, false, arith, length, List, [], ◌∷◌, ◌++◌, Option, Some, None, Result, Ok, Err, IfOk, IfSome, refl, ap, sym, subst, ◌∙◌}
 use Rattle.dj_names.specs.declared.descriptor.Ty.{Ty}
-use Rattle.dj_bytes.specs.declared.memory.NoMemory.{NoMemory}
+use Rattle.std.specs.declared.alloc.AllocError.{AllocError}
 use Rattle.dj_names.specs.declared.native.NativeId.{NativeId}
 use Rattle.dj_names.specs.declared.run.Value.{Value}
 use Rattle.dj_heap.specs.Heaps.{LimitedHeap}
@@ -24,12 +24,12 @@ reported_some view x e = subst (λ v. IfSome v (λ a. x ≡ a)) (sym e) refl
 pub reported_as : (view : Option model.Answer) (x y : model.Answer) → x ≡ y → IfSome view (λ a. y ≡ a) → IfSome view (λ a. x ≡ a)
 reported_as view x y e reported = subst (λ z. IfSome view (λ a. z ≡ a)) (sym e) reported
 
-pub reported_by : (f : List ℕ → model.Answer) (r : Result (List ℕ) NoMemory) (us : List ℕ) (view : Option model.Answer) → view ≡ answered_by f r → IfOk r (λ u. u ≡ us)
+pub reported_by : (f : List ℕ → model.Answer) (r : Result (List ℕ) AllocError) (us : List ℕ) (view : Option model.Answer) → view ≡ answered_by f r → IfOk r (λ u. u ≡ us)
     → IfSome view (λ a. f us ≡ a)
 reported_by f (Ok u) us view e same = subst (λ v. IfSome v (λ a. f us ≡ a)) (sym e) (ap f (sym same))
 reported_by f (Err error) us view e same = subst (λ v. IfSome v (λ a. f us ≡ a)) (sym e) tt
 
-pub reported_appended : (h : LimitedHeap) (r : ℕ) (more : Result (List ℕ) NoMemory) (us : List ℕ) (view : Option model.Answer) → IsAppended h r more view → IfOk more (λ u. u ≡ us)
+pub reported_appended : (h : LimitedHeap) (r : ℕ) (more : Result (List ℕ) AllocError) (us : List ℕ) (view : Option model.Answer) → IsAppended h r more view → IfOk more (λ u. u ≡ us)
     → IfSome view (λ a. model.KeepsText r (units_at h (field_at h r 0) ++ us) ≡ a)
 reported_appended h r (Ok u) us view reported same = reported_as view (model.KeepsText r (units_at h (field_at h r 0) ++ us)) (model.KeepsText r (units_at h (field_at h r 0) ++ u))
     (ap (λ l. model.KeepsText r (units_at h (field_at h r 0) ++ l)) (sym same)) reported

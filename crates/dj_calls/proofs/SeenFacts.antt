@@ -6,7 +6,7 @@ use Rattle.dj_names.specs.trusted.Heaps.{Object, Instance, Array, Text, object_a
 use Rattle.dj_names.specs.Heaps.{object_map}
 use Rattle.dj_heap.specs.Heaps.{LimitedHeap, object_in}
 use Rattle.dj_model.specs.trusted.Types.{Prefix}
-use Rattle.dj_model.specs.trusted.Performing.{units_in, is_text_in, field_in, elements_in, shown_in}
+use Rattle.dj_model.specs.trusted.Performing.{units_in, is_text_in, object_field, elements_in, shown_in}
 use Rattle.dj_model.proofs.MappedHeaps.{object_at_mapped, class_of_mapped}
 use Rattle.dj_natives.specs.Numbered.{type_at}
 use Rattle.dj_calls.specs.Seen.{units_held, is_text_held, field_held, elements_held, units_at, is_text_at, field_at, elements_at}
@@ -32,7 +32,7 @@ module _ (types : List Ty) where
   is_text_typed (Some (Array class element contents)) = refl
   is_text_typed (Some (Text class units)) = refl
 
-  field_typed : (o : Option (Object ℕ)) (place : ℕ) → field_in (typed o) place ≡ field_held o place
+  field_typed : (o : Option (Object ℕ)) (place : ℕ) → object_field (typed o) place ≡ field_held o place
   field_typed None place = refl
   field_typed (Some (Instance class fields)) place = refl
   field_typed (Some (Array class element contents)) place = refl
@@ -56,8 +56,8 @@ module _ (types : List Ty) where
   pub is_text_alike : (h : LimitedHeap) (r : ℕ) → is_text_in (object_at (typed_heap types h).objects r) ≡ is_text_at h r
   is_text_alike h r = ap is_text_in (object_alike h r) ∙ is_text_typed (object_in h r)
 
-  pub field_alike : (h : LimitedHeap) (r place : ℕ) → field_in (object_at (typed_heap types h).objects r) place ≡ field_at h r place
-  field_alike h r place = ap (λ o. field_in o place) (object_alike h r) ∙ field_typed (object_in h r) place
+  pub field_alike : (h : LimitedHeap) (r place : ℕ) → object_field (object_at (typed_heap types h).objects r) place ≡ field_at h r place
+  field_alike h r place = ap (λ o. object_field o place) (object_alike h r) ∙ field_typed (object_in h r) place
 
   pub elements_alike : (h : LimitedHeap) (r : ℕ) → elements_in (object_at (typed_heap types h).objects r) ≡ elements_at h r
   elements_alike h r = ap elements_in (object_alike h r) ∙ elements_typed (object_in h r)

@@ -1,6 +1,6 @@
 -- What native methods answer, by groups of them.
 use Rattle.std.specs.Prelude.{◌≡◌, ℕ, ⊤, Bool, true, false, List, [], ◌∷◌, ◌++◌, Option, Some, None, Result, Ok, Err, IfSome}
-use Rattle.dj_bytes.specs.declared.memory.NoMemory.{NoMemory}
+use Rattle.std.specs.declared.alloc.AllocError.{AllocError}
 use Rattle.dj_names.specs.declared.run.Charge.{Charge}
 use Rattle.dj_names.specs.declared.run.Value.{Value}
 use Rattle.dj_names.specs.declared.run.Value.TheVariants as values
@@ -27,12 +27,12 @@ answer_view (answers.Adds due) = Some (model.Adds due.charge due.amount)
 answer_view answers.Memory = None
 
 -- what is answered with units, where there was memory for them
-abbrev pub answered_by : (List ℕ → model.Answer) → Result (List ℕ) NoMemory → Option model.Answer
+abbrev pub answered_by : (List ℕ → model.Answer) → Result (List ℕ) AllocError → Option model.Answer
 answered_by f (Ok units) = Some (f units)
 answered_by f (Err error) = None
 
 -- a builder's units and then more; where there was no memory for these there is no answer
-abbrev pub IsAppended : LimitedHeap → ℕ → Result (List ℕ) NoMemory → Option model.Answer → Type 0
+abbrev pub IsAppended : LimitedHeap → ℕ → Result (List ℕ) AllocError → Option model.Answer → Type 0
 IsAppended h r (Ok more) reported = IfSome reported (λ a. model.KeepsText r (units_at h (field_at h r 0) ++ more) ≡ a)
 IsAppended h r (Err error) reported = reported ≡ None
 

@@ -2,7 +2,7 @@ ghost use Rattle.std.specs.Prelude.{◌≤◌, ◌+◌, ◌^◌};
 
 use dj_names::Charge;
 
-// What is added to a sum at once.
+/// What is added to a sum at once.
 #[derive(Clone, Copy, Debug)]
 pub struct Amount {
     pub charge: Charge,

@@ -6,7 +6,7 @@ ghost use Rattle.dj_calls.specs.Counting.{text_amount};
 
 use dj_names::{Charge, Costs, Thresholds};
 
-// The sums with one charge more.
+/// The sums with one more charge.
 pub fn added(costs: &Costs, charge: Charge, amount: u64) -> Costs
     requires alloc { costs.now.alloc + amount < 2 ^ 64 }
     requires invoke { costs.now.invoke + amount < 2 ^ 64 }
@@ -24,7 +24,7 @@ pub fn added(costs: &Costs, charge: Charge, amount: u64) -> Costs
     sums
 }
 
-// Whether the sum of the charge is above its threshold.
+/// Whether the sum of the charge is above its threshold.
 pub fn passes(most: &Thresholds, costs: &Costs, charge: Charge) -> bool
     ensures { result ≡ model.passes most.now costs.now charge }
 {
@@ -36,7 +36,7 @@ pub fn passes(most: &Thresholds, costs: &Costs, charge: Charge) -> bool
     }
 }
 
-// Rounded up to a multiple of 8.
+/// Rounded up to a multiple of 8.
 pub fn rounded(n: u64) -> u64
     requires { n < 2 ^ 63 }
     ensures exact { result ≡ heaps.rounded n }
@@ -45,7 +45,7 @@ pub fn rounded(n: u64) -> u64
     (n + 7) / 8 * 8
 }
 
-// This many bytes, and none where the number is negative.
+/// This many bytes, and none where the number is negative.
 pub fn allocated(size: i32) -> u64
     ensures exact { result ≡ allocation_amount size }
     ensures few { result < 2 ^ 31 }
@@ -53,7 +53,7 @@ pub fn allocated(size: i32) -> u64
     if size < 0 { 0 } else { size as u64 }
 }
 
-// The bytes of an array of this many elements of this size, and none where one of the numbers is negative.
+/// The bytes of an array of this many elements of this size, and none where one of the numbers is negative.
 pub fn array_bytes(length: i32, element: i32) -> u64
     ensures exact { result ≡ array_amount length element }
     ensures few { result ≤ 2 ^ 63 + 16 }
@@ -65,7 +65,7 @@ pub fn array_bytes(length: i32, element: i32) -> u64
     }
 }
 
-// The bytes of a text of this many units.
+/// The bytes of a text of this many units.
 pub fn text_bytes(units: u64) -> u64
     requires { units < 2 ^ 62 }
     ensures exact { result ≡ text_amount units }

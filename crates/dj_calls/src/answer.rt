@@ -21,7 +21,7 @@ pub enum NativeAnswer {
     Memory,
 }
 
-// What a native method answers, before anything of it is done.
+/// What a native method answers, before anything of it is done.
 #[derive(Debug, Drop)]
 pub enum Answer {
     Returns(Option<Value>),
@@ -42,7 +42,7 @@ pub enum Answer {
     Memory,
 }
 
-// It returns this number, which is small, such as the number of an object.
+/// It returns this number, which is small, such as the number of an object.
 pub fn gives_int(n: u32) -> Answer
     ensures { IfSome (answer_view result) (λ a. a ≡ model.gives_int (pos n)) }
 {
@@ -52,21 +52,21 @@ pub fn gives_int(n: u32) -> Answer
     }
 }
 
-// It returns this reference.
+/// It returns this reference.
 pub fn gives_reference(r: u32) -> Answer
     ensures { answer_view result ≡ Some (model.gives_reference r) }
 {
     Answer::Returns(Some(Value::Ref(r)))
 }
 
-// It returns this truth value.
+/// It returns this truth value.
 pub fn gives_truth(b: bool) -> Answer
     ensures { answer_view result ≡ Some (model.gives_truth b) }
 {
     Answer::Returns(Some(Value::Int(i32::from(b))))
 }
 
-// It returns this value.
+/// It returns this value.
 pub fn given(value: Value) -> Option<Answer>
     ensures { result ≡ Some (answers.Returns (Some value)) }
 {

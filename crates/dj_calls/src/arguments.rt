@@ -16,7 +16,7 @@ pub fn reference(args: &[Value], at: usize) -> u32
     }
 }
 
-// The number at this place, and 0 where there is none.
+/// The number at this place, and 0 where there is none.
 pub fn number(args: &[Value], at: usize) -> i64
     ensures { result ≡ model.number at args.now }
 {
@@ -27,7 +27,7 @@ pub fn number(args: &[Value], at: usize) -> i64
     }
 }
 
-// The int at this place.
+/// The int at this place.
 pub fn int(args: &[Value], at: usize) -> i32
     requires { option_map value_kind (slice_get args.now at) ≡ Some kinds.Int }
     ensures { result ≡ model.number at args.now }
@@ -38,14 +38,14 @@ pub fn int(args: &[Value], at: usize) -> i32
     }
 }
 
-// The boolean at this place, which counts by its lowest bit.
+/// The boolean at this place, which counts by its lowest bit.
 pub fn flag(args: &[Value], at: usize) -> bool
     ensures { result ≡ model.flag at args.now }
 {
     number(args, at).rem_euclid(2) == 1
 }
 
-// The char at this place, which counts by its low 16 bits.
+/// The char at this place, which counts by its low 16 bits.
 pub fn unit(args: &[Value], at: usize) -> u16
     ensures { result ≡ model.unit at args.now }
 {

@@ -19,7 +19,7 @@ use dj_heap::{Heap, Made};
 use dj_names::{Element, Raised, Value};
 use dj_natives::Classes;
 
-// What is copied: this many elements from a place of one array to a place of another.
+/// What is copied: this many elements from a place of one array to a place of another.
 #[derive(Clone, Copy)]
 pub struct Copy {
     pub source: u32,
@@ -29,7 +29,7 @@ pub struct Copy {
     pub count: u32,
 }
 
-// System's arraycopy. Elements are copied as if through a copy of the source.
+/// System's arraycopy. Elements are copied as if through a copy of the source.
 pub fn copy_array<C: Classes>(classes: &C, heap: &mut Heap, args: &[Value]) -> NativeAnswer
     requires known { AreKnown (C.types classes.now) heap.old }
     requires kinds { map value_kind args.now ≡ (native_signature ArrayCopy).parameters }

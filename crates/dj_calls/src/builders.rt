@@ -14,10 +14,10 @@ use crate::makers::{all_units, decimal, made, one_unit, truth};
 use crate::seen::{field, put_text, put_units, text_length};
 use crate::texts::char_at;
 use dj_heap::Heap;
-use dj_names::{NativeId, NoMemory, Raised, Units, Value};
-use std::alloc::Global;
+use dj_names::{NativeId, Raised, Units, Value};
+use std::alloc::{AllocError, Global};
 
-// The answer of a method of StringBuilder: its field is a text, or null for no units.
+/// The answer of a method of StringBuilder: its field is a text, or null for no units.
 #[tactic(auto, using(crate::proofs::Others::no_on_builders), unfolding(dj_model::specs::trusted::Natives::answer))]
 pub fn on_builders(alloc: Global, heap: &Heap, id: NativeId, args: &[Value]) -> Option<Answer>
     ensures { (program : Program) (prefix : Prefix) (types : List Ty) → Says is_on_builders id (seen_of program prefix types heap.now) args.now result }
@@ -66,7 +66,7 @@ fn keeps(r: u32, text: u32) -> Answer
 }
 
 // The units of a text; for null those of `null`.
-fn text_or_null(alloc: Global, heap: &Heap, r: u32) -> Result<Units, NoMemory>
+fn text_or_null(alloc: Global, heap: &Heap, r: u32) -> Result<Units, AllocError>
     ensures { IfOk result (λ units. units ≡ null_or_units heap.now r) }
 {
     let mut units = Units::new(alloc);
@@ -79,7 +79,7 @@ fn text_or_null(alloc: Global, heap: &Heap, r: u32) -> Result<Units, NoMemory>
 }
 
 // The builder's units and these.
-fn appended(alloc: Global, heap: &Heap, r: u32, more: Result<Units, NoMemory>) -> Answer
+fn appended(alloc: Global, heap: &Heap, r: u32, more: Result<Units, AllocError>) -> Answer
     ensures { IsAppended heap.now r more (answer_view result) }
 {
     match more {
@@ -89,7 +89,7 @@ fn appended(alloc: Global, heap: &Heap, r: u32, more: Result<Units, NoMemory>) -
 }
 
 // The text of these units becomes the first field of the object, where there was memory for them.
-fn kept(r: u32, units: Result<Units, NoMemory>) -> Answer
+fn kept(r: u32, units: Result<Units, AllocError>) -> Answer
     ensures { answer_view result ≡ answered_by (model.KeepsText r) units }
 {
     match units {
@@ -99,7 +99,7 @@ fn kept(r: u32, units: Result<Units, NoMemory>) -> Answer
 }
 
 // The units of a text and these.
-fn joined(alloc: Global, heap: &Heap, r: u64, more: &Units) -> Result<Units, NoMemory>
+fn joined(alloc: Global, heap: &Heap, r: u64, more: &Units) -> Result<Units, AllocError>
     ensures { IfOk result (λ units. units ≡ units_at heap.now r ++ more.now) }
 {
     let mut units = all_units(alloc, heap, r)?;

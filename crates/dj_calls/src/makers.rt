@@ -13,10 +13,10 @@ use crate::answer::{Answer, gives_reference};
 use crate::arguments::{flag, number, reference, unit};
 use crate::seen::{array_number, put_between, put_text, put_units, text_length};
 use dj_heap::Heap;
-use dj_names::{NativeId, NoMemory, Raised, Units, Value};
-use std::alloc::Global;
+use dj_names::{NativeId, Raised, Units, Value};
+use std::alloc::{AllocError, Global};
 
-// The answer of a method of String that makes a text or an array of chars.
+/// The answer of a method of String that makes a text or an array of chars.
 #[tactic(auto, using(crate::proofs::Others::no_making_text), unfolding(dj_model::specs::trusted::Natives::answer))]
 pub fn making_text(alloc: Global, heap: &Heap, id: NativeId, args: &[Value]) -> Option<Answer>
     requires fits { IsFitting id heap.now args.now }
@@ -40,8 +40,8 @@ pub fn making_text(alloc: Global, heap: &Heap, id: NativeId, args: &[Value]) -> 
     }
 }
 
-// The text is made, where there was memory for its units.
-pub fn made(units: Result<Units, NoMemory>) -> Answer
+/// The text is made, where there was memory for its units.
+pub fn made(units: Result<Units, AllocError>) -> Answer
     ensures { answer_view result ≡ answered_by model.MakesText units }
 {
     match units {
@@ -51,7 +51,7 @@ pub fn made(units: Result<Units, NoMemory>) -> Answer
 }
 
 // The array is made, where there was memory for its chars.
-fn made_chars(units: Result<Units, NoMemory>) -> Answer
+fn made_chars(units: Result<Units, AllocError>) -> Answer
     ensures { answer_view result ≡ answered_by model.MakesChars units }
 {
     match units {
@@ -60,8 +60,8 @@ fn made_chars(units: Result<Units, NoMemory>) -> Answer
     }
 }
 
-// The units of a text.
-pub fn all_units(alloc: Global, heap: &Heap, r: u64) -> Result<Units, NoMemory>
+/// The units of a text.
+pub fn all_units(alloc: Global, heap: &Heap, r: u64) -> Result<Units, AllocError>
     ensures { IfOk result (λ units. units ≡ units_at heap.now r) }
 {
     let mut units = Units::new(alloc);
@@ -83,7 +83,7 @@ fn concat(alloc: Global, heap: &Heap, r: u32, other: u32) -> Answer
 }
 
 // The units of both.
-fn joined(alloc: Global, heap: &Heap, a: u64, b: u64) -> Result<Units, NoMemory>
+fn joined(alloc: Global, heap: &Heap, a: u64, b: u64) -> Result<Units, AllocError>
     ensures { IfOk result (λ units. units ≡ units_at heap.now a ++ units_at heap.now b) }
 {
     let mut units = Units::new(alloc);
@@ -144,7 +144,13 @@ fn rest(alloc: Global, heap: &Heap, r: u64, from: i64) -> Answer
 }
 
 // The units of a text from one place to another.
-fn units_between(alloc: Global, heap: &Heap, r: u64, from: u32, to: u32) -> Result<Units, NoMemory>
+fn units_between(
+    alloc: Global,
+    heap: &Heap,
+    r: u64,
+    from: u32,
+    to: u32,
+) -> Result<Units, AllocError>
     requires up { from ≤ to }
     requires within { to ≤ length (units_at heap.now r) }
     ensures { IfOk result (λ units. units ≡ slice_range (units_at heap.now r) from to) }
@@ -166,7 +172,7 @@ fn value_of_chars(alloc: Global, heap: &Heap, r: u32) -> Answer
 }
 
 // The elements of an array of chars; none where there is no such array.
-fn chars_of(alloc: Global, heap: &Heap, r: u32) -> Result<Units, NoMemory>
+fn chars_of(alloc: Global, heap: &Heap, r: u32) -> Result<Units, AllocError>
     requires chars { IsOfChars (object_in heap.now r) }
     ensures { IfOk result (λ units. units ≡ model.elements_units (elements_at heap.now r)) }
 {
@@ -178,7 +184,7 @@ fn chars_of(alloc: Global, heap: &Heap, r: u32) -> Result<Units, NoMemory>
 }
 
 // Appends the elements of an array of chars.
-fn put_chars(heap: &Heap, r: u32, units: &mut Units) -> Result<(), NoMemory>
+fn put_chars(heap: &Heap, r: u32, units: &mut Units) -> Result<(), AllocError>
     requires { HoldsChars (object_in heap.now r) }
     ensures { OnOk result (units.new ≡ units.old ++ model.elements_units (elements_at heap.now r)) }
 {
@@ -200,15 +206,15 @@ fn char_in(heap: &Heap, r: u32, at: u32) -> u16
     }
 }
 
-// One unit.
-pub fn one_unit(alloc: Global, unit: u16) -> Result<Units, NoMemory>
+/// One unit.
+pub fn one_unit(alloc: Global, unit: u16) -> Result<Units, AllocError>
     ensures { IfOk result (λ units. units ≡ unit ∷ []) }
 {
     Units::from_slice(alloc, &[unit])
 }
 
-// A number in decimal, with its sign.
-pub fn decimal(alloc: Global, z: i64) -> Result<Units, NoMemory>
+/// A number in decimal, with its sign.
+pub fn decimal(alloc: Global, z: i64) -> Result<Units, AllocError>
     ensures { IfOk result (λ units. units ≡ model.signed_decimal z) }
 {
     let mut units = Units::new(alloc);
@@ -216,8 +222,8 @@ pub fn decimal(alloc: Global, z: i64) -> Result<Units, NoMemory>
     Ok(units)
 }
 
-// The text of a boolean.
-pub fn truth(alloc: Global, b: bool) -> Result<Units, NoMemory>
+/// The text of a boolean.
+pub fn truth(alloc: Global, b: bool) -> Result<Units, AllocError>
     ensures { IfOk result (λ units. units ≡ model.truth_text b) }
 {
     let mut units = Units::new(alloc);

@@ -4,9 +4,9 @@ ghost use Rattle.dj_model.specs.trusted.Natives.{class_name, plain_class};
 ghost use Rattle.dj_natives.specs.Numbered.{type_at};
 ghost use Rattle.dj_calls.specs.Names.{after_brackets, plain_elements, plain_text};
 
-use dj_names::{Name, NoMemory, Units, is_modified_utf8, units_of};
+use dj_names::{Name, Units, is_modified_utf8, units_of};
 use dj_natives::Classes;
-use std::alloc::Global;
+use std::alloc::{AllocError, Global};
 
 // What comes before the names of the library's classes.
 fn prefix_of<C: Classes>(classes: &C) -> &[u8]
@@ -16,8 +16,8 @@ fn prefix_of<C: Classes>(classes: &C) -> &[u8]
     &string[..string.len() - b"java/lang/String".len()]
 }
 
-// The name of a class, or the descriptor of an array, without what comes before the names of the library's classes.
-pub fn plain_name<C: Classes>(alloc: Global, classes: &C, class: u32) -> Result<Name, NoMemory>
+/// The name of a class, or the descriptor of an array, without what comes before the names of the library's classes.
+pub fn plain_name<C: Classes>(alloc: Global, classes: &C, class: u32) -> Result<Name, AllocError>
     requires { class < length (C.types classes.now) }
     ensures { IfOk result (λ name. name ≡ class_name (plain_class (C.prefix classes.now) (type_at (C.types classes.now) class))) }
 {
@@ -26,7 +26,7 @@ pub fn plain_name<C: Classes>(alloc: Global, classes: &C, class: u32) -> Result<
 }
 
 // The same, of a name or a descriptor.
-fn plain_text(alloc: Global, text: &[u8], prefix: &[u8]) -> Result<Name, NoMemory>
+fn plain_text(alloc: Global, text: &[u8], prefix: &[u8]) -> Result<Name, AllocError>
     ensures { IfOk result (λ name. name ≡ plain_text prefix.now text.now) }
 {
     let elements = without_brackets(text);
@@ -39,7 +39,7 @@ fn plain_text(alloc: Global, text: &[u8], prefix: &[u8]) -> Result<Name, NoMemor
 }
 
 // Appends what comes after the brackets of a descriptor.
-fn put_elements(plain: &mut Name, elements: &[u8], prefix: &[u8]) -> Result<(), NoMemory>
+fn put_elements(plain: &mut Name, elements: &[u8], prefix: &[u8]) -> Result<(), AllocError>
     ensures { OnOk result (plain.new ≡ plain.old ++ plain_elements prefix.now elements.now) }
 {
     if elements.len() < 2 {
@@ -63,21 +63,18 @@ fn without_brackets(text: &[u8]) -> &[u8]
     rest
 }
 
-// The units that a name spells, and none where it spells none.
+/// The units that a name spells, and none where it spells none.
 #[tactic(auto, using(crate::proofs::NameUnits::spelled, crate::proofs::NameUnits::unread))]
-pub fn name_units(alloc: Global, name: &[u8]) -> Result<Units, NoMemory>
+pub fn name_units(alloc: Global, name: &[u8]) -> Result<Units, AllocError>
     ensures { IfOk result (λ units. units ≡ model.name_units name.now) }
 {
     if !is_modified_utf8(name) {
         return Ok(Units::new(alloc));
     }
     let Ok(_) = u32::try_from(name.len()) else {
-        return Err(NoMemory::Memory);
+        return Err(AllocError);
     };
-    match units_of(alloc, name) {
-        Ok(units) => Ok(units),
-        Err(_) => Err(NoMemory::Memory),
-    }
+    units_of(alloc, name).map_err(|_| AllocError)
 }
 
 // A name without the prefix, where it begins with it.
@@ -91,8 +88,8 @@ fn without_prefix<'a>(name: &'a [u8], prefix: &[u8]) -> &'a [u8]
     }
 }
 
-// With a dot for each slash.
-pub fn with_dots(alloc: Global, units: &[u16]) -> Result<Units, NoMemory>
+/// With a dot for each slash.
+pub fn with_dots(alloc: Global, units: &[u16]) -> Result<Units, AllocError>
     ensures { IfOk result (λ dotted. dotted ≡ model.with_dots units.now) }
 {
     let mut dotted = Units::new(alloc);

@@ -10,7 +10,7 @@ use crate::answer::{Answer, given};
 use crate::arguments::{int, number};
 use dj_names::{NativeId, Value};
 
-// The answer of a method of Math, which sees nothing of the heap.
+/// The answer of a method of Math, which sees nothing of the heap.
 #[tactic(auto, using(crate::proofs::Others::no_on_numbers), unfolding(dj_model::specs::trusted::Natives::answer))]
 pub fn on_numbers(id: NativeId, args: &[Value]) -> Option<Answer>
     requires { map value_kind args.now ≡ (native_signature id).parameters }

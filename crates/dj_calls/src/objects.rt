@@ -15,11 +15,11 @@ use crate::names::{name_units, plain_name, with_dots};
 use crate::perform::make_text;
 use crate::seen::{object_number, put_text};
 use dj_heap::Heap;
-use dj_names::{NativeId, NoMemory, Units, Value};
+use dj_names::{NativeId, Units, Value};
 use dj_natives::Classes;
-use std::alloc::Global;
+use std::alloc::{AllocError, Global};
 
-// The answer of a method of Object or System; where the host answers the method, only that for null.
+/// The answer of a method of Object or System; where the host answers the method, only that for null.
 #[tactic(auto, using(crate::proofs::Others::no_on_objects), unfolding(dj_model::specs::trusted::Natives::answer))]
 pub fn on_objects<C: Classes>(
     alloc: Global,
@@ -47,7 +47,7 @@ pub fn on_objects<C: Classes>(
     }
 }
 
-// The object is thrown again where it is the one that stops the run.
+/// The object is thrown again where it is the one that stops the run.
 pub fn check_catch<C: Classes>(classes: &C, heap: &Heap, args: &[Value]) -> NativeAnswer
     requires known { AreKnown (C.types classes.now) heap.now }
     ensures { Acts (C.program classes.now) (C.prefix classes.now) (C.types classes.now) heap.now heap.now CheckCatch args.now result }
@@ -116,7 +116,7 @@ fn object_units<C: Classes>(
     heap: &Heap,
     r: u32,
     word: u32,
-) -> Result<Units, NoMemory>
+) -> Result<Units, AllocError>
     requires known { AreKnown (C.types classes.now) heap.now }
     ensures { IfOk result (λ units. units ≡ object_text (shown_at (C.prefix classes.now) (C.types classes.now) heap.now r) word) }
 {
@@ -127,7 +127,7 @@ fn object_units<C: Classes>(
 }
 
 // The name of the object's class with dots, without what comes before the names of the library's classes; none where there is no object.
-fn shown<C: Classes>(alloc: Global, classes: &C, heap: &Heap, r: u32) -> Result<Units, NoMemory>
+fn shown<C: Classes>(alloc: Global, classes: &C, heap: &Heap, r: u32) -> Result<Units, AllocError>
     requires known { AreKnown (C.types classes.now) heap.now }
     ensures { IfOk result (λ units. units ≡ shown_at (C.prefix classes.now) (C.types classes.now) heap.now r) }
 {

@@ -11,7 +11,7 @@ use dj_heap::{Heap, HeapError};
 use dj_names::{Element, Units, Value};
 use dj_natives::Classes;
 
-// Does what an answer says, once its charge is paid.
+/// Does what an answer says, once its charge is paid.
 pub fn perform<C: Classes>(classes: &C, heap: &mut Heap, answer: Answer) -> NativeAnswer
     requires { AreKnown (C.types classes.now) heap.old }
     ensures { Finished (C.prefix classes.now) (C.types classes.now) heap.old heap.new (answer_view answer) result }
@@ -51,7 +51,7 @@ fn refused(error: HeapError) -> NativeAnswer
     }
 }
 
-// Makes a text.
+/// Makes a text.
 pub fn make_text<C: Classes>(classes: &C, heap: &mut Heap, units: &Units) -> NativeAnswer
     requires { AreKnown (C.types classes.now) heap.old }
     ensures { Done (C.prefix classes.now) (C.types classes.now) heap.old heap.new (model.MakesText units.now) result }

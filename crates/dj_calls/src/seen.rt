@@ -2,9 +2,10 @@ ghost use Rattle.std.specs.Prelude.{◌≡◌, ◌≤◌, ◌<◌, Some, OnOk, �
 ghost use Rattle.dj_calls.specs.Seen.{units_at, is_text_at, field_at, HasField, IsArrayThere, IsTextThere, IsThere};
 
 use dj_heap::{Heap, Made};
-use dj_names::{NoMemory, Units};
+use dj_names::Units;
+use std::alloc::AllocError;
 
-// The object of this number, where there is one.
+/// The object of this number, where there is one.
 pub fn object_number(heap: &Heap, r: u64) -> Option<u32>
     ensures { IsThere heap.now r result }
 {
@@ -15,7 +16,7 @@ pub fn object_number(heap: &Heap, r: u64) -> Option<u32>
     }
 }
 
-// The text of this number, where the object is one.
+/// The text of this number, where the object is one.
 pub fn text_number(heap: &Heap, r: u64) -> Option<u32>
     ensures { IsTextThere heap.now r result }
 {
@@ -26,7 +27,7 @@ pub fn text_number(heap: &Heap, r: u64) -> Option<u32>
     }
 }
 
-// Whether the object is a text.
+/// Whether the object is a text.
 pub fn is_text(heap: &Heap, r: u64) -> bool
     ensures { result ≡ is_text_at heap.now r }
 {
@@ -36,7 +37,7 @@ pub fn is_text(heap: &Heap, r: u64) -> bool
     }
 }
 
-// How many units a text has; 0 for anything else.
+/// How many units a text has; 0 for anything else.
 pub fn text_length(heap: &Heap, r: u64) -> u32
     ensures { result ≡ length (units_at heap.now r) }
 {
@@ -46,7 +47,7 @@ pub fn text_length(heap: &Heap, r: u64) -> u32
     }
 }
 
-// The unit of a text at this place.
+/// The unit of a text at this place.
 pub fn unit_of(heap: &Heap, r: u64, at: u32) -> u16
     requires { at < length (units_at heap.now r) }
     ensures { slice_get (units_at heap.now r) at ≡ Some result }
@@ -57,7 +58,7 @@ pub fn unit_of(heap: &Heap, r: u64, at: u32) -> u16
     }
 }
 
-// The instance of this number, where it has this field.
+/// The instance of this number, where it has this field.
 pub fn instance_with(heap: &Heap, r: u32, at: u32) -> Option<u32>
     ensures { HasField heap.now r at result }
 {
@@ -68,7 +69,7 @@ pub fn instance_with(heap: &Heap, r: u32, at: u32) -> Option<u32>
     }
 }
 
-// The 64 bits of a field; 0 where there is none.
+/// The 64 bits of a field; 0 where there is none.
 pub fn field(heap: &Heap, r: u32, at: u32) -> u64
     ensures { result ≡ field_at heap.now r at }
 {
@@ -78,7 +79,7 @@ pub fn field(heap: &Heap, r: u32, at: u32) -> u64
     }
 }
 
-// Appends the units of a text from one place to another.
+/// Appends the units of a text from one place to another.
 #[tactic(auto, using(crate::proofs::Units::range_more))]
 pub fn put_between(
     heap: &Heap,
@@ -86,7 +87,7 @@ pub fn put_between(
     from: u32,
     to: u32,
     units: &mut Units,
-) -> Result<(), NoMemory>
+) -> Result<(), AllocError>
     requires up { from ≤ to }
     requires within { to ≤ length (units_at heap.now r) }
     ensures { OnOk result (units.new ≡ units.old ++ slice_range (units_at heap.now r) from to) }
@@ -97,16 +98,16 @@ pub fn put_between(
     Ok(())
 }
 
-// Appends the units of a text.
+/// Appends the units of a text.
 #[tactic(auto, using(crate::proofs::Units::range_all))]
-pub fn put_units(heap: &Heap, r: u64, units: &mut Units) -> Result<(), NoMemory>
+pub fn put_units(heap: &Heap, r: u64, units: &mut Units) -> Result<(), AllocError>
     ensures { OnOk result (units.new ≡ units.old ++ units_at heap.now r) }
 {
     put_between(heap, r, 0, text_length(heap, r), units)
 }
 
-// Appends the bytes of an ASCII text, as units.
-pub fn put_text(units: &mut Units, text: &[u8]) -> Result<(), NoMemory>
+/// Appends the bytes of an ASCII text, as units.
+pub fn put_text(units: &mut Units, text: &[u8]) -> Result<(), AllocError>
     ensures { OnOk result (units.new ≡ units.old ++ text.now) }
 {
     for &byte in text {
@@ -115,7 +116,7 @@ pub fn put_text(units: &mut Units, text: &[u8]) -> Result<(), NoMemory>
     Ok(())
 }
 
-// The array of this number, where the object is one.
+/// The array of this number, where the object is one.
 pub fn array_number(heap: &Heap, r: u32) -> Option<u32>
     ensures { IsArrayThere heap.now r result }
 {

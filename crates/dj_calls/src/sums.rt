@@ -13,7 +13,7 @@ use crate::answer::Answer;
 use crate::arguments::int;
 use dj_names::{Charge, NativeId, Units, Value};
 
-// The answer of a method of the accounter that adds to a sum.
+/// The answer of a method of the accounter that adds to a sum.
 #[tactic(auto, using(crate::proofs::Others::no_adding), unfolding(dj_model::specs::trusted::Natives::answer))]
 pub fn on_sums(id: NativeId, args: &[Value]) -> Option<Answer>
     requires { map value_kind args.now ≡ (native_signature id).parameters }
@@ -37,7 +37,7 @@ fn adds(charge: Charge, amount: u64) -> Option<Answer>
     Some(Answer::Adds(Amount { charge, amount }))
 }
 
-// What is charged before anything of an answer is done.
+/// What is charged before anything of an answer is done.
 pub fn due(answer: &Option<Answer>) -> Option<Amount>
     ensures { IsDue answer.now (due_view result) }
 {
@@ -60,7 +60,7 @@ fn units_due(units: &Units) -> Option<Amount>
     })
 }
 
-// Adds what is due.
+/// Adds what is due.
 pub fn add_due(accounter: &mut Accounter, due: Option<Amount>) -> Charged
     ensures { Counts (due_view due) (Some accounter.old) (Some accounter.new) result }
 {

@@ -16,7 +16,7 @@ use crate::seen::{is_text, text_length, unit_of};
 use dj_heap::Heap;
 use dj_names::{NativeId, Raised, Value};
 
-// The answer of a method of String that makes no object.
+/// The answer of a method of String that makes no object.
 #[tactic(auto, using(crate::proofs::Others::no_on_texts), unfolding(dj_model::specs::trusted::Natives::answer))]
 pub fn on_texts(heap: &Heap, id: NativeId, args: &[Value]) -> Option<Answer>
     ensures { (program : Program) (prefix : Prefix) (types : List Ty) → Says is_on_texts id (seen_of program prefix types heap.now) args.now result }
@@ -38,7 +38,7 @@ pub fn on_texts(heap: &Heap, id: NativeId, args: &[Value]) -> Option<Answer>
     }
 }
 
-// The unit at this place; outside the text there is none.
+/// The unit at this place; outside the text there is none.
 pub fn char_at(heap: &Heap, r: u64, at: i64) -> Answer
     ensures { answer_view result ≡ Some (model.unit_at (units_at heap.now r) at) }
 {

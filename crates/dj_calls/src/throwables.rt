@@ -13,7 +13,7 @@ use crate::seen::field;
 use dj_heap::Heap;
 use dj_names::{NativeId, Value};
 
-// The answer of a method of Throwable: its fields are the message and the cause.
+/// The answer of a method of Throwable: its fields are the message and the cause.
 #[tactic(auto, using(crate::proofs::Others::no_on_throwables), unfolding(dj_model::specs::trusted::Natives::answer))]
 pub fn on_throwables(heap: &Heap, id: NativeId, args: &[Value]) -> Option<Answer>
     ensures { (program : Program) (prefix : Prefix) (types : List Ty) → Says is_on_throwables id (seen_of program prefix types heap.now) args.now result }

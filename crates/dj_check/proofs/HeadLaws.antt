@@ -13,7 +13,7 @@ use Rattle.dj_report.proofs.Adding.{adds_same, adds_nothing, adds_one_more, once
 use Rattle.dj_check.specs.declared.judged.JudgedText.{JudgedText}
 use Rattle.dj_check.specs.Judged.{AreTexts, first_in}
 use Rattle.dj_check.specs.trusted.Heads.{names_in}
-use Rattle.dj_check.specs.Gathered.{texts_of, IsOfOne, IsClassText, AreClassTexts, IsOwnText, AreTextsAt}
+use Rattle.dj_check.specs.Gathered.{texts_of, IsOfOne, IsClassText, AreClassTexts, HasText, AreTextsAt}
 use Rattle.dj_check.proofs.FileLaws.{first_text}
 
 -- ---- one more
@@ -48,15 +48,15 @@ same_some : (a b : List ℕ) → Some a ≡ Some b → a ≡ b
 same_some a b e = cc
 
 -- the text of an index
-pub text_pushed : (pool : List Constant) (index : ℕ) (text : Bor (List ℕ)) (a b : List (Bor (List ℕ))) → text_at pool index ≡ Some text.now → b ≡ a ++ text ∷ [] → Gains (IsOwnText pool index) (texts_of a) (texts_of b)
+pub text_pushed : (pool : List Constant) (index : ℕ) (text : Bor (List ℕ)) (a b : List (Bor (List ℕ))) → text_at pool index ≡ Some text.now → b ≡ a ++ text ∷ [] → Gains (HasText pool index) (texts_of a) (texts_of b)
 text_pushed pool index text a b at push =
-    adds_same (λ (t : List ℕ). t ≡ text.now) (IsOwnText pool index) (texts_of a) (texts_of b) (λ t. (
+    adds_same (λ (t : List ℕ). t ≡ text.now) (HasText pool index) (texts_of a) (texts_of b) (λ t. (
       λ e. at ∙ ap Some (sym e),
       λ is. same_some t text.now (sym is ∙ at),
     )) (pushed text.now (texts_of a) (texts_of b) (ap (map (λ (name : Bor (List ℕ)). name.now)) push ∙ map_push (λ (name : Bor (List ℕ)). name.now) a text))
 
-pub no_text : (pool : List Constant) (index : ℕ) (a : List (List ℕ)) → text_at pool index ≡ None → Gains (IsOwnText pool index) a a
-no_text pool index a none = adds_nothing (IsOwnText pool index) a (λ t is. let e : None ≡ Some t = sym none ∙ is in absurd cc)
+pub no_text : (pool : List Constant) (index : ℕ) (a : List (List ℕ)) → text_at pool index ≡ None → Gains (HasText pool index) a a
+no_text pool index a none = adds_nothing (HasText pool index) a (λ t is. let e : None ≡ Some t = sym none ∙ is in absurd cc)
 
 -- ---- all
 

@@ -43,7 +43,7 @@ pub record IsNamedAmong (names : List (List ℕ)) (file : NamedFile) : Type 0 wh
 abbrev pub IsLineAmongNames : List (List ℕ) → NamedFile → Violation → Type 0
 IsLineAmongNames names file v = IsNamedAmong names file × (v ≡ file_line file.path.now 5)
 
--- rule 5, of a file whose name two of the files have
+-- rule 5, for a file whose class has the name of another file's
 abbrev pub IsRepeatedLine : List NamedFile → NamedFile → Violation → Type 0
 IsRepeatedLine files file v = ((text : List ℕ) × IsText file.name text × IsRepeated files text) × (v ≡ file_line file.path.now 5)
 

@@ -29,12 +29,12 @@ abbrev pub AreClassTexts : List Constant → List JudgedText → List ℕ → Li
 AreClassTexts pool texts indexes firsts = (first : ℕ) → Contains firsts first ↔ IsOfOne (IsClassText pool texts) indexes first
 
 -- this is the text of the index
-abbrev pub IsOwnText : List Constant → ℕ → List ℕ → Type 0
-IsOwnText pool index text = text_at pool index ≡ Some text
+abbrev pub HasText : List Constant → ℕ → List ℕ → Type 0
+HasText pool index text = text_at pool index ≡ Some text
 
 -- these are the texts of the indexes
 abbrev pub AreTextsAt : List Constant → List ℕ → List (List ℕ) → Type 0
-AreTextsAt pool indexes names = (text : List ℕ) → Contains names text ↔ IsOfOne (IsOwnText pool) indexes text
+AreTextsAt pool indexes names = (text : List ℕ) → Contains names text ↔ IsOfOne (HasText pool) indexes text
 
 -- ---- members
 

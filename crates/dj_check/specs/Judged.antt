@@ -100,7 +100,7 @@ pub record IsReportedText (old new : Indexes) (key : List ℕ) (index : ℕ) (ma
   pub reflective : IsTrue text.reflective ↔ IsReflectiveText key
   pub notes : Notes old new key index marked text.first
 
--- the first index of the text of an index is the one that is noted of it, where the index is marked
+-- where the index is marked, the first index of its text is the one that is noted for the text
 abbrev pub IsNumberedBy : Indexes → List Constant → ℕ → Bool → JudgedText → Type 0
 IsNumberedBy indexes pool index marked text = (key : List ℕ) → IsTrue marked → text_at pool index ≡ Some key → noted_at indexes key ≡ Some text.first
 

@@ -16,7 +16,7 @@ use Rattle.dj_check.specs.Doubles.{IsBelow}
 
 -- ---- heads and their files
 
--- the file at the place is marked or repeats a member, and the line is its
+-- the file at the place is marked or repeats a member, and the line is that of the file
 pub record IsMarkedAt (owners : List Owner) (marks : List Bool) (v : Violation) (place : ℕ) : Type 0 where
   pub owner : Owner
   pub own : slice_get owners place ≡ Some owner

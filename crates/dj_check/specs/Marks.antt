@@ -64,7 +64,7 @@ pub record CodeViolatesAt (pool : List Constant) (labelled : Labelled) (number :
 abbrev pub CodeMark : ℕ × ℕ → List Constant → Labelled → Mark → Type 0
 CodeMark names pool labelled = MarksOf names (CodeViolatesAt pool labelled)
 
--- rule 12 where it is so, and rule 16 where it is so, of a member as a whole
+-- rule 12 where `float` is true and rule 16 where `interface_code` is, for a member as a whole
 abbrev pub RuledWhole : Bool → Bool → Option ℕ → ℕ → Type 0
 RuledWhole float interface_code number rule =
     (number ≡ None) × ((IsTrue float × (rule ≡ 12)) ⊎ (IsTrue interface_code × (rule ≡ 16)))

@@ -112,7 +112,7 @@ pub record IsOneBody (pool : List Constant) (bodies : List (List ℕ)) (code : W
   pub one : bodies ≡ body ∷ []
   pub whole : IsWholeBody pool body code
 
--- or it hasn't one, or has one that is faulty
+-- the method doesn't have exactly one body, or has one that is faulty
 abbrev pub HasBadBodies : List Constant → List (List ℕ) → Type 0
 HasBadBodies pool bodies = (length bodies ≢ 1) ⊎ ((body : List ℕ) × (bodies ≡ body ∷ []) × IsFaultyBody pool body)
 

@@ -4,8 +4,7 @@ ghost use Rattle.dj_check.specs.trusted.Attributes.{is_named, bodies_of};
 
 use dj_class::Attribute;
 use dj_pool::Pool;
-use dj_rules::RulesError;
-use std::alloc::Global;
+use std::alloc::{AllocError, Global};
 
 // Whether the attribute has this name.
 fn is_named(pool: &Pool<'_>, name: &[u8], attribute: &Attribute<'_>) -> bool
@@ -23,7 +22,7 @@ pub fn bodies_named<'a>(
     pool: &Pool<'_>,
     name: &[u8],
     attributes: &[Attribute<'a>],
-) -> Result<Vec<&'a [u8]>, RulesError>
+) -> Result<Vec<&'a [u8]>, AllocError>
     ensures { IfOk result (λ bodies. map (λ body. body.now) bodies.items
         ≡ bodies_of pool.now name.now (map attribute_of attributes.now)) }
 {

@@ -15,8 +15,7 @@ use crate::lines::add_file_line_if;
 use dj_class::ClassView;
 use dj_pool::{Entry, Pool};
 use dj_report::Violation;
-use dj_rules::RulesError;
-use std::alloc::Global;
+use std::alloc::{AllocError, Global};
 
 // The numbers of the rules SANDBOX_PACKAGE and FLOAT.
 const SANDBOX_PACKAGE: u8 = 4;
@@ -63,7 +62,7 @@ fn is_float_constant(pool: &Pool<'_>, texts: &[JudgedText], entry: Entry<'_>) ->
     }
 }
 
-// Whether one of the constants has.
+// Whether one of the constants has a float or a double.
 fn has_float_constant(view: &ClassView<'_>, texts: &[JudgedText]) -> bool
     requires { AreTexts view.now.pool texts.now }
     ensures { IsTrue result ↔ HasFloatConstant (class_of view.now) }
@@ -84,7 +83,7 @@ pub fn add_naming_lines(
     path: &str,
     view: &ClassView<'_>,
     texts: &[JudgedText],
-) -> Result<(), RulesError>
+) -> Result<(), AllocError>
     requires { AreTexts view.now.pool texts.now }
     ensures { OnOk result (Adds (IsNamingLine path.now (class_of view.now)) found.old.items found.new.items) }
 {

@@ -13,8 +13,8 @@ use dj_class::{CodeView, MemberView, read_code};
 use dj_labels::{CodeError, Labelled, Labelling, label_with_starts};
 use dj_ops::{CatchRow, Frames};
 use dj_pool::Pool;
-use dj_rules::{RulesError, is_memory};
-use std::alloc::Global;
+use dj_rules::is_memory;
+use std::alloc::{AllocError, Global};
 
 /// Code without a fault: its room, its bytes, its labelled form, and its stack map.
 #[derive(Debug, Drop)]
@@ -57,7 +57,7 @@ fn labelling_of(
     alloc: Global,
     code: &[u8],
     table: &[CatchRow],
-) -> Result<Option<Labelling>, RulesError>
+) -> Result<Option<Labelling>, AllocError>
     requires { length code.now < 2 ^ 16 }
     ensures { IfOk result (IsLabelling code.now table.now) }
 {
@@ -65,7 +65,7 @@ fn labelling_of(
         Ok(labelling) => Ok(Some(labelling)),
         Err(error) => {
             if lacks_memory(&error) {
-                Err(RulesError::Memory)
+                Err(AllocError)
             } else {
                 Ok(None)
             }
@@ -79,7 +79,7 @@ fn code_with_labels<'a>(
     view: &CodeView<'a>,
     map: Option<&'a [u8]>,
     labelling: Labelling,
-) -> Result<WholeCode<'a>, RulesError>
+) -> Result<WholeCode<'a>, AllocError>
     requires labels { IsLabellingOf view.now.code.now view.now.table labelling }
     requires short { AllByRecursion (λ body. length body < 2 ^ 32) (bodies_in map) }
     ensures { IfOk result (IsMappedCode (code_of view.now) (bodies_in map.entry)) }
@@ -100,15 +100,14 @@ fn code_with_map<'a>(
     alloc: Global,
     view: &CodeView<'a>,
     map: Option<&'a [u8]>,
-) -> Result<Option<WholeCode<'a>>, RulesError>
+) -> Result<Option<WholeCode<'a>>, AllocError>
     requires few { length view.now.code.now < 2 ^ 16 }
     requires short { AllByRecursion (λ body. length body < 2 ^ 32) (bodies_in map) }
     ensures { IfOk result (IsMappedView (code_of view.now) (bodies_in map.entry)) }
 {
-    match labelling_of(alloc, view.code, view.table.as_slice()) {
-        Ok(Some(labelling)) => Ok(Some(code_with_labels(alloc, view, map, labelling)?)),
-        Ok(None) => Ok(None),
-        Err(error) => Err(error),
+    match labelling_of(alloc, view.code, view.table.as_slice())? {
+        Some(labelling) => Ok(Some(code_with_labels(alloc, view, map, labelling)?)),
+        None => Ok(None),
     }
 }
 
@@ -117,7 +116,7 @@ fn whole_code<'a>(
     alloc: Global,
     pool: &Pool<'_>,
     view: &CodeView<'a>,
-) -> Result<Option<WholeCode<'a>>, RulesError>
+) -> Result<Option<WholeCode<'a>>, AllocError>
     requires few { length view.now.code.now < 2 ^ 16 }
     requires short { AllByRecursion IsCodeAttribute (code_of view.now).attributes }
     ensures { IfOk result (IsCodeView pool.now (code_of view.now)) }
@@ -135,7 +134,7 @@ fn code_of_body<'a>(
     alloc: Global,
     pool: &Pool<'_>,
     body: &'a [u8],
-) -> Result<Option<WholeCode<'a>>, RulesError>
+) -> Result<Option<WholeCode<'a>>, AllocError>
     requires { length body.now < 2 ^ 32 }
     ensures { IfOk result (IsBodyView pool.now body.now) }
 {
@@ -143,7 +142,7 @@ fn code_of_body<'a>(
         Ok(view) => whole_code(alloc, pool, &view),
         Err(error) => {
             if is_memory(error) {
-                Err(RulesError::Memory)
+                Err(AllocError)
             } else {
                 Ok(None)
             }
@@ -167,7 +166,7 @@ fn own_code<'a>(
     alloc: Global,
     pool: &Pool<'_>,
     bodies: &[&'a [u8]],
-) -> Result<MethodBody<'a>, RulesError>
+) -> Result<MethodBody<'a>, AllocError>
     requires { All (λ body. length body.now < 2 ^ 32) bodies.now }
     ensures { IfOk result (IsOwnView pool.now (map (λ body. body.now) bodies.now)) }
 {
@@ -185,7 +184,7 @@ pub fn code_of_method<'a>(
     alloc: Global,
     pool: &Pool<'_>,
     method: &MemberView<'a>,
-) -> Result<MethodBody<'a>, RulesError>
+) -> Result<MethodBody<'a>, AllocError>
     requires { AllByRecursion (IsAttribute pool.now) (member_of method.now).attributes }
     ensures { IfOk result (IsMethodView pool.now (member_of method.now)) }
 {

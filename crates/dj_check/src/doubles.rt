@@ -4,8 +4,7 @@ ghost use Rattle.dj_check.specs.Doubles.{texts_in, IsText, IsRepeated, IsNamedAm
 
 use crate::lines::add_file_line_if;
 use dj_report::Violation;
-use dj_rules::RulesError;
-use std::alloc::Global;
+use std::alloc::{AllocError, Global};
 use std::collections::BTreeSet;
 
 // The number of the rule DUPLICATE.
@@ -25,7 +24,7 @@ fn note_name<'a>(
     seen: &mut BTreeSet<&'a [u8]>,
     twice: &mut BTreeSet<&'a [u8]>,
     file: &NamedFile<'a>,
-) -> Result<(), RulesError>
+) -> Result<(), AllocError>
     ensures seen { OnOk result (Gains (IsText file.now.name) (texts_in seen.old) (texts_in seen.new)) }
     ensures twice { OnOk result (Gains (λ t. IsText file.now.name t × Contains (texts_in seen.old) t) (texts_in twice.old) (texts_in twice.new)) }
 {
@@ -43,7 +42,7 @@ fn note_name<'a>(
 fn repeated_names<'a>(
     alloc: Global,
     files: &[NamedFile<'a>],
-) -> Result<BTreeSet<&'a [u8]>, RulesError>
+) -> Result<BTreeSet<&'a [u8]>, AllocError>
     ensures { IfOk result (λ names. (t : List ℕ) → Contains (texts_in names) t ↔ IsRepeated files.now t) }
 {
     let mut seen = BTreeSet::new(alloc);
@@ -70,7 +69,7 @@ fn add_lines_among(
     found: &mut Vec<Violation>,
     names: &BTreeSet<&[u8]>,
     files: &[NamedFile<'_>],
-) -> Result<(), RulesError>
+) -> Result<(), AllocError>
     ensures { OnOk result (Adds (IsLineAmong (IsLineAmongNames (texts_in names.now)) files.now) found.old.items found.new.items) }
 {
     for file in files {
@@ -85,7 +84,7 @@ pub fn add_duplicate_lines(
     alloc: Global,
     found: &mut Vec<Violation>,
     files: &[NamedFile<'_>],
-) -> Result<(), RulesError>
+) -> Result<(), AllocError>
     ensures { OnOk result (Adds (IsLineAmong (IsRepeatedLine files.now) files.now) found.old.items found.new.items) }
 {
     let names = repeated_names(alloc, files)?;

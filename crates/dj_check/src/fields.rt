@@ -7,8 +7,7 @@ ghost use Rattle.dj_check.specs.trusted.Malformed.{IsIntText, FitsField, NamesVa
 use crate::bodies::bodies_named;
 use dj_class::{ClassView, MemberView};
 use dj_pool::{Entry, Pool};
-use dj_rules::RulesError;
-use std::alloc::Global;
+use std::alloc::{AllocError, Global};
 
 // Whether the text is the descriptor of a type whose values are ints.
 fn is_int_text(text: &[u8]) -> bool
@@ -60,7 +59,7 @@ fn is_faulty_field(
     alloc: Global,
     pool: &Pool<'_>,
     field: &MemberView<'_>,
-) -> Result<bool, RulesError>
+) -> Result<bool, AllocError>
     ensures { IfOk result (λ faulty. IsTrue faulty ↔ IsFaultyField pool.now (member_of field.now)) }
 {
     let bodies = bodies_named(alloc, pool, b"ConstantValue", field.attributes.as_slice())?;
@@ -72,7 +71,7 @@ fn is_faulty_field(
 }
 
 /// Whether one of the fields of the class file is faulty.
-pub fn has_faulty_field(alloc: Global, view: &ClassView<'_>) -> Result<bool, RulesError>
+pub fn has_faulty_field(alloc: Global, view: &ClassView<'_>) -> Result<bool, AllocError>
     ensures { IfOk result (λ faulty. IsTrue faulty ↔ HasFaultyField (class_of view.now)) }
 {
     for field in view.fields.as_slice() {

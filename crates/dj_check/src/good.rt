@@ -9,8 +9,7 @@ use crate::judged::JudgedText;
 use crate::repeats::has_repeats;
 use dj_class::ClassView;
 use dj_hierarchy::ClassHead;
-use dj_rules::RulesError;
-use std::alloc::Global;
+use std::alloc::{AllocError, Global};
 
 /// What is kept of a class file that doesn't violate rule 1.
 #[derive(Drop)]
@@ -26,7 +25,7 @@ pub fn good_file<'a>(
     alloc: Global,
     view: &ClassView<'a>,
     texts: &[JudgedText],
-) -> Result<GoodFile<'a>, RulesError>
+) -> Result<GoodFile<'a>, AllocError>
     requires texts { AreTexts view.now.pool texts.now }
     requires numbered { AreNumbered (class_of view.now) texts.now }
     requires valid { IsValid (class_of view.now) }

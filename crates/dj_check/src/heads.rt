@@ -4,15 +4,14 @@ ghost use Rattle.dj_class.specs.Views.{class_of};
 ghost use Rattle.dj_report.specs.Lines.{Gains};
 ghost use Rattle.dj_check.specs.Judged.{AreTexts};
 ghost use Rattle.dj_check.specs.trusted.Heads.{interface_names};
-ghost use Rattle.dj_check.specs.Gathered.{texts_of, IsClassText, IsOwnText, AreClassTexts, AreTextsAt, IsHeadOf};
+ghost use Rattle.dj_check.specs.Gathered.{texts_of, IsClassText, HasText, AreClassTexts, AreTextsAt, IsHeadOf};
 
 use crate::classes::class_name;
 use crate::judged::{JudgedText, text_in};
 use dj_class::ClassView;
 use dj_hierarchy::ClassHead;
 use dj_pool::{Entry, Pool};
-use dj_rules::RulesError;
-use std::alloc::Global;
+use std::alloc::{AllocError, Global};
 
 // The index of the text of the class at an index.
 fn class_text(pool: &Pool<'_>, index: u16) -> Option<u16>
@@ -30,7 +29,7 @@ fn add_class_text(
     pool: &Pool<'_>,
     texts: &[JudgedText],
     index: u16,
-) -> Result<(), RulesError>
+) -> Result<(), AllocError>
     requires { AreTexts pool.now texts.now }
     ensures { OnOk result (Gains (IsClassText pool.now texts.now index) firsts.old.items firsts.new.items) }
 {
@@ -55,7 +54,7 @@ fn class_texts(
     pool: &Pool<'_>,
     texts: &[JudgedText],
     indexes: &[u16],
-) -> Result<Vec<u16>, RulesError>
+) -> Result<Vec<u16>, AllocError>
     requires { AreTexts pool.now texts.now }
     ensures { IfOk result (λ firsts. AreClassTexts pool.now texts.now indexes.now firsts.items) }
 {
@@ -67,8 +66,8 @@ fn class_texts(
 }
 
 // Appends the text at an index.
-fn add_text<'a>(names: &mut Vec<&'a [u8]>, pool: &Pool<'a>, index: u16) -> Result<(), RulesError>
-    ensures { OnOk result (Gains (IsOwnText pool.now index) (texts_of names.old.items) (texts_of names.new.items)) }
+fn add_text<'a>(names: &mut Vec<&'a [u8]>, pool: &Pool<'a>, index: u16) -> Result<(), AllocError>
+    ensures { OnOk result (Gains (HasText pool.now index) (texts_of names.old.items) (texts_of names.new.items)) }
 {
     if let Some(text) = pool.text(index) {
         names.push(text)?;
@@ -81,7 +80,7 @@ fn texts_at<'a>(
     alloc: Global,
     pool: &Pool<'a>,
     indexes: &[u16],
-) -> Result<Vec<&'a [u8]>, RulesError>
+) -> Result<Vec<&'a [u8]>, AllocError>
     ensures { IfOk result (λ names. AreTextsAt pool.now indexes.now (texts_of names.items)) }
 {
     let mut names = Vec::new(alloc);
@@ -96,7 +95,7 @@ fn interface_names<'a>(
     alloc: Global,
     view: &ClassView<'a>,
     texts: &[JudgedText],
-) -> Result<Vec<&'a [u8]>, RulesError>
+) -> Result<Vec<&'a [u8]>, AllocError>
     requires { AreTexts view.now.pool texts.now }
     ensures { IfOk result (λ names. (name : List ℕ) → Contains (texts_of names.items) name ↔ Contains (interface_names (class_of view.now)) name) }
 {
@@ -110,7 +109,7 @@ pub fn class_head<'a>(
     alloc: Global,
     view: &ClassView<'a>,
     texts: &[JudgedText],
-) -> Result<ClassHead<'a>, RulesError>
+) -> Result<ClassHead<'a>, AllocError>
     requires { AreTexts view.now.pool texts.now }
     ensures { IfOk result (IsHeadOf (class_of view.now)) }
 {

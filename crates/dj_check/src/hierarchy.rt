@@ -6,10 +6,9 @@ ghost use Rattle.dj_hierarchy.specs.Judged.{AreJudged};
 ghost use Rattle.dj_check.specs.Kept.{IsMarkedLine, IsOwnersLine};
 
 use crate::lines::add_file_line_if;
-use dj_hierarchy::{ClassHead, HierarchyError, judge_heads};
+use dj_hierarchy::{ClassHead, judge_heads};
 use dj_report::Violation;
-use dj_rules::RulesError;
-use std::alloc::Global;
+use std::alloc::{AllocError, Global};
 
 // The number of the rule HIERARCHY.
 const HIERARCHY: u8 = 6;
@@ -27,16 +26,13 @@ pub struct Owner<'a> {
 }
 
 // Whether each head violates the rule; the members of its class are judged elsewhere.
-fn judge_all_heads(alloc: Global, heads: &[ClassHead<'_>]) -> Result<Vec<bool>, RulesError>
+fn judge_all_heads(alloc: Global, heads: &[ClassHead<'_>]) -> Result<Vec<bool>, AllocError>
     ensures { IfOk result (λ marks. AreJudged (map head_view heads.now) marks.items) }
 {
     if heads.len() >= TOO_MANY {
-        return Err(RulesError::Memory);
+        return Err(AllocError);
     }
-    match judge_heads(alloc, heads) {
-        Ok(marks) => Ok(marks),
-        Err(HierarchyError::Memory) => Err(RulesError::Memory),
-    }
+    judge_heads(alloc, heads).map_err(|_| AllocError)
 }
 
 // Whether the file is marked, or repeats a member.
@@ -52,7 +48,7 @@ fn add_marked_line(
     found: &mut Vec<Violation>,
     owner: &Owner<'_>,
     mark: bool,
-) -> Result<(), RulesError>
+) -> Result<(), AllocError>
     ensures { OnOk result (Adds (λ v. (IsTrue mark ⊎ IsTrue owner.now.repeats) × (v ≡ file_line owner.now.path.now 6)) found.old.items found.new.items) }
 {
     let violated = is_marked(mark, owner);
@@ -79,7 +75,7 @@ fn add_marked_lines(
     found: &mut Vec<Violation>,
     owners: &[Owner<'_>],
     marks: &[bool],
-) -> Result<(), RulesError>
+) -> Result<(), AllocError>
     requires { length marks.now ≡ length owners.now }
     ensures { OnOk result (Adds (IsMarkedLine (length owners.now) owners.now marks.now) found.old.items found.new.items) }
 {
@@ -97,7 +93,7 @@ pub fn add_hierarchy_lines(
     found: &mut Vec<Violation>,
     heads: &[ClassHead<'_>],
     owners: &[Owner<'_>],
-) -> Result<(), RulesError>
+) -> Result<(), AllocError>
     requires { length owners.now ≡ length heads.now }
     ensures { OnOk result (Adds (IsOwnersLine (map head_view heads.now) owners.now) found.old.items found.new.items) }
 {

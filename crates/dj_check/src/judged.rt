@@ -12,8 +12,7 @@ use crate::prints::are_distinct;
 use dj_class::{ClassView, MemberView};
 use dj_names::{Base, Desc, DescError, Of, Ty, is_class_name, read_desc};
 use dj_pool::{Entry, Pool};
-use dj_rules::RulesError;
-use std::alloc::Global;
+use std::alloc::{AllocError, Global};
 use std::collections::BTreeMap;
 
 /// What the rules need to know of the text at an index.
@@ -94,7 +93,7 @@ fn has_float_letter(text: &[u8]) -> bool
 }
 
 // Whether the text is a descriptor with a float or a double. The first byte shows of most texts that they are none, and the letters of most descriptors.
-fn has_float(alloc: Global, text: &[u8]) -> Result<bool, RulesError>
+fn has_float(alloc: Global, text: &[u8]) -> Result<bool, AllocError>
     ensures { IfOk result (λ float. IsTrue float ↔ HasFloat text.now) }
 {
     if !may_have_float(text) {
@@ -106,7 +105,7 @@ fn has_float(alloc: Global, text: &[u8]) -> Result<bool, RulesError>
     match read_desc(alloc, text) {
         Ok(desc) => Ok(mentions_float(&desc)),
         Err(DescError::NotADescriptor) => Ok(false),
-        Err(DescError::Memory) => Err(RulesError::Memory),
+        Err(DescError::Memory) => Err(AllocError),
     }
 }
 
@@ -137,7 +136,7 @@ fn is_reflective_array(ty: &Ty) -> bool
 }
 
 // Whether the text is the descriptor of an array of elements whose class is of reflection.
-fn is_reflective_desc(alloc: Global, text: &[u8]) -> Result<bool, RulesError>
+fn is_reflective_desc(alloc: Global, text: &[u8]) -> Result<bool, AllocError>
     requires { IsClassName text.now → ⊥ }
     ensures { IfOk result (λ reflective. IsTrue reflective ↔ IsReflectiveText text.now) }
 {
@@ -145,7 +144,7 @@ fn is_reflective_desc(alloc: Global, text: &[u8]) -> Result<bool, RulesError>
         Ok(Desc::Field(ty)) => Ok(is_reflective_array(&ty)),
         Ok(Desc::Method { params: _, ret: _ }) => Ok(false),
         Err(DescError::NotADescriptor) => Ok(false),
-        Err(DescError::Memory) => Err(RulesError::Memory),
+        Err(DescError::Memory) => Err(AllocError),
     }
 }
 
@@ -157,7 +156,7 @@ fn is_reflective_name(text: &[u8]) -> bool
 }
 
 // Whether the text of a class constant stands for a class of reflection. Most texts are neither an array's descriptor nor the name of such a class.
-fn is_reflective_text(alloc: Global, text: &[u8]) -> Result<bool, RulesError>
+fn is_reflective_text(alloc: Global, text: &[u8]) -> Result<bool, AllocError>
     ensures { IfOk result (λ reflective. IsTrue reflective ↔ IsReflectiveText text.now) }
 {
     if text.starts_with(b"[") {
@@ -190,7 +189,7 @@ fn mark_names(marks: &mut [bool], members: &[MemberView<'_>])
 }
 
 /// For each index, whether it is that of a member's name or descriptor.
-pub fn marked_names(alloc: Global, view: &ClassView<'_>) -> Result<Vec<bool>, RulesError>
+pub fn marked_names(alloc: Global, view: &ClassView<'_>) -> Result<Vec<bool>, AllocError>
     ensures { IfOk result (λ marks. AreMembersMarked (class_of view.now) marks.items) }
 {
     let mut marks = vec![in alloc; false; view.pool.as_slice().len() + 1]?;
@@ -206,7 +205,7 @@ fn note_text<'p>(
     indexes: &mut BTreeMap<&'p [u8], u16>,
     text: &'p [u8],
     index: u16,
-) -> Result<u16, RulesError>
+) -> Result<u16, AllocError>
     ensures { IfOk result (Notes indexes.old indexes.new text.now index true) }
 {
     match indexes.insert(text, index)? {
@@ -224,7 +223,7 @@ fn first_index<'p>(
     text: &'p [u8],
     index: u16,
     marked: bool,
-) -> Result<u16, RulesError>
+) -> Result<u16, AllocError>
     ensures { IfOk result (Notes indexes.old indexes.new text.now index marked) }
 {
     if marked {
@@ -241,7 +240,7 @@ fn judge_text<'p>(
     text: &'p [u8],
     index: u16,
     marked: bool,
-) -> Result<JudgedText, RulesError>
+) -> Result<JudgedText, AllocError>
     ensures { IfOk result (IsReportedText indexes.old indexes.new text.now index marked) }
 {
     let float = has_float(alloc, text)?;
@@ -261,7 +260,7 @@ fn judge_index<'p>(
     pool: &Pool<'p>,
     index: u16,
     marked: bool,
-) -> Result<JudgedText, RulesError>
+) -> Result<JudgedText, AllocError>
     requires { AreRight pool.now indexes.old }
     ensures { IfOk result (IsJudgedText pool.now indexes.old indexes.new index marked) }
 {
@@ -276,7 +275,7 @@ fn judge_index<'p>(
 }
 
 // The same, where the index represents its own text.
-fn judge_own(alloc: Global, pool: &Pool<'_>, index: u16) -> Result<JudgedText, RulesError>
+fn judge_own(alloc: Global, pool: &Pool<'_>, index: u16) -> Result<JudgedText, AllocError>
     ensures { IfOk result (IsOwnText pool.now index) }
 {
     match pool.text(index) {
@@ -298,7 +297,7 @@ fn judge_own_texts(
     alloc: Global,
     pool: &Pool<'_>,
     count: usize,
-) -> Result<Vec<JudgedText>, RulesError>
+) -> Result<Vec<JudgedText>, AllocError>
     requires { count ≤ 2 ^ 16 }
     ensures { IfOk result (λ texts. AreOwnTexts pool.now count texts.items) }
 {
@@ -314,7 +313,7 @@ fn judge_first_texts(
     alloc: Global,
     view: &ClassView<'_>,
     marks: &[bool],
-) -> Result<Vec<JudgedText>, RulesError>
+) -> Result<Vec<JudgedText>, AllocError>
     requires few { length marks.now ≤ 2 ^ 16 }
     requires marks { AreMembersMarked (class_of view.now) marks.now }
     ensures texts { IfOk result (λ texts. AreTexts view.now.pool texts.items) }
@@ -331,7 +330,7 @@ fn judge_first_texts(
 
 /// What the rules need to know of the texts of a class file's pool, by index. Each text is looked at once. Texts are compared only where they name or describe
 /// a member and have the same number as another.
-pub fn judge_texts(alloc: Global, view: &ClassView<'_>) -> Result<Vec<JudgedText>, RulesError>
+pub fn judge_texts(alloc: Global, view: &ClassView<'_>) -> Result<Vec<JudgedText>, AllocError>
     requires { length view.now.pool + 1 < 2 ^ 16 }
     ensures texts { IfOk result (λ texts. AreTexts view.now.pool texts.items) }
     ensures numbered { IfOk result (λ texts. AreNumbered (class_of view.now) texts.items) }

@@ -22,7 +22,6 @@ mod repeats;
 
 pub use classes::{add_naming_lines, class_name};
 pub use code::{MethodBody, WholeCode, code_of_method};
-pub use dj_rules::RulesError;
 pub use doubles::{NamedFile, add_duplicate_lines};
 pub use fields::has_faulty_field;
 pub use good::{GoodFile, good_file};

@@ -9,11 +9,10 @@ use crate::marks::Mark;
 use dj_names::Name;
 use dj_pool::Pool;
 use dj_report::{Violation, add_file_line, add_line};
-use dj_rules::RulesError;
-use std::alloc::Global;
+use std::alloc::{AllocError, Global};
 
 // The name and the descriptor at these indexes.
-fn text_of(alloc: Global, pool: &Pool<'_>, name: u16, desc: u16) -> Result<Name, RulesError>
+fn text_of(alloc: Global, pool: &Pool<'_>, name: u16, desc: u16) -> Result<Name, AllocError>
     ensures { IfOk result (λ text. text ≡ pair_text pool.now (name, desc)) }
 {
     let mut text = Name::from_slice(alloc, pool.text(name).unwrap_or(b""))?;
@@ -28,7 +27,7 @@ fn add_mark_line(
     path: &str,
     pool: &Pool<'_>,
     mark: Mark,
-) -> Result<(), RulesError>
+) -> Result<(), AllocError>
     ensures { OnOk result (Adds (IsMarkLine path.now pool.now mark) found.old.items found.new.items) }
 {
     let path = Name::from_slice(alloc, path.as_bytes())?;
@@ -59,7 +58,7 @@ fn add_each_line(
     path: &str,
     pool: &Pool<'_>,
     marks: &[Mark],
-) -> Result<(), RulesError>
+) -> Result<(), AllocError>
     ensures { OnOk result (Adds (IsLineAmong (IsMarkLine path.now pool.now) marks.now) found.old.items found.new.items) }
 {
     for mark in marks {
@@ -75,7 +74,7 @@ pub fn add_mark_lines(
     path: &str,
     pool: &Pool<'_>,
     marks: Vec<Mark>,
-) -> Result<(), RulesError>
+) -> Result<(), AllocError>
     ensures { OnOk result (Adds (IsLineAmong (IsMarkLine path.now pool.now) marks.items) found.old.items found.new.items) }
 {
     let once = each_once(marks);
@@ -89,7 +88,7 @@ pub fn add_file_line_if(
     path: &str,
     rule: u8,
     violated: bool,
-) -> Result<(), RulesError>
+) -> Result<(), AllocError>
     ensures { OnOk result (Adds (λ v. IsTrue violated × (v ≡ file_line path.now rule)) found.old.items found.new.items) }
 {
     if violated {

@@ -6,8 +6,7 @@ ghost use Rattle.dj_check.specs.Passes.{lacks_memory_of_frames, bodies_in, HasFr
 
 use dj_frames::{FrameError, read_frames};
 use dj_ops::{Form, Frame, Frames, VType};
-use dj_rules::RulesError;
-use std::alloc::Global;
+use std::alloc::{AllocError, Global};
 
 fn is_float_type(item: VType) -> bool
     ensures { IsTrue result ↔ IsFloatType item }
@@ -59,7 +58,7 @@ fn lacks_memory(error: &FrameError) -> bool
 }
 
 // The frames of the body, for code whose instructions start at these addresses; none where the body is no stack map.
-fn frames_at(alloc: Global, starts: &[u32], body: &[u8]) -> Result<Option<Frames>, RulesError>
+fn frames_at(alloc: Global, starts: &[u32], body: &[u8]) -> Result<Option<Frames>, AllocError>
     requires short { length body.now < 2 ^ 32 }
     requires rise { IsStrictlyIncreasing starts.now }
     ensures { IfOk result (AreFramesAt starts.now body.now) }
@@ -68,7 +67,7 @@ fn frames_at(alloc: Global, starts: &[u32], body: &[u8]) -> Result<Option<Frames
         Ok(frames) => Ok(Some(frames)),
         Err(error) => {
             if lacks_memory(&error) {
-                Err(RulesError::Memory)
+                Err(AllocError)
             } else {
                 Ok(None)
             }
@@ -81,7 +80,7 @@ pub fn frames_in(
     alloc: Global,
     starts: &[u32],
     map: Option<&[u8]>,
-) -> Result<Option<Frames>, RulesError>
+) -> Result<Option<Frames>, AllocError>
     requires short { AllByRecursion (λ body. length body < 2 ^ 32) (bodies_in map) }
     requires rise { IsStrictlyIncreasing starts.now }
     ensures { IfOk result (HasFramesAt starts.now (bodies_in map.entry)) }

@@ -2,7 +2,7 @@ ghost use Rattle.std.specs.Prelude.{◌≡◌, ◌↔◌, IsTrue, OnOk};
 ghost use Rattle.dj_report.specs.Lines.{Gains};
 ghost use Rattle.dj_check.specs.Marks.{mark_at};
 
-use dj_rules::RulesError;
+use std::alloc::AllocError;
 
 /// A part of a file that may have lines: a member, by the indexes of its name and descriptor, as a whole or at the instruction of this number.
 #[derive(Clone, Copy, Debug, PartialEq, Eq, PartialOrd, Ord)]
@@ -25,7 +25,7 @@ pub fn add_mark_if(
     place: MarkPlace,
     rule: u8,
     violated: bool,
-) -> Result<(), RulesError>
+) -> Result<(), AllocError>
     ensures { OnOk result (Gains (λ mark. IsTrue violated × (mark ≡ mark_at place rule)) marks.old.items marks.new.items) }
 {
     if violated {

@@ -18,7 +18,7 @@ use crate::marks::{Mark, MarkPlace, add_mark_if};
 use crate::passes::add_code_marks;
 use dj_class::{ClassView, MemberView};
 use dj_pool::Pool;
-use dj_rules::RulesError;
+use std::alloc::AllocError;
 
 // The numbers of the rules FLOAT and INTERFACE_CODE.
 const FLOAT: u8 = 12;
@@ -62,7 +62,7 @@ fn add_whole_marks(
     names: (u16, u16),
     float: bool,
     interface_code: bool,
-) -> Result<(), RulesError>
+) -> Result<(), AllocError>
     ensures { OnOk result (Gains (MarksOf names (RuledWhole float interface_code)) marks.old.items marks.new.items) }
 {
     let place = MarkPlace {
@@ -105,7 +105,7 @@ pub fn add_own_marks(
     texts: &[JudgedText],
     method: &MemberView<'_>,
     code: &WholeCode<'_>,
-) -> Result<(), RulesError>
+) -> Result<(), AllocError>
     requires texts { AreTexts view.now.pool texts.now }
     requires code { IsWholeMethod view.now.pool (member_of method.now) code.now }
     ensures { OnOk result (Gains (MarksOf (names_in texts.now (member_of method.now)) (MethodViolates (class_of view.now) (member_of method.now))) marks.old.items marks.new.items) }
@@ -123,7 +123,7 @@ pub fn add_bodiless_marks(
     view: &ClassView<'_>,
     texts: &[JudgedText],
     method: &MemberView<'_>,
-) -> Result<(), RulesError>
+) -> Result<(), AllocError>
     requires texts { AreTexts view.now.pool texts.now }
     requires none { codes_of view.now.pool (member_of method.now) ≡ [] }
     ensures { OnOk result (Gains (MarksOf (names_in texts.now (member_of method.now)) (MethodViolates (class_of view.now) (member_of method.now))) marks.old.items marks.new.items) }
@@ -139,7 +139,7 @@ fn add_field_mark(
     view: &ClassView<'_>,
     texts: &[JudgedText],
     field: &MemberView<'_>,
-) -> Result<(), RulesError>
+) -> Result<(), AllocError>
     requires { AreTexts view.now.pool texts.now }
     ensures { OnOk result (Gains (MarksOf (names_in texts.now (member_of field.now)) (FieldViolates (class_of view.now) (member_of field.now))) marks.old.items marks.new.items) }
 {
@@ -158,7 +158,7 @@ pub fn add_field_marks(
     marks: &mut Vec<Mark>,
     view: &ClassView<'_>,
     texts: &[JudgedText],
-) -> Result<(), RulesError>
+) -> Result<(), AllocError>
     requires { AreTexts view.now.pool texts.now }
     ensures { OnOk result (Gains (AreMarksOf texts.now (FieldViolates (class_of view.now)) (class_of view.now).fields) marks.old.items marks.new.items) }
 {

@@ -14,7 +14,7 @@ use crate::marks::{Mark, MarkPlace, add_mark_if};
 use dj_labels::{Labelled, Protected};
 use dj_ops::Instr;
 use dj_pool::Pool;
-use dj_rules::RulesError;
+use std::alloc::AllocError;
 
 // The numbers of the rules on instructions and handlers.
 const DYNAMIC: u8 = 9;
@@ -38,7 +38,7 @@ fn add_instr_marks(
     pool: &Pool<'_>,
     texts: &[JudgedText],
     instr: &Instr,
-) -> Result<(), RulesError>
+) -> Result<(), AllocError>
     requires { AreTexts pool.now texts.now }
     ensures { OnOk result (Gains (MarksAt place (InstrViolates pool.now instr.now)) marks.old.items marks.new.items) }
 {
@@ -57,7 +57,7 @@ fn add_marks_at(
     pool: &Pool<'_>,
     texts: &[JudgedText],
     instr: &Instr,
-) -> Result<(), RulesError>
+) -> Result<(), AllocError>
     requires { AreTexts pool.now texts.now }
     ensures { OnOk result (Gains (MarksAt place (InstrViolates pool.now instr.now)) marks.old.items marks.new.items) }
 {
@@ -74,7 +74,7 @@ fn add_all_instr_marks(
     pool: &Pool<'_>,
     texts: &[JudgedText],
     code: &[Instr],
-) -> Result<(), RulesError>
+) -> Result<(), AllocError>
     requires texts { AreTexts pool.now texts.now }
     requires few { length code.now < 2 ^ 32 }
     ensures { OnOk result (Gains (MarksOf names (ViolatesBelow (length code.now) pool.now code.now)) marks.old.items marks.new.items) }
@@ -115,7 +115,7 @@ fn add_handler_mark(
     names: (u16, u16),
     pool: &Pool<'_>,
     range: Protected,
-) -> Result<(), RulesError>
+) -> Result<(), AllocError>
     ensures { OnOk result (Gains (MarksOf names (RangeViolates pool.now range)) marks.old.items marks.new.items) }
 {
     let place = MarkPlace {
@@ -132,7 +132,7 @@ fn add_all_handler_marks(
     names: (u16, u16),
     pool: &Pool<'_>,
     ranges: &[Protected],
-) -> Result<(), RulesError>
+) -> Result<(), AllocError>
     ensures { OnOk result (Gains (IsAmongRanges names pool.now ranges.now) marks.old.items marks.new.items) }
 {
     for range in ranges {
@@ -148,7 +148,7 @@ pub fn add_code_marks(
     pool: &Pool<'_>,
     texts: &[JudgedText],
     labelled: &Labelled,
-) -> Result<(), RulesError>
+) -> Result<(), AllocError>
     requires texts { AreTexts pool.now texts.now }
     requires few { length labelled.now.code < 2 ^ 32 }
     ensures { OnOk result (Gains (CodeMark names pool.now labelled.now) marks.old.items marks.new.items) }

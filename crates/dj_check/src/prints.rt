@@ -3,8 +3,7 @@ ghost use Rattle.std.specs.Prelude.{◌≡◌, ◌≤◌, ◌^◌, true, length,
 ghost use Rattle.dj_check.specs.Prints.{print_of, NotesPrint, AreDistinct};
 
 use dj_pool::Pool;
-use dj_rules::RulesError;
-use std::alloc::Global;
+use std::alloc::{AllocError, Global};
 use std::collections::BTreeSet;
 
 // A number of a text: equal texts have the same, and others seldom do.
@@ -19,7 +18,7 @@ fn print_of(text: &[u8]) -> u32
 }
 
 // Whether the text at an index is the first with its number, which is noted. Where there is no text, nothing is noted.
-fn note_print(prints: &mut BTreeSet<u32>, pool: &Pool<'_>, index: u16) -> Result<bool, RulesError>
+fn note_print(prints: &mut BTreeSet<u32>, pool: &Pool<'_>, index: u16) -> Result<bool, AllocError>
     ensures { IfOk result (NotesPrint prints.old prints.new pool.now index true) }
 {
     match pool.text(index) {
@@ -34,7 +33,7 @@ fn note_marked(
     pool: &Pool<'_>,
     index: u16,
     marked: bool,
-) -> Result<bool, RulesError>
+) -> Result<bool, AllocError>
     ensures { IfOk result (NotesPrint prints.old prints.new pool.now index marked) }
 {
     if marked {
@@ -45,7 +44,7 @@ fn note_marked(
 }
 
 /// Whether their numbers show that no two of the marked indexes have the same text.
-pub fn are_distinct(alloc: Global, pool: &Pool<'_>, marks: &[bool]) -> Result<bool, RulesError>
+pub fn are_distinct(alloc: Global, pool: &Pool<'_>, marks: &[bool]) -> Result<bool, AllocError>
     requires { length marks.now ≤ 2 ^ 16 }
     ensures { IfOk result (λ distinct. IsTrue distinct → AreDistinct pool.now marks.now) }
 {

@@ -10,8 +10,7 @@ use crate::judged::JudgedText;
 use crate::methods::names_of;
 use dj_class::{ClassView, MemberView};
 use dj_pool::Pool;
-use dj_rules::RulesError;
-use std::alloc::Global;
+use std::alloc::{AllocError, Global};
 use std::collections::BTreeSet;
 
 // Whether two of the members have the same indexes of a name and a descriptor, as representatives. No text is looked at, so the work grows as n log n.
@@ -20,7 +19,7 @@ fn has_again(
     pool: &Pool<'_>,
     texts: &[JudgedText],
     members: &[MemberView<'_>],
-) -> Result<bool, RulesError>
+) -> Result<bool, AllocError>
     requires { AreTexts pool.now texts.now }
     ensures { IfOk result (λ again. IsTrue again ↔ HasAgain (names_of texts.now (map member_of members.now))) }
 {
@@ -39,7 +38,7 @@ pub fn has_repeats(
     alloc: Global,
     view: &ClassView<'_>,
     texts: &[JudgedText],
-) -> Result<bool, RulesError>
+) -> Result<bool, AllocError>
     requires texts { AreTexts view.now.pool texts.now }
     requires numbered { AreNumbered (class_of view.now) texts.now }
     requires valid { IsValid (class_of view.now) }

@@ -3,8 +3,7 @@ ghost use Rattle.dj_class.specs.Parts.{attribute_of};
 ghost use Rattle.dj_class.specs.Members.{member_of};
 
 use crate::class::{Attribute, MemberView};
-use dj_bytes::NoMemory;
-use std::alloc::Global;
+use std::alloc::{AllocError, Global};
 use std::marker::Model;
 
 /// The attributes of a file, a field, a method or a Code attribute.
@@ -34,7 +33,7 @@ impl<'a> Attributes<'a> {
     }
 
     /// Appends an attribute.
-    pub fn push(&mut self, item: Attribute<'a>) -> Result<(), NoMemory>
+    pub fn push(&mut self, item: Attribute<'a>) -> Result<(), AllocError>
         ensures ok { OnOk result (self.new ≡ self.old ++ attribute_of item.entry ∷ []) }
         ensures err { OnErr result (self.new ≡ self.old) }
     {
@@ -82,7 +81,7 @@ impl<'a> Members<'a> {
     }
 
     /// Appends a member.
-    pub fn push(&mut self, item: MemberView<'a>) -> Result<(), NoMemory>
+    pub fn push(&mut self, item: MemberView<'a>) -> Result<(), AllocError>
         ensures ok { OnOk result (self.new ≡ self.old ++ member_of item.entry ∷ []) }
         ensures err { OnErr result (self.new ≡ self.old) }
     {

@@ -3,11 +3,9 @@ use crate::parts::{
     ABSTRACT, ALOAD_0, ARETURN, FINAL, LLOAD_0, POP2, PUBLIC, Part, RETURN, STATIC, SUPER,
     bytes_of, changed,
 };
-use dj_class::{
-    Attribute, Attributes, ClassError, ClassView, MemberView, Members, NoMemory, read_class,
-};
+use dj_class::{Attribute, Attributes, ClassError, ClassView, MemberView, Members, read_class};
 use dj_pool::PoolError;
-use std::alloc::Global;
+use std::alloc::{AllocError, Global};
 
 // The class A, with one method.
 #[rattlefmt::skip]
@@ -170,7 +168,7 @@ const CUTS_OF_RICH: [(usize, usize, ClassError); 47] = [
     (372, 376, ClassError::Cut(372)),
 ];
 
-// A place in A, another part there, and what is refused then.
+// A place among the parts of A, the part that is put there, and the fault that is reported.
 #[rattlefmt::skip]
 const REFUSED_CHANGES: [(usize, Part, ClassError); 38] = [
     (AT_END, Bytes(&[0]), ClassError::Trailing(106)),
@@ -637,7 +635,7 @@ fn read(rt: HostRuntime) {
     }
 }
 
-fn members_grow(alloc: Global) -> Result<bool, NoMemory> {
+fn members_grow(alloc: Global) -> Result<bool, AllocError> {
     let mut attributes = Attributes::new(alloc);
     attributes.push(Attribute {
         name: 7,

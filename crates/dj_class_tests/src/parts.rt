@@ -169,7 +169,7 @@ pub fn bytes_of(alloc: Global, parts: &[Part]) -> Result<Vec<u8>, AllocError> {
     Ok(out)
 }
 
-/// The bytes of parts, one of which, at this place, is another; one more, where the place is their end.
+/// The bytes of parts with another part in place of the one at this place, or appended where the place is their end.
 pub fn changed(
     alloc: Global,
     parts: &[Part],

@@ -1,11 +1,9 @@
 -- Lists of classes that are joined one after the other are joined as one list.
 use Rattle.std.proofs.Common.{◌≡◌, List, [], ◌∷◌, ◌++◌, map, refl, sym, ap}
 use Rattle.dj_names.specs.trusted.Library.{Library}
-use Rattle.dj_declared.specs.trusted.Files.{ClassFile}
+use Rattle.dj_declared.specs.trusted.Files.{ClassFile, declared_class, declared_program}
 use Rattle.dj_model.specs.trusted.Program.{Class}
 use Rattle.dj_model.specs.trusted.Libraries.{library_class, inserted, joined}
-use Rattle.dj_declared.specs.trusted.Files.{declared_class}
-use Rattle.dj_classes.specs.trusted.Tables.{declared_program}
 
 pub joined-append : (xs ys : List Class) → joined (xs ++ ys) [] ≡ joined xs (joined ys [])
 joined-append [] ys = refl

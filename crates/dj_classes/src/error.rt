@@ -1,6 +1,6 @@
 ghost use Rattle.std.specs.Prelude.{◌≡◌};
 
-use dj_names::{Name, NoMemory};
+use dj_names::Name;
 use std::alloc::{AllocError, AllocFailed};
 use thiserror::Error;
 
@@ -13,16 +13,6 @@ pub enum TableError {
     /// There was no memory.
     #[error("there was no memory")]
     Memory,
-}
-
-impl From<NoMemory> for TableError {
-    ghost use Rattle.dj_classes.specs.declared.error.TableError.TheVariants.{Memory};
-
-    ghost from_gives = { λ _ e. e ≡ Memory };
-
-    fn from(_error: NoMemory) -> TableError {
-        TableError::Memory
-    }
 }
 
 impl From<AllocError> for TableError {

@@ -1,7 +1,6 @@
 ghost use Rattle.std.specs.Prelude.{◌≡◌, [], ◌∷◌, ◌++◌, IfOk};
 
-use dj_names::NoMemory;
-use std::alloc::Global;
+use std::alloc::{AllocError, Global};
 use std::marker::Model;
 
 /// Numbers of classes, in order.
@@ -29,7 +28,7 @@ impl Numbers {
     }
 
     /// Appends a number.
-    pub fn push(&mut self, number: u32) -> Result<(), NoMemory>
+    pub fn push(&mut self, number: u32) -> Result<(), AllocError>
         ensures { IfOk result (λ _. self.new ≡ self.old ++ number ∷ []) }
     {
         Ok(self.items.push(number)?)

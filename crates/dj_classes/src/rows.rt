@@ -6,8 +6,8 @@ ghost use Rattle.dj_classes.specs.ClassRows.{class_cmp, RiseStrictly, super_in, 
 
 use crate::numbers::Numbers;
 use dj_declared::DeclaredClass;
-use dj_names::{Name, NoMemory};
-use std::alloc::Global;
+use dj_names::Name;
+use std::alloc::{AllocError, Global};
 
 /// Puts classes in the order of the bytes of their names.
 pub fn put_in_order(classes: &mut Vec<DeclaredClass>)
@@ -49,7 +49,7 @@ fn numbers_of(
     alloc: Global,
     rows: &[DeclaredClass],
     names: &[Name],
-) -> Result<Vec<Option<u32>>, NoMemory>
+) -> Result<Vec<Option<u32>>, AllocError>
     requires rise { RiseStrictly rows.now }
     requires few { length rows.now < 2 ^ 31 }
     ensures { IfOk result (λ numbers. numbers.items ≡ map (class_number rows.now) names.now) }
@@ -72,7 +72,7 @@ fn number_at(numbers: &[Option<u32>], place: u32) -> Option<u32>
 }
 
 // The numbers at these places, where there are any.
-fn numbers_at(alloc: Global, numbers: &[Option<u32>], places: &[u32]) -> Result<Numbers, NoMemory>
+fn numbers_at(alloc: Global, numbers: &[Option<u32>], places: &[u32]) -> Result<Numbers, AllocError>
     ensures { IfOk result (λ listed. listed ≡ numbers_at numbers.now places.now) }
 {
     let mut listed = Numbers::new(alloc);
@@ -89,7 +89,7 @@ fn numbers_in(
     alloc: Global,
     rows: &[DeclaredClass],
     row: &DeclaredClass,
-) -> Result<Numbers, NoMemory>
+) -> Result<Numbers, AllocError>
     requires rise { RiseStrictly rows.now }
     requires few { length rows.now < 2 ^ 31 }
     ensures { IfOk result (λ numbers. numbers ≡ interfaces_in rows.now row.now) }
@@ -100,7 +100,7 @@ fn numbers_in(
 }
 
 /// Each class's superclass by its number.
-pub fn supers_in(alloc: Global, rows: &[DeclaredClass]) -> Result<Vec<Option<u32>>, NoMemory>
+pub fn supers_in(alloc: Global, rows: &[DeclaredClass]) -> Result<Vec<Option<u32>>, AllocError>
     requires rise { RiseStrictly rows.now }
     requires few { length rows.now < 2 ^ 31 }
     ensures { IfOk result (λ supers. supers.items ≡ map (super_in rows.now) rows.now) }
@@ -121,7 +121,7 @@ fn super_number_in(rows: &[DeclaredClass], row: &DeclaredClass) -> Option<u32>
 }
 
 /// Each class's interfaces by their numbers.
-pub fn interfaces_in(alloc: Global, rows: &[DeclaredClass]) -> Result<Vec<Numbers>, NoMemory>
+pub fn interfaces_in(alloc: Global, rows: &[DeclaredClass]) -> Result<Vec<Numbers>, AllocError>
     requires rise { RiseStrictly rows.now }
     requires few { length rows.now < 2 ^ 31 }
     ensures { IfOk result (λ interfaces. interfaces.items ≡ map (interfaces_in rows.now) rows.now) }
@@ -142,7 +142,7 @@ pub fn are_bare(rows: &[DeclaredClass])
     }
 }
 
-/// Whether a class has a superclass, where there is no number for it.
+/// Whether a class names a superclass that has no number.
 pub fn lacks_super(row: &DeclaredClass, number: Option<u32>) -> bool
     ensures { result ≡ (is_none number && is_some row.now.superclass) }
 {

@@ -2,6 +2,11 @@ use dj_labels::{label, labelled_is_well_formed};
 use dj_layout::lay_out;
 use std::alloc::{AllocError, Global};
 
+// Opcodes (JVMS 6.5).
+const GOTO: u8 = 167;
+
+const LOOKUPSWITCH: u8 = 171;
+
 /// What the code is made of.
 #[derive(Clone, Copy)]
 pub enum Kind {
@@ -25,9 +30,11 @@ fn code_of(alloc: Global, task: Task) -> Result<Vec<u8>, AllocError> {
         match task.kind {
             Kind::Branches => {
                 let offset = if i + 1 < task.count { 3 } else { 0 };
-                code.extend_from_slice(&[167, 0, offset])?;
+                code.extend_from_slice(&[GOTO, 0, offset])?;
             }
-            Kind::Switches => code.extend_from_slice(&[171, 0, 0, 0, 0, 0, 0, 0, 0, 0, 0, 0])?,
+            Kind::Switches => {
+                code.extend_from_slice(&[LOOKUPSWITCH, 0, 0, 0, 0, 0, 0, 0, 0, 0, 0, 0])?
+            }
         }
     }
     Ok(code)

@@ -1,5 +1,5 @@
 use crate::opcodes::*;
-use crate::reported::{Reported, reported};
+use crate::reported::{InstrRow, reported};
 use dj_asm::assemble;
 use dj_class::{ClassView, read_class, read_code};
 use dj_ops::read_instr;
@@ -61,7 +61,7 @@ const FAMILIES: [(u8, u8, u8, i64, i64); 31] = [
     (IINC, IINC, b'I', 300, -400),
 ];
 
-fn is_next(alloc: Global, code: &[u8], at: u32, wanted: Reported) -> Option<u32> {
+fn is_next(alloc: Global, code: &[u8], at: u32, wanted: InstrRow) -> Option<u32> {
     if (at as usize) < code.len() && code.len() < 65_536 {
         match read_instr(alloc, code, at) {
             Ok((instr, next)) if reported(&instr) == wanted => Some(next),

@@ -1,9 +1,17 @@
-use crate::frames_reported::{APPEND, CHOP, FULL, Reported, SAME, STACK1, are, frames_of, list};
+use crate::frames_reported::{
+    APPEND, CHOP, FULL, FrameNumbers, SAME, STACK1, are, frames_of, list,
+};
 use dj_frames::{are_below, is_rising, relocate};
 use dj_ops::Frames;
 use std::alloc::Global;
 
-fn moves(alloc: Global, frames: &Frames, start: &[u32], own: &[u32], wanted: Reported<'_>) -> bool {
+fn moves(
+    alloc: Global,
+    frames: &Frames,
+    start: &[u32],
+    own: &[u32],
+    wanted: FrameNumbers<'_>,
+) -> bool {
     if !is_rising(start) || !are_below(start.len(), frames) || !are_below(own.len(), frames) {
         return false;
     }
@@ -15,7 +23,13 @@ fn moves(alloc: Global, frames: &Frames, start: &[u32], own: &[u32], wanted: Rep
 
 const NUMBERS: &[u32] = &[0, 1, 2, 3, 4, 5];
 
-fn is_moved(alloc: Global, start: &[u32], own: &[u32], body: &[u8], wanted: Reported<'_>) -> bool {
+fn is_moved(
+    alloc: Global,
+    start: &[u32],
+    own: &[u32],
+    body: &[u8],
+    wanted: FrameNumbers<'_>,
+) -> bool {
     match frames_of(alloc, NUMBERS, body) {
         Ok(frames) => moves(alloc, &frames, start, own, wanted),
         Err(_) => false,
@@ -23,7 +37,7 @@ fn is_moved(alloc: Global, start: &[u32], own: &[u32], body: &[u8], wanted: Repo
 }
 
 // Numbers for frames and for their new instructions, a body of frames where each instruction has a byte, and its frames after that.
-const MOVED: [(usize, usize, &[u8], Reported<'static>); 19] = [
+const MOVED: [(usize, usize, &[u8], FrameNumbers<'static>); 19] = [
     (2, 2, b"\0\0", &[]),
     (
         15,
@@ -178,7 +192,7 @@ const MOVED: [(usize, usize, &[u8], Reported<'static>); 19] = [
     ),
 ];
 
-fn all_moved(alloc: Global, table: &[(usize, usize, &[u8], Reported<'_>)]) -> bool {
+fn all_moved(alloc: Global, table: &[(usize, usize, &[u8], FrameNumbers<'_>)]) -> bool {
     for (start, own, body, wanted) in table {
         if !is_moved(alloc, list(*start), list(*own), body, wanted) {
             return false;
@@ -193,7 +207,7 @@ fn moves_frames(rt: HostRuntime) {
 }
 
 // The same.
-const MOVED_TOO: [(usize, usize, &[u8], Reported<'static>); 19] = [
+const MOVED_TOO: [(usize, usize, &[u8], FrameNumbers<'static>); 19] = [
     (
         32,
         33,

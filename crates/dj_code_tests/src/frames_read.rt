@@ -1,8 +1,10 @@
-use crate::frames_reported::{APPEND, CHOP, FULL, Reported, SAME, STACK1, are, frames_of, list};
+use crate::frames_reported::{
+    APPEND, CHOP, FULL, FrameNumbers, SAME, STACK1, are, frames_of, list,
+};
 use dj_frames::FrameError;
 use std::alloc::Global;
 
-fn is_read(alloc: Global, starts: &[u32], body: &[u8], reported: Reported<'_>) -> bool {
+fn is_read(alloc: Global, starts: &[u32], body: &[u8], reported: FrameNumbers<'_>) -> bool {
     match frames_of(alloc, starts, body) {
         Ok(frames) => are(alloc, &frames, reported),
         Err(_) => false,
@@ -10,7 +12,7 @@ fn is_read(alloc: Global, starts: &[u32], body: &[u8], reported: Reported<'_>) -
 }
 
 // Addresses of instructions, a body, and its frames.
-const READ: [(usize, &[u8], Reported<'static>); 40] = [
+const READ: [(usize, &[u8], FrameNumbers<'static>); 40] = [
     (0, b"\0\0", &[]),
     (0, b"\0\x01\0", &[(0, SAME), (0, 0)]),
     (0, b"\0\x01\x03", &[(1, SAME), (0, 0)]),
@@ -126,7 +128,7 @@ const READ: [(usize, &[u8], Reported<'static>); 40] = [
     ),
 ];
 
-fn all_read(alloc: Global, table: &[(usize, &[u8], Reported<'_>)]) -> bool {
+fn all_read(alloc: Global, table: &[(usize, &[u8], FrameNumbers<'_>)]) -> bool {
     for (starts, body, reported) in table {
         if !is_read(alloc, list(*starts), body, reported) {
             return false;

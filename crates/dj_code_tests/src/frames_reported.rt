@@ -4,7 +4,7 @@ use std::alloc::{AllocError, Global};
 
 // Frames as pairs of numbers. For each frame its instruction and its form; how much is chopped, or how many types of locals and of operands
 // there are; and the types, each by its place in the list of types and its index or instruction.
-pub type Reported<'a> = &'a [(u32, u32)];
+pub type FrameNumbers<'a> = &'a [(u32, u32)];
 
 pub const SAME: u32 = 0;
 
@@ -72,7 +72,7 @@ fn say(alloc: Global, frames: &Frames) -> Result<Vec<(u32, u32)>, AllocError> {
     Ok(reported)
 }
 
-pub fn are(alloc: Global, frames: &Frames, wanted: Reported<'_>) -> bool {
+pub fn are(alloc: Global, frames: &Frames, wanted: FrameNumbers<'_>) -> bool {
     match say(alloc, frames) {
         Ok(reported) => reported.as_slice() == wanted,
         Err(_) => false,

@@ -1,6 +1,8 @@
-use crate::frames_reported::{APPEND, CHOP, FULL, Reported, SAME, STACK1, are, frames_of, list};
+use crate::frames_reported::{
+    APPEND, CHOP, FULL, FrameNumbers, SAME, STACK1, are, frames_of, list,
+};
 use dj_frames::{are_well_formed, write_frames};
-use dj_ops::{Form, Frame, Frames, NoMemory, VType, VTypes};
+use dj_ops::{Form, Frame, Frames, VType, VTypes};
 use std::alloc::{AllocError, Global};
 
 fn writes(alloc: Global, frames: &Frames, starts: &[u32], body: &[u8]) -> bool {
@@ -13,7 +15,7 @@ fn writes(alloc: Global, frames: &Frames, starts: &[u32], body: &[u8]) -> bool {
     }
 }
 
-fn is_written(alloc: Global, starts: &[u32], reported: Reported<'_>, body: &[u8]) -> bool {
+fn is_written(alloc: Global, starts: &[u32], reported: FrameNumbers<'_>, body: &[u8]) -> bool {
     match frames_of(alloc, starts, body) {
         Ok(frames) => are(alloc, &frames, reported) && writes(alloc, &frames, starts, body),
         Err(_) => false,
@@ -21,7 +23,7 @@ fn is_written(alloc: Global, starts: &[u32], reported: Reported<'_>, body: &[u8]
 }
 
 // Addresses of instructions, frames, and the body that is written for them.
-const WRITTEN: [(usize, Reported<'static>, &[u8]); 41] = [
+const WRITTEN: [(usize, FrameNumbers<'static>, &[u8]); 41] = [
     (8, &[], b"\0\0"),
     (8, &[(0, SAME), (0, 0)], b"\0\x01\0"),
     (
@@ -173,7 +175,7 @@ const WRITTEN: [(usize, Reported<'static>, &[u8]); 41] = [
     (8, &[(7, SAME), (0, 0)], b"\0\x01\xfb\xff\xff"),
 ];
 
-fn all_written(alloc: Global, table: &[(usize, Reported<'_>, &[u8])]) -> bool {
+fn all_written(alloc: Global, table: &[(usize, FrameNumbers<'_>, &[u8])]) -> bool {
     for (starts, reported, body) in table {
         if !is_written(alloc, list(*starts), reported, body) {
             return false;
@@ -188,7 +190,7 @@ fn writes_frames(rt: HostRuntime) {
 }
 
 // A full frame with 300 local variables, and three operands.
-fn wide(alloc: Global) -> Result<Frames, NoMemory> {
+fn wide(alloc: Global) -> Result<Frames, AllocError> {
     let mut locals = VTypes::new(alloc);
     for _ in 0..300 {
         locals.push(VType::Top)?;

@@ -1,5 +1,5 @@
 use crate::opcodes::*;
-use crate::rows::{Row, has_rows, laid_again};
+use crate::rows::{RowNumbers, has_rows, laid_again};
 use dj_frames::{FrameError, are_well_formed, is_rising, read_frames, write_frames};
 use dj_names::Bytes;
 use std::alloc::Global;
@@ -24,7 +24,7 @@ fn is_body_same(alloc: Global, body: &[u8], starts: &[u32]) -> bool {
     }
 }
 
-fn is_method_same(alloc: Global, code: &[u8], rows: &[Row], body: &[u8]) -> bool {
+fn is_method_same(alloc: Global, code: &[u8], rows: &[RowNumbers], body: &[u8]) -> bool {
     match laid_again(alloc, code, rows) {
         Ok(laid) => {
             laid.code.as_slice() == code
@@ -38,7 +38,7 @@ fn is_method_same(alloc: Global, code: &[u8], rows: &[Row], body: &[u8]) -> bool
 // For each method of the classes in examples/javac/accepted, as javac wrote it: its code, its exception table, and the body of its
 // StackMapTable, empty where it has none.
 #[rattlefmt::skip]
-const METHODS: [(&[u8], &[Row], &[u8]); 11] = [
+const METHODS: [(&[u8], &[RowNumbers], &[u8]); 11] = [
     // Transfer.<init>()V
     (&[ALOAD_0, INVOKESPECIAL, 0, 1, RETURN], &[], b""),
     // Transfer.verify([B)[B
@@ -147,7 +147,7 @@ const METHODS: [(&[u8], &[Row], &[u8]); 11] = [
     ),
 ];
 
-fn all_same(alloc: Global, table: &[(&[u8], &[Row], &[u8])]) -> bool {
+fn all_same(alloc: Global, table: &[(&[u8], &[RowNumbers], &[u8])]) -> bool {
     for (code, rows, body) in table {
         if !is_method_same(alloc, code, rows, body) {
             return false;

@@ -1,6 +1,6 @@
 use crate::opcodes::*;
-use crate::reported::{Reported, reported};
-use crate::rows::{Row, labels_of};
+use crate::reported::{InstrRow, reported};
+use crate::rows::{RowNumbers, labels_of};
 use dj_labels::{CodeError, Protected};
 use dj_ops::Instr;
 use std::alloc::Global;
@@ -8,7 +8,7 @@ use std::alloc::Global;
 // A range: its start, its end, its handler, and the class that is caught.
 type Range = (u32, u32, u32, u16);
 
-fn has_instrs(instrs: &[Instr], wanted: &[Reported]) -> bool {
+fn has_instrs(instrs: &[Instr], wanted: &[InstrRow]) -> bool {
     if instrs.len() != wanted.len() {
         return false;
     }
@@ -36,8 +36,8 @@ fn has_ranges(ranges: &[Protected], wanted: &[Range]) -> bool {
 fn is_labelled(
     alloc: Global,
     code: &[u8],
-    rows: &[Row],
-    instrs: &[Reported],
+    rows: &[RowNumbers],
+    instrs: &[InstrRow],
     ranges: &[Range],
 ) -> bool {
     match labels_of(alloc, code, rows) {
@@ -49,7 +49,7 @@ fn is_labelled(
     }
 }
 
-fn is_refused(alloc: Global, code: &[u8], rows: &[Row], wanted: CodeError) -> bool {
+fn is_refused(alloc: Global, code: &[u8], rows: &[RowNumbers], wanted: CodeError) -> bool {
     match labels_of(alloc, code, rows) {
         Ok(_) => false,
         Err(error) => error == wanted,
@@ -58,7 +58,7 @@ fn is_refused(alloc: Global, code: &[u8], rows: &[Row], wanted: CodeError) -> bo
 
 // Code, and its instructions.
 #[rattlefmt::skip]
-const LABELLED: [(&[u8], &[Reported]); 19] = [
+const LABELLED: [(&[u8], &[InstrRow]); 19] = [
     (
         &[ALOAD_0, ARETURN],
         &[(b's', ALOAD_0, 0, 0), (b's', ARETURN, 0, 0)],
@@ -201,7 +201,7 @@ const LABELLED: [(&[u8], &[Reported]); 19] = [
     ),
 ];
 
-fn all_labelled(alloc: Global, table: &[(&[u8], &[Reported])]) -> bool {
+fn all_labelled(alloc: Global, table: &[(&[u8], &[InstrRow])]) -> bool {
     for (code, instrs) in table {
         if !is_labelled(alloc, code, &[], instrs, &[]) {
             return false;
@@ -218,7 +218,7 @@ fn labelled(rt: HostRuntime) {
 // Code whose instructions start at 0, 2, 3 and 4, and the instructions.
 const PUSH_POP: &[u8] = &[BIPUSH, 7, POP, NOP, RETURN];
 
-const PUSH_POP_Reported: &[Reported] = &[
+const PUSH_POP_REPORTED: &[InstrRow] = &[
     (b'p', BIPUSH, 7, 0),
     (b's', POP, 0, 0),
     (b's', NOP, 0, 0),
@@ -226,47 +226,47 @@ const PUSH_POP_Reported: &[Reported] = &[
 ];
 
 // Code and rows, and the instructions and ranges.
-const RANGES: [(&[u8], &[Row], &[Reported], &[Range]); 8] = [
+const RANGES: [(&[u8], &[RowNumbers], &[InstrRow], &[Range]); 8] = [
     (
         PUSH_POP,
         &[(0, 5, 0, 0)],
-        PUSH_POP_Reported,
+        PUSH_POP_REPORTED,
         &[(0, 4, 0, 0)],
     ),
     (
         PUSH_POP,
         &[(0, 2, 2, 0)],
-        PUSH_POP_Reported,
+        PUSH_POP_REPORTED,
         &[(0, 1, 1, 0)],
     ),
     (
         PUSH_POP,
         &[(2, 5, 4, 7)],
-        PUSH_POP_Reported,
+        PUSH_POP_REPORTED,
         &[(1, 4, 3, 7)],
     ),
     (
         PUSH_POP,
         &[(0, 4, 3, 65535)],
-        PUSH_POP_Reported,
+        PUSH_POP_REPORTED,
         &[(0, 3, 2, 65535)],
     ),
     (
         PUSH_POP,
         &[(4, 5, 0, 0)],
-        PUSH_POP_Reported,
+        PUSH_POP_REPORTED,
         &[(3, 4, 0, 0)],
     ),
     (
         PUSH_POP,
         &[(0, 3, 2, 1), (2, 4, 3, 2)],
-        PUSH_POP_Reported,
+        PUSH_POP_REPORTED,
         &[(0, 2, 1, 1), (1, 3, 2, 2)],
     ),
     (
         PUSH_POP,
         &[(0, 5, 0, 0), (0, 5, 0, 0)],
-        PUSH_POP_Reported,
+        PUSH_POP_REPORTED,
         &[(0, 4, 0, 0), (0, 4, 0, 0)],
     ),
     (
@@ -277,7 +277,7 @@ const RANGES: [(&[u8], &[Row], &[Reported], &[Range]); 8] = [
     ),
 ];
 
-fn all_with_ranges(alloc: Global, table: &[(&[u8], &[Row], &[Reported], &[Range])]) -> bool {
+fn all_with_ranges(alloc: Global, table: &[(&[u8], &[RowNumbers], &[InstrRow], &[Range])]) -> bool {
     for (code, rows, instrs, ranges) in table {
         if !is_labelled(alloc, code, rows, instrs, ranges) {
             return false;
@@ -438,7 +438,7 @@ fn lookups(rt: HostRuntime) {
 
 // Code and rows that have no labels, and why.
 #[rattlefmt::skip]
-const REFUSED: [(&[u8], &[Row], CodeError); 42] = [
+const REFUSED: [(&[u8], &[RowNumbers], CodeError); 42] = [
     (&[], &[(0, 0, 0, 0)], CodeError::Range(0)),
     (&[GOTO, 0, 1], &[], CodeError::Target(0)),
     (&[GOTO, 0, 4, BIPUSH, 7, RETURN], &[], CodeError::Target(0)),
@@ -547,7 +547,7 @@ const REFUSED: [(&[u8], &[Row], CodeError); 42] = [
     (&[0xcb, GOTO, 0, 1], &[(9, 9, 9, 9)], CodeError::Op(0)),
 ];
 
-fn all_refused(alloc: Global, table: &[(&[u8], &[Row], CodeError)]) -> bool {
+fn all_refused(alloc: Global, table: &[(&[u8], &[RowNumbers], CodeError)]) -> bool {
     for (code, rows, wanted) in table {
         if !is_refused(alloc, code, rows, *wanted) {
             return false;

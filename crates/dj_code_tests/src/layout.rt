@@ -6,16 +6,16 @@ ghost use Rattle.dj_labels.specs.trusted.Labels.{IsNumber, HasNumbers};
 ghost use Rattle.dj_labels.specs.Labels.{IsWellFormed};
 
 use crate::opcodes::*;
-use crate::rows::{Row, has_rows, laid_again};
+use crate::rows::{RowNumbers, has_rows, laid_again};
 use dj_labels::{Labelled, Ranges};
 use dj_layout::{Laid, LayError, lay_out};
-use dj_ops::{Instr, Instrs, NoMemory, Targets};
-use std::alloc::Global;
+use dj_ops::{Instr, Instrs, Targets};
+use std::alloc::{AllocError, Global};
 
 // This many of an instruction, by a letter for the family, the opcode, and up to two numbers.
 type Repeated = (usize, (u8, u8, i64, i64));
 
-fn is_laid(alloc: Global, code: &[u8], starts: &[u32], rows: &[Row]) -> bool {
+fn is_laid(alloc: Global, code: &[u8], starts: &[u32], rows: &[RowNumbers]) -> bool {
     match laid_again(alloc, code, rows) {
         Ok(laid) => {
             laid.code.as_slice() == code
@@ -28,7 +28,7 @@ fn is_laid(alloc: Global, code: &[u8], starts: &[u32], rows: &[Row]) -> bool {
 
 // Bytes, the starts of their instructions, and rows.
 #[rattlefmt::skip]
-const LAID: [(&[u8], &[u32], &[Row]); 25] = [
+const LAID: [(&[u8], &[u32], &[RowNumbers]); 25] = [
     (&[ALOAD_0, ARETURN], &[0, 1], &[]),
     (&[GOTO, 0, 0], &[0], &[]),
     (
@@ -254,7 +254,7 @@ const LAID: [(&[u8], &[u32], &[Row]); 25] = [
     ),
 ];
 
-fn all_laid(alloc: Global, table: &[(&[u8], &[u32], &[Row])]) -> bool {
+fn all_laid(alloc: Global, table: &[(&[u8], &[u32], &[RowNumbers])]) -> bool {
     for (code, starts, rows) in table {
         if !is_laid(alloc, code, starts, rows) {
             return false;
@@ -283,7 +283,7 @@ fn longest_code(rt: HostRuntime) {
     assert!(rt; matches!(longest(rt.alloc()), Ok(true)));
 }
 
-fn instr_of(alloc: Global, reported: (u8, u8, i64, i64)) -> Result<Instr, NoMemory> {
+fn instr_of(alloc: Global, reported: (u8, u8, i64, i64)) -> Result<Instr, AllocError> {
     let (letter, op, a, b) = reported;
     match letter {
         b'b' => Ok(Instr::Branch { op, target: a }),
@@ -301,7 +301,7 @@ fn instr_of(alloc: Global, reported: (u8, u8, i64, i64)) -> Result<Instr, NoMemo
     }
 }
 
-fn instrs_of(alloc: Global, parts: &[Repeated]) -> Result<Instrs, NoMemory> {
+fn instrs_of(alloc: Global, parts: &[Repeated]) -> Result<Instrs, AllocError> {
     let mut instrs = Instrs::new(alloc);
     for &(count, reported) in parts {
         for _ in 0..count {

@@ -1,9 +1,9 @@
 use crate::opcodes::*;
-use crate::reported::{Reported, has_pairs, has_targets, reported};
+use crate::reported::{InstrRow, has_pairs, has_targets, reported};
 use dj_ops::{OpError, read_instr};
 use std::alloc::Global;
 
-fn is_read(alloc: Global, code: &[u8], at: u32, wanted: Reported, after: u32) -> bool {
+fn is_read(alloc: Global, code: &[u8], at: u32, wanted: InstrRow, after: u32) -> bool {
     if (at as usize) < code.len() && code.len() < 99 {
         match read_instr(alloc, code, at) {
             Ok((instr, next)) => reported(&instr) == wanted && next == after,
@@ -68,7 +68,7 @@ fn families(rt: HostRuntime) {
 }
 
 // Code and an address, the instruction there, and the address after it.
-const READ: [(&[u8], u32, Reported, u32); 47] = [
+const READ: [(&[u8], u32, InstrRow, u32); 47] = [
     (&[BIPUSH, 0x80], 0, (b'p', BIPUSH, -128, 0), 2),
     (&[BIPUSH, 0x7f], 0, (b'p', BIPUSH, 127, 0), 2),
     (&[SIPUSH, 0x80, 0], 0, (b'p', SIPUSH, -32768, 0), 3),
@@ -223,7 +223,7 @@ const READ: [(&[u8], u32, Reported, u32); 47] = [
     ),
 ];
 
-fn all_read(alloc: Global, table: &[(&[u8], u32, Reported, u32)]) -> bool {
+fn all_read(alloc: Global, table: &[(&[u8], u32, InstrRow, u32)]) -> bool {
     for (code, at, wanted, after) in table {
         if !is_read(alloc, code, *at, *wanted, *after) {
             return false;
@@ -239,7 +239,7 @@ fn instructions(rt: HostRuntime) {
 
 // Code and an address, the table there, its targets, and the address after it.
 #[rattlefmt::skip]
-const TABLES: [(&[u8], u32, Reported, &[i64], u32); 11] = [
+const TABLES: [(&[u8], u32, InstrRow, &[i64], u32); 11] = [
     (
         &[
             TABLESWITCH, 0xee, 0xee, 0xee,
@@ -377,7 +377,7 @@ fn is_table(
     alloc: Global,
     code: &[u8],
     at: u32,
-    wanted: Reported,
+    wanted: InstrRow,
     targets: &[i64],
     after: u32,
 ) -> bool {
@@ -393,7 +393,7 @@ fn is_table(
     }
 }
 
-fn all_tables(alloc: Global, table: &[(&[u8], u32, Reported, &[i64], u32)]) -> bool {
+fn all_tables(alloc: Global, table: &[(&[u8], u32, InstrRow, &[i64], u32)]) -> bool {
     for (code, at, wanted, targets, after) in table {
         if !is_table(alloc, code, *at, *wanted, targets, *after) {
             return false;
@@ -409,7 +409,7 @@ fn tables(rt: HostRuntime) {
 
 // Code and an address, the lookup there, its pairs, and the address after it.
 #[rattlefmt::skip]
-const LOOKUPS: [(&[u8], u32, Reported, &[(i32, i64)], u32); 9] = [
+const LOOKUPS: [(&[u8], u32, InstrRow, &[(i32, i64)], u32); 9] = [
     (
         &[LOOKUPSWITCH, 0xee, 0xee, 0xee, 0, 0, 0, 20, 0, 0, 0, 0],
         0,
@@ -512,7 +512,7 @@ fn is_lookup(
     alloc: Global,
     code: &[u8],
     at: u32,
-    wanted: Reported,
+    wanted: InstrRow,
     pairs: &[(i32, i64)],
     after: u32,
 ) -> bool {
@@ -528,7 +528,7 @@ fn is_lookup(
     }
 }
 
-fn all_lookups(alloc: Global, table: &[(&[u8], u32, Reported, &[(i32, i64)], u32)]) -> bool {
+fn all_lookups(alloc: Global, table: &[(&[u8], u32, InstrRow, &[(i32, i64)], u32)]) -> bool {
     for (code, at, wanted, pairs, after) in table {
         if !is_lookup(alloc, code, *at, *wanted, pairs, *after) {
             return false;

@@ -1,9 +1,9 @@
 use crate::opcodes::*;
-use crate::reported::{Reported, has_pairs, has_targets, reported};
+use crate::reported::{InstrRow, has_pairs, has_targets, reported};
 use dj_ops::{Instr, OpError, length, next_address, read_instr, write_instr};
 use std::alloc::Global;
 
-// What is written of the instruction that these bytes are at the address, where it is as long as its length says.
+// The instruction that these bytes spell at the address, and what is written for it; none where it isn't as long as `length` says.
 fn written_at(alloc: Global, at: u32, bytes: &[u8]) -> Result<Option<(Instr, Vec<u8>)>, OpError> {
     let mut code = Vec::from_elem(alloc, 0, at as usize)?;
     code.extend_from_slice(bytes)?;
@@ -19,7 +19,7 @@ fn written_at(alloc: Global, at: u32, bytes: &[u8]) -> Result<Option<(Instr, Vec
     Ok(None)
 }
 
-fn is_written(alloc: Global, at: u32, bytes: &[u8], wanted: Reported) -> bool {
+fn is_written(alloc: Global, at: u32, bytes: &[u8], wanted: InstrRow) -> bool {
     match written_at(alloc, at, bytes) {
         Ok(Some((instr, out))) => reported(&instr) == wanted && out.as_slice() == bytes,
         _ => false,
@@ -27,7 +27,7 @@ fn is_written(alloc: Global, at: u32, bytes: &[u8], wanted: Reported) -> bool {
 }
 
 // An address, the bytes that are written there, and the instruction.
-const WRITTEN: [(u32, &[u8], Reported); 37] = [
+const WRITTEN: [(u32, &[u8], InstrRow); 37] = [
     (0, &[NOP], (b's', NOP, 0, 0)),
     (0, &[ACONST_NULL], (b's', ACONST_NULL, 0, 0)),
     (0, &[DCONST_1], (b's', DCONST_1, 0, 0)),
@@ -75,7 +75,7 @@ const WRITTEN: [(u32, &[u8], Reported); 37] = [
     (0, &[WIDE, IINC, 0, 1, 0xff, 0xff], (b'I', IINC, 1, -1)),
 ];
 
-const WRITTEN_MORE: [(u32, &[u8], Reported); 37] = [
+const WRITTEN_MORE: [(u32, &[u8], InstrRow); 37] = [
     (0, &[IFEQ, 0, 0], (b'b', IFEQ, 0, 0)),
     (10, &[IFNE, 0xff, 0xf9], (b'b', IFNE, 3, 0)),
     (0, &[GOTO, 0x7f, 0xff], (b'b', GOTO, 32767, 0)),
@@ -139,7 +139,7 @@ const WRITTEN_MORE: [(u32, &[u8], Reported); 37] = [
     ),
 ];
 
-fn all_written(alloc: Global, table: &[(u32, &[u8], Reported)]) -> bool {
+fn all_written(alloc: Global, table: &[(u32, &[u8], InstrRow)]) -> bool {
     for (at, bytes, wanted) in table {
         if !is_written(alloc, *at, bytes, *wanted) {
             return false;
@@ -158,7 +158,7 @@ fn is_written_table(
     alloc: Global,
     at: u32,
     bytes: &[u8],
-    wanted: Reported,
+    wanted: InstrRow,
     targets: &[i64],
 ) -> bool {
     match written_at(alloc, at, bytes) {
@@ -171,7 +171,7 @@ fn is_written_table(
 
 // An address, the bytes that are written there, the table, and its targets.
 #[rattlefmt::skip]
-const WRITTEN_TABLES: [(u32, &[u8], Reported, &[i64]); 30] = [
+const WRITTEN_TABLES: [(u32, &[u8], InstrRow, &[i64]); 30] = [
     (
         0,
         &[
@@ -474,7 +474,7 @@ const WRITTEN_TABLES: [(u32, &[u8], Reported, &[i64]); 30] = [
     ),
 ];
 
-fn all_written_tables(alloc: Global, table: &[(u32, &[u8], Reported, &[i64])]) -> bool {
+fn all_written_tables(alloc: Global, table: &[(u32, &[u8], InstrRow, &[i64])]) -> bool {
     for (at, bytes, wanted, targets) in table {
         if !is_written_table(alloc, *at, bytes, *wanted, targets) {
             return false;
@@ -492,7 +492,7 @@ fn is_written_lookup(
     alloc: Global,
     at: u32,
     bytes: &[u8],
-    wanted: Reported,
+    wanted: InstrRow,
     pairs: &[(i32, i64)],
 ) -> bool {
     match written_at(alloc, at, bytes) {
@@ -505,7 +505,7 @@ fn is_written_lookup(
 
 // An address, the bytes that are written there, the lookup, and its pairs.
 #[rattlefmt::skip]
-const WRITTEN_LOOKUPS: [(u32, &[u8], Reported, &[(i32, i64)]); 18] = [
+const WRITTEN_LOOKUPS: [(u32, &[u8], InstrRow, &[(i32, i64)]); 18] = [
     (
         0,
         &[LOOKUPSWITCH, 0, 0, 0, 0, 0, 0, 5, 0, 0, 0, 0],
@@ -676,7 +676,7 @@ const WRITTEN_LOOKUPS: [(u32, &[u8], Reported, &[(i32, i64)]); 18] = [
     ),
 ];
 
-fn all_written_lookups(alloc: Global, table: &[(u32, &[u8], Reported, &[(i32, i64)])]) -> bool {
+fn all_written_lookups(alloc: Global, table: &[(u32, &[u8], InstrRow, &[(i32, i64)])]) -> bool {
     for (at, bytes, wanted, pairs) in table {
         if !is_written_lookup(alloc, *at, bytes, *wanted, pairs) {
             return false;

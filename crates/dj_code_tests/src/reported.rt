@@ -2,9 +2,9 @@ use crate::opcodes::*;
 use dj_ops::Instr;
 
 // A letter for the family, the opcode, and up to two numbers.
-pub type Reported = (u8, u8, i64, i64);
+pub type InstrRow = (u8, u8, i64, i64);
 
-pub fn reported(instr: &Instr) -> Reported {
+pub fn reported(instr: &Instr) -> InstrRow {
     match instr {
         Instr::Simple { op } => (b's', *op, 0, 0),
         Instr::Push { op, value } => (b'p', *op, i64::from(*value), 0),

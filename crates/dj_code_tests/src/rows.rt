@@ -3,13 +3,13 @@ ghost use Rattle.dj_labels.specs.Labels.{IsWellFormed};
 
 use dj_labels::{CodeError, Labelled, label, labelled_is_well_formed};
 use dj_layout::{Laid, LayError, lay_out};
-use dj_ops::{CatchRow, CatchRows, NoMemory};
-use std::alloc::Global;
+use dj_ops::{CatchRow, CatchRows};
+use std::alloc::{AllocError, Global};
 
 // A row: its start, its end, its handler, and the class that is caught.
-pub type Row = (u16, u16, u16, u16);
+pub type RowNumbers = (u16, u16, u16, u16);
 
-pub fn rows_of(alloc: Global, rows: &[Row]) -> Result<CatchRows, NoMemory> {
+pub fn rows_of(alloc: Global, rows: &[RowNumbers]) -> Result<CatchRows, AllocError> {
     let mut table = CatchRows::new(alloc);
     for &(start, end, handler, catch_type) in rows {
         table.push(CatchRow {
@@ -22,7 +22,7 @@ pub fn rows_of(alloc: Global, rows: &[Row]) -> Result<CatchRows, NoMemory> {
     Ok(table)
 }
 
-pub fn has_rows(table: &[CatchRow], wanted: &[Row]) -> bool {
+pub fn has_rows(table: &[CatchRow], wanted: &[RowNumbers]) -> bool {
     if table.len() != wanted.len() {
         return false;
     }
@@ -35,7 +35,7 @@ pub fn has_rows(table: &[CatchRow], wanted: &[Row]) -> bool {
     true
 }
 
-pub fn labels_of(alloc: Global, code: &[u8], rows: &[Row]) -> Result<Labelled, CodeError>
+pub fn labels_of(alloc: Global, code: &[u8], rows: &[RowNumbers]) -> Result<Labelled, CodeError>
     ensures { IfOk result IsWellFormed }
 {
     let table = rows_of(alloc, rows)?;
@@ -48,7 +48,7 @@ pub fn labels_of(alloc: Global, code: &[u8], rows: &[Row]) -> Result<Labelled, C
 }
 
 // What the labels of code are laid out as.
-pub fn laid_again(alloc: Global, code: &[u8], rows: &[Row]) -> Result<Laid, LayError> {
+pub fn laid_again(alloc: Global, code: &[u8], rows: &[RowNumbers]) -> Result<Laid, LayError> {
     match labels_of(alloc, code, rows) {
         Ok(labels) => lay_out(alloc, &labels),
         Err(_) => Err(LayError::Memory),

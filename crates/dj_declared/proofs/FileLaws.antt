@@ -24,7 +24,7 @@ use Rattle.dj_declared.specs.declared.members.MemberBody.TheVariants as bodies
 use Rattle.dj_declared.specs.declared.members.MemberRow.{MemberRow}
 use Rattle.dj_declared.specs.trusted.Files.{desc_in, name_in, no_code, is_bodiless, declared_method, declared_field}
 use Rattle.dj_declared.specs.Members.{IsDescriptor}
-use Rattle.dj_declared.specs.Texts.{Numbers, number_in, text_in, Keep}
+use Rattle.dj_declared.specs.Texts.{Numbers, number_in, text_in, NumbersKeep}
 use Rattle.dj_declared.specs.MemberRows.{body_of, row_method, row_field, IsSound, AreSound, number_at, AreNumbered, IsNamed, AreNamed, kept_body, method_row_of, field_row_of}
 use Rattle.dj_declared.proofs.DescTests.{is_descriptor, read_descriptor}
 use Rattle.dj_declared.proofs.TextLaws.{leads_back}
@@ -49,7 +49,7 @@ reported_text : (found : Option Name) (text reported : Name) → found ≡ Some 
 reported_text found text reported e f = same_Some text reported (sym e ∙ f)
 
 -- one number more
-pub numbered_more : (pool : List Constant) (places : List (Option ℕ)) (index number : ℕ) (text : Name) (old new : Numbers) → AreNumbered pool places old → Keep old new → text_at pool index ≡ Some text → number_in new text ≡ Some number
+pub numbered_more : (pool : List Constant) (places : List (Option ℕ)) (index number : ℕ) (text : Name) (old new : Numbers) → AreNumbered pool places old → NumbersKeep old new → text_at pool index ≡ Some text → number_in new text ≡ Some number
     → AreNumbered pool (set places index (Some number)) new
 numbered_more pool places index number text old new before keeps at is = record {
   rooms = length-set places index (Some number) ∙ before.rooms;

@@ -10,7 +10,7 @@ use Rattle.std.proofs.lemmas.Option.{get_or_from_slice_get}
 use Rattle.dj_names.specs.trusted.Types.{Name}
 use Rattle.dj_pool.specs.trusted.Pool.{Constant, text_at}
 use Rattle.dj_class.specs.trusted.Names.{names_in}
-use Rattle.dj_declared.specs.Lists.{listed_at, AreListed, Keep, AreCopies}
+use Rattle.dj_declared.specs.Lists.{listed_at, AreListed, NamesKeep, AreCopies}
 
 first_some : (found : Option Name) (name : Name) (rest : List (Option Name)) (names : List (Option Name)) → found ∷ rest ≡ Some name ∷ names → found ≡ Some name
 first_some found name rest names e = cc
@@ -32,7 +32,7 @@ pub listed_there : (names : List Name) (places : List ℕ) (listed : List Name) 
 listed_there names places listed are = subst (λ (ns : List Name). AreListed names places ns) (sym (listed_is names places listed are)) are
 
 -- more names may come
-pub listed_kept : (old new : List Name) → Keep old new → (places : List ℕ) (listed : List Name) → AreListed old places listed → AreListed new places listed
+pub listed_kept : (old new : List Name) → NamesKeep old new → (places : List ℕ) (listed : List Name) → AreListed old places listed → AreListed new places listed
 listed_kept old new keep [] [] are = refl
 listed_kept old new keep [] (name ∷ listed) are = absurd cc
 listed_kept old new keep (place ∷ places) [] are = absurd cc
@@ -61,7 +61,7 @@ module _ (name_of : ℕ → Option Name) (indexes : List ℕ) (i index : ℕ) (w
       ∙ ap (λ (names : List Name). listed_by name_of (take i indexes) ++ names) (append-nil (names_in (name_of (get_or indexes i 0))))
       ∙ ap (λ (k : ℕ). listed_by name_of (take i indexes) ++ names_in (name_of k)) (sym is)
 
-  module _ (old new : List Name) (places : List ℕ) (keep : Keep old new) (before : AreListed old places (listed_by name_of (take i indexes))) where
+  module _ (old new : List Name) (places : List ℕ) (keep : NamesKeep old new) (before : AreListed old places (listed_by name_of (take i indexes))) where
     kept : AreListed new places (listed_by name_of (take i indexes))
     kept = listed_kept old new keep places (listed_by name_of (take i indexes)) before
 
@@ -85,7 +85,7 @@ module _ (name_of : ℕ → Option Name) (indexes : List ℕ) (i index : ℕ) (w
 
 -- ---- a name more
 
-kept_by_more : (old : List Name) (name : Name) → Keep old (old ++ name ∷ [])
+kept_by_more : (old : List Name) (name : Name) → NamesKeep old (old ++ name ∷ [])
 kept_by_more [] name place other at = absurd cc
 kept_by_more (first ∷ old) name zero other at = at
 kept_by_more (first ∷ old) name (suc place) other at = kept_by_more old name place other at
@@ -94,19 +94,19 @@ last_named : (old : List Name) (name : Name) → slice_get (old ++ name ∷ []) 
 last_named [] name = refl
 last_named (first ∷ old) name = last_named old name
 
-pub kept_by_added : (old new : List Name) (name : Name) → new ≡ old ++ name ∷ [] → Keep old new
-kept_by_added old new name added = subst (λ (names : List Name). Keep old names) (sym added) (kept_by_more old name)
+pub kept_by_added : (old new : List Name) (name : Name) → new ≡ old ++ name ∷ [] → NamesKeep old new
+kept_by_added old new name added = subst (λ (names : List Name). NamesKeep old names) (sym added) (kept_by_more old name)
 
 pub named_by_added : (old new : List Name) (name : Name) (place : ℕ) → new ≡ old ++ name ∷ [] → place ≡ length old → slice_get new place ≡ Some name
 named_by_added old new name place added is = ap (slice_get new) is ∙ ap (λ (names : List Name). slice_get names (length old)) added ∙ last_named old name
 
 -- ---- copies of a pool's texts
 
-held : (old new : List Name) → Keep old new → (found : Option Name) (place : ℕ) → option_map Some found ≡ Some (slice_get old place) → option_map Some found ≡ Some (slice_get new place)
+held : (old new : List Name) → NamesKeep old new → (found : Option Name) (place : ℕ) → option_map Some found ≡ Some (slice_get old place) → option_map Some found ≡ Some (slice_get new place)
 held old new keep None place e = absurd cc
 held old new keep (Some name) place e = ap Some (sym (keep place name cc))
 
-pub copies_more : (pool : List Constant) (old new : List Name) (places : List (Option ℕ)) (index place : ℕ) (text : Name) → AreCopies pool old places → Keep old new → index < length places → text_at pool index ≡ Some text → slice_get new place ≡ Some text
+pub copies_more : (pool : List Constant) (old new : List Name) (places : List (Option ℕ)) (index place : ℕ) (text : Name) → AreCopies pool old places → NamesKeep old new → index < length places → text_at pool index ≡ Some text → slice_get new place ≡ Some text
     → AreCopies pool new (set places index (Some place))
 copies_more pool old new places index place text before keep within at named = record {
   rooms = length-set places index (Some place) ∙ before.rooms;

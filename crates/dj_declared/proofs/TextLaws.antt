@@ -13,7 +13,7 @@ use Rattle.std.proofs.lemmas.List.{length_push, length-drop, get_or_append_left,
 use Rattle.std.proofs.lemmas.Option.{same_Some, none-some}
 use Rattle.std.proofs.Math.Seq.{get_or-append_seam, drop-append_seam}
 use Rattle.dj_names.specs.trusted.Types.{Name, same_name}
-use Rattle.dj_declared.specs.Texts.{Numbers, number_in, text_in, LeadBack, Keep, AreAscending, AreBefore, texts_from, AreEnds, start_at}
+use Rattle.dj_declared.specs.Texts.{Numbers, number_in, text_in, LeadBack, NumbersKeep, AreAscending, AreBefore, texts_from, AreEnds, start_at}
 use Rattle.dj_declared.proofs.DescTests.{same_name_is, same_name_itself}
 
 abbrev next : ℕ → ℕ
@@ -48,7 +48,7 @@ kept_by_more (first ∷ old) more text number is = by (same_name first text) (nu
   by false None later kept is = absurd (none-some number is)
   by false (Some k) later kept is = ap (option_map next) (kept k refl) ∙ is
 
-pub kept_by_added : (old new : Numbers) (more : Name) → new ≡ old ++ more ∷ [] → Keep old new
+pub kept_by_added : (old new : Numbers) (more : Name) → new ≡ old ++ more ∷ [] → NumbersKeep old new
 kept_by_added old new more added text number is = ap (λ (texts : Numbers). number_in texts text) added ∙ kept_by_more old more text number is
 
 -- ---- by the order
@@ -332,7 +332,7 @@ module _ (ends bytes new_ends new_bytes : List ℕ) (text : Name) (number : ℕ)
     ascend = ascend_more (texts_from 0 ends bytes) (texts_from 0 new_ends new_bytes) text before one_text holds.ascend;
   }
 
-  pub keep_more : Keep (texts_from 0 ends bytes) (texts_from 0 new_ends new_bytes)
+  pub keep_more : NumbersKeep (texts_from 0 ends bytes) (texts_from 0 new_ends new_bytes)
   keep_more = kept_by_added (texts_from 0 ends bytes) (texts_from 0 new_ends new_bytes) text one_text
 
   pub reported_more : number ≡ length ends → number_in (texts_from 0 new_ends new_bytes) text ≡ Some number

@@ -13,10 +13,10 @@ abbrev pub AreListed : List Name → List ℕ → List Name → Type 0
 AreListed names places listed = map (slice_get names) places ≡ map Some listed
 
 -- each name keeps its place
-abbrev pub Keep : List Name → List Name → Type 0
-Keep old new = (place : ℕ) (name : Name) → slice_get old place ≡ Some name → slice_get new place ≡ Some name
+abbrev pub NamesKeep : List Name → List Name → Type 0
+NamesKeep old new = (place : ℕ) (name : Name) → slice_get old place ≡ Some name → slice_get new place ≡ Some name
 
--- each index of the pool has a room, and the text at an index is at the place that is kept for it
+-- there is an entry for each index of the pool; where it has a place, the name at that place is the text at the index
 pub record AreCopies (pool : List Constant) (names : List Name) (places : List (Option ℕ)) : Type 0 where
   pub rooms : length places ≡ length pool + 1
   pub reported : (index place : ℕ) → get_or places index None ≡ Some place → option_map Some (text_at pool index) ≡ Some (slice_get names place)

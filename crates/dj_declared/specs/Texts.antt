@@ -23,8 +23,8 @@ abbrev pub LeadBack : Numbers → Type 0
 LeadBack numbers = (text : Name) (number : ℕ) → number_in numbers text ≡ Some number → text_in numbers number ≡ text
 
 -- each text keeps its number
-abbrev pub Keep : Numbers → Numbers → Type 0
-Keep old new = (text : Name) (number : ℕ) → number_in old text ≡ Some number → number_in new text ≡ Some number
+abbrev pub NumbersKeep : Numbers → Numbers → Type 0
+NumbersKeep old new = (text : Name) (number : ℕ) → number_in old text ≡ Some number → number_in new text ≡ Some number
 
 -- ---- in one list of bytes
 
@@ -36,7 +36,7 @@ AreAscending texts = (i j : ℕ) → i < j → j < length texts → slice_cmp na
 abbrev pub AreBefore : Numbers → Name → Type 0
 AreBefore texts text = (place : ℕ) → place < length texts → slice_cmp nat_cmp (text_in texts place) text ≡ Less
 
--- the texts that end there, of which the first begins at a place and each other one where that before it ends
+-- the texts that end at these places: the first begins at `start`, and each other one where the text before it ends
 abbrev pub texts_from : ℕ → List ℕ → List ℕ → List Name
 texts_from start [] bytes = []
 texts_from start (end ∷ ends) bytes = take (end - start) (drop start bytes) ∷ texts_from end ends bytes

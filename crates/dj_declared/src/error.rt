@@ -30,13 +30,3 @@ impl<T: Drop> From<AllocFailed<T>> for DeclareError {
         DeclareError::Memory
     }
 }
-
-impl From<dj_names::NoMemory> for DeclareError {
-    ghost use Rattle.dj_declared.specs.declared.error.DeclareError.TheVariants.{Memory};
-
-    ghost from_gives = { λ _ e. e ≡ Memory };
-
-    fn from(_error: dj_names::NoMemory) -> DeclareError {
-        DeclareError::Memory
-    }
-}

@@ -4,7 +4,7 @@ ghost use Rattle.std.specs.List.{flat_map};
 ghost use Rattle.std.specs.Option.{option_map};
 ghost use Rattle.dj_pool.specs.trusted.Pool.{class_name_at, class_text_of, constant_at, text_at};
 ghost use Rattle.dj_class.specs.trusted.Names.{names_in};
-ghost use Rattle.dj_declared.specs.Lists.{listed_at, AreListed, Keep, AreCopies};
+ghost use Rattle.dj_declared.specs.Lists.{listed_at, AreListed, NamesKeep, AreCopies};
 
 use crate::error::DeclareError;
 use dj_names::Name;
@@ -84,7 +84,7 @@ fn add_copy(
     requires copies { AreCopies pool.now copies.old.names copies.old.places.items }
     requires text { text_at pool.now index ≡ Some text.now }
     ensures copies { OnOk result (AreCopies pool.now copies.new.names copies.new.places.items) }
-    ensures keep { OnOk result (Keep copies.old.names copies.new.names) }
+    ensures keep { OnOk result (NamesKeep copies.old.names copies.new.names) }
     ensures place { IfOk result (λ place. slice_get copies.new.names place ≡ Some text.now) }
 {
     let place = add_name(alloc, &mut copies.names, text)?;
@@ -101,7 +101,7 @@ fn copied(
 ) -> Result<Option<u32>, DeclareError>
     requires { AreCopies pool.now copies.old.names copies.old.places.items }
     ensures copies { OnOk result (AreCopies pool.now copies.new.names copies.new.places.items) }
-    ensures keep { OnOk result (Keep copies.old.names copies.new.names) }
+    ensures keep { OnOk result (NamesKeep copies.old.names copies.new.names) }
     ensures place { IfOk result (λ place. option_map (slice_get copies.new.names) place ≡ option_map Some (text_at pool.now index)) }
 {
     if let Some(place) = place_of(copies, index) {
@@ -122,7 +122,7 @@ fn copied_class(
 ) -> Result<Option<u32>, DeclareError>
     requires { AreCopies pool.now copies.old.names copies.old.places.items }
     ensures copies { OnOk result (AreCopies pool.now copies.new.names copies.new.places.items) }
-    ensures keep { OnOk result (Keep copies.old.names copies.new.names) }
+    ensures keep { OnOk result (NamesKeep copies.old.names copies.new.names) }
     ensures place { IfOk result (λ place. option_map (slice_get copies.new.names) place ≡ option_map Some (class_name_at pool.now index)) }
 {
     match class_text(pool, index) {

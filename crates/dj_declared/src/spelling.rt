@@ -3,8 +3,8 @@ ghost use Rattle.std.specs.Prelude.{◌≡◌, ◌++◌, IfOk, OnOk, replicate};
 ghost use Rattle.std.specs.List.{flat_map};
 ghost use Rattle.dj_names.specs.trusted.Descriptors.{base_letter, of_text, type_text, return_text, desc_text};
 
-use dj_names::{Base, Desc, Name, NoMemory, Of, Ty};
-use std::alloc::Global;
+use dj_names::{Base, Desc, Name, Of, Ty};
+use std::alloc::{AllocError, Global};
 
 // The letter of a base type (JVMS table 4.3-A).
 fn letter_of(base: Base) -> &'static [u8]
@@ -23,7 +23,7 @@ fn letter_of(base: Base) -> &'static [u8]
 }
 
 // Appends an element's type.
-fn put_of(text: &mut Name, of: &Of) -> Result<(), NoMemory>
+fn put_of(text: &mut Name, of: &Of) -> Result<(), AllocError>
     ensures { OnOk result (text.new ≡ text.old ++ of_text of.now) }
 {
     match of {
@@ -37,7 +37,7 @@ fn put_of(text: &mut Name, of: &Of) -> Result<(), NoMemory>
 }
 
 // Appends this many brackets.
-fn put_brackets(text: &mut Name, dims: u8) -> Result<(), NoMemory>
+fn put_brackets(text: &mut Name, dims: u8) -> Result<(), AllocError>
     ensures { OnOk result (text.new ≡ text.old ++ replicate dims 91) }
 {
     for _ in 0..dims {
@@ -47,7 +47,7 @@ fn put_brackets(text: &mut Name, dims: u8) -> Result<(), NoMemory>
 }
 
 // Appends a type.
-fn put_type(text: &mut Name, ty: &Ty) -> Result<(), NoMemory>
+fn put_type(text: &mut Name, ty: &Ty) -> Result<(), AllocError>
     ensures { OnOk result (text.new ≡ text.old ++ type_text ty.now) }
 {
     put_brackets(text, ty.dims)?;
@@ -55,7 +55,7 @@ fn put_type(text: &mut Name, ty: &Ty) -> Result<(), NoMemory>
 }
 
 // Appends types, in order.
-fn put_types(text: &mut Name, types: &[Ty]) -> Result<(), NoMemory>
+fn put_types(text: &mut Name, types: &[Ty]) -> Result<(), AllocError>
     ensures { OnOk result (text.new ≡ text.old ++ flat_map type_text types.now) }
 {
     for ty in types {
@@ -65,7 +65,7 @@ fn put_types(text: &mut Name, types: &[Ty]) -> Result<(), NoMemory>
 }
 
 // Appends what a method returns.
-fn put_result(text: &mut Name, ret: &Option<Ty>) -> Result<(), NoMemory>
+fn put_result(text: &mut Name, ret: &Option<Ty>) -> Result<(), AllocError>
     ensures { OnOk result (text.new ≡ text.old ++ return_text ret.now) }
 {
     match ret {
@@ -75,7 +75,7 @@ fn put_result(text: &mut Name, ret: &Option<Ty>) -> Result<(), NoMemory>
 }
 
 /// The text of a type.
-pub fn spell_type(alloc: Global, ty: &Ty) -> Result<Name, NoMemory>
+pub fn spell_type(alloc: Global, ty: &Ty) -> Result<Name, AllocError>
     ensures { IfOk result (λ text. text ≡ type_text ty.now) }
 {
     let mut text = Name::new(alloc);
@@ -84,7 +84,7 @@ pub fn spell_type(alloc: Global, ty: &Ty) -> Result<Name, NoMemory>
 }
 
 /// The text of a descriptor.
-pub(crate) fn spell_desc(alloc: Global, desc: &Desc) -> Result<Name, NoMemory>
+pub(crate) fn spell_desc(alloc: Global, desc: &Desc) -> Result<Name, AllocError>
     ensures { IfOk result (λ text. text ≡ desc_text desc.now) }
 {
     let mut text = Name::new(alloc);

@@ -139,7 +139,7 @@ impl ClassMembers {
         }
     }
 
-    /// Which method of the library the method at a place is; none of one with code, and of one with neither.
+    /// Which method of the library the method at a place is; none where it has code or is abstract.
     pub(crate) fn method_native(&self, place: u32) -> Option<NativeId>
         requires { place < length (methods_of self.now) }
         ensures { Some result ≡ option_map method_native (slice_get (methods_of self.now) place) }

@@ -2,7 +2,7 @@
 ghost use Rattle.std.specs.Prelude.{◌≡◌, ◌+◌, ◌<◌, ◌≤◌, ◌^◌, ◌++◌, ◌∷◌, [], Some, None, IfOk, IfSome, IfNone, OnOk, OnErr, length};
 ghost use Rattle.std.specs.Cmp.Lexicographic.{slice_cmp};
 ghost use Rattle.std.specs.Ordering.{nat_cmp};
-ghost use Rattle.dj_declared.specs.Texts.{number_in, text_in, texts_from, start_at, AreAscending, AreBefore, AreEnds, Keep};
+ghost use Rattle.dj_declared.specs.Texts.{number_in, text_in, texts_from, start_at, AreAscending, AreBefore, AreEnds, NumbersKeep};
 
 use crate::error::DeclareError;
 use std::alloc::Global;
@@ -84,7 +84,7 @@ fn number_of(bytes: &[u8], ends: &[u32], text: &[u8]) -> Option<u16>
     None
 }
 
-// The place of the last text, if it is this one; none where this one comes after it. It may not come before it.
+// The place of the last text, if it is this one; none where this one comes after it. This one must not come before the last.
 #[tactic(auto, using(crate::proofs::TextLaws::before_none, crate::proofs::TextLaws::before_by_last, crate::proofs::TextLaws::found_there))]
 fn last_place(bytes: &[u8], ends: &[u32], text: &[u8]) -> Result<Option<u16>, DeclareError>
     requires few { length ends.now ≤ 2 ^ 16 }
@@ -199,7 +199,7 @@ impl TextTable {
     fn append(&mut self, text: &[u8]) -> Result<u16, DeclareError>
         requires { AreBefore self.old text.now }
         ensures reported { IfOk result (λ number. number_in self.new text.now ≡ Some number) }
-        ensures keeps { OnOk result (Keep self.old self.new) }
+        ensures keeps { OnOk result (NumbersKeep self.old self.new) }
     {
         let Ok(number) = u16::try_from(self.ends.len()) else {
             return Err(DeclareError::Memory);
@@ -211,7 +211,7 @@ impl TextTable {
     /// The number of a text, none of which comes before the last one that was added. It gets the next number where it isn't that one.
     pub(crate) fn add(&mut self, text: &[u8]) -> Result<u16, DeclareError>
         ensures reported { IfOk result (λ number. number_in self.new text.now ≡ Some number) }
-        ensures keeps { OnOk result (Keep self.old self.new) }
+        ensures keeps { OnOk result (NumbersKeep self.old self.new) }
     {
         match self.last_number(text)? {
             Some(number) => Ok(number),

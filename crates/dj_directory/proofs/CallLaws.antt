@@ -17,7 +17,7 @@ use Rattle.dj_declared.specs.Members.{method_flags, method_place}
 use Rattle.dj_declared.proofs.DescTests.{desc_in_is, is_descriptor}
 use Rattle.dj_classes.specs.Tables.{methods_at}
 use Rattle.dj_directory.specs.declared.rows.MemberRow.{MemberRow}
-use Rattle.dj_directory.specs.DirectoryRows.{Named, method_named, methods_named, pair_of, row_at, number_in, key_of, Fits, AreInOrder, IsSuch, IsLeast, IsThere, IsReported, IsRow, AreRowsWith}
+use Rattle.dj_directory.specs.DirectoryRows.{Named, method_named, methods_named, pair_of, row_at, number_in, key_of, Fits, AreInOrder, IsSuch, IsLeast, IsThere, IsLeastOrNone, IsRow, AreRowsWith}
 use Rattle.dj_directory.specs.Calls.{takes, tests, passes, IsWhether, IsFirstOf, DeclareFirst, DeclareLike, DeclaresLike, AreMethods, IsTakable, AreTakable, AreMarked, IsFirstLike, IsNearestFirst, IsNearestLike, IsPlaced, ArePlaces, AreFirsts, place_key, IsRowAt, IsCallTable}
 use Rattle.dj_directory.specs.declared.calls.Marked.{Marked}
 use Rattle.dj_directory.specs.Spans.{AreMarks, AreNear, AreNearest, AreSpans, IsNearestIn, IsWithin, StartsFrom, class_in, end_in, mark_of, start_in}
@@ -79,13 +79,13 @@ pub least_as : (rows : List MemberRow) (name name2 desc desc2 class class2 place
 least_as rows name name2 desc desc2 class class2 place named described same least =
     subst (λ (k : ℕ). IsLeast rows name2 desc2 k place) same (subst (λ (d : ℕ). IsLeast rows name2 d class place) described (subst (λ (n : ℕ). IsLeast rows n desc class place) named least))
 
-pub not_first : (rows : List MemberRow) (row : MemberRow) → IsReported rows row.name row.desc row.class None → IsLeast rows row.name row.desc row.class row.place → ⊥
+pub not_first : (rows : List MemberRow) (row : MemberRow) → IsLeastOrNone rows row.name row.desc row.class None → IsLeast rows row.name row.desc row.class row.place → ⊥
 not_first rows row none least = none least.row least.within least.such
 
-pub no_row : (rows : List MemberRow) (row : MemberRow) → IsReported rows row.name row.desc row.class None → Contains rows row → ⊥
+pub no_row : (rows : List MemberRow) (row : MemberRow) → IsLeastOrNone rows row.name row.desc row.class None → Contains rows row → ⊥
 no_row rows row none there = none row there (record { name_is = refl; desc_is = refl; class_is = refl })
 
-pub first_or_not : (rows : List MemberRow) (row : MemberRow) (first : ℕ) → IsReported rows row.name row.desc row.class (Some first) → IsWhether (IsLeast rows row.name row.desc row.class row.place) (nat_eq first row.place)
+pub first_or_not : (rows : List MemberRow) (row : MemberRow) (first : ℕ) → IsLeastOrNone rows row.name row.desc row.class (Some first) → IsWhether (IsLeast rows row.name row.desc row.class row.place) (nat_eq first row.place)
 first_or_not rows row first reported = go (nat_eq first row.place) refl where
   go : (b : Bool) → nat_eq first row.place ≡ b → IsWhether (IsLeast rows row.name row.desc row.class row.place) b
   go true e = subst (IsLeast rows row.name row.desc row.class) (eqb-true first row.place e) reported
@@ -275,7 +275,7 @@ module _ (program : Program) (rows : List MemberRow) (methods : AreMethods progr
         same_Some (method_named m) (is.name, is.desc) (sym (slice_get-map method_named (methods_at program row.class) row.place ∙ ap (option_map method_named) at) ∙ is.there)
 
     -- the first method with the name and the descriptor of this one, by the numbers
-    first_reported : (class : ℕ) (result : Option ℕ) → class < length program → IsReported rows row.name row.desc class result → result ≡ method_place (methods_at program class) m.name m.desc
+    first_reported : (class : ℕ) (result : Option ℕ) → class < length program → IsLeastOrNone rows row.name row.desc class result → result ≡ method_place (methods_at program class) m.name m.desc
     first_reported class result lt reported =
         let is = own_row row there in
         first_method program methods.texts rows methods.fields methods.first_methods methods.first_fields methods.are class row.name row.desc result lt reported is.name is.text (number_is methods.texts is.name ∙ is.name_is) (number_is methods.texts is.text ∙ is.desc_is)
@@ -379,7 +379,7 @@ alike_reported program calls is private_too class member row taken found at take
     (subst (AreTakable program (tests private_too) is.rows) (sym taken_is) (takable_rows program calls is private_too)) few with_them
 
 pub taken_reported : (program : Program) (calls : CallTable) → IsCallTable program calls → (private_too : Bool) (class member : ℕ) (row : MemberRow) (taken : List MemberRow) (other : ℕ) (place : Option ℕ) → IsRowAt calls.places.items class member row
-    → taken ≡ taken_rows calls private_too → IsReported taken row.name row.desc other place → IfSome place (λ p. DeclaresLike program (tests private_too) class member other p)
+    → taken ≡ taken_rows calls private_too → IsLeastOrNone taken row.name row.desc other place → IfSome place (λ p. DeclaresLike program (tests private_too) class member other p)
 taken_reported program calls is private_too class member row taken other None at taken_is reported = tt
 taken_reported program calls is private_too class member row taken other (Some place) at taken_is reported =
     declares_like program is.rows is.methods row class member (record { within = is.places row at.within; class_is = at.class_is; place_is = at.place_is }) (tests private_too) taken other place

@@ -10,7 +10,7 @@ use Rattle.dj_model.specs.trusted.Linking.{is_plain}
 use Rattle.dj_directory.specs.declared.rows.MemberRow.{MemberRow}
 use Rattle.dj_directory.specs.Numberings.{ClassesDiffer, Numbering, number_among, number_of, DeclareFields}
 use Rattle.dj_directory.specs.Calls.{DeclareFirst}
-use Rattle.dj_directory.specs.DirectoryRows.{Named, place_of, Texts, number_in, AreAlike, AreDifferent, AreFirst, HasFirst, IsRepeat, IsThere, RowsDiffer, key_of, IsReported}
+use Rattle.dj_directory.specs.DirectoryRows.{Named, place_of, Texts, number_in, AreAlike, AreDifferent, AreFirst, HasFirst, IsRepeat, IsThere, RowsDiffer, key_of, IsLeastOrNone}
 use Rattle.dj_directory.proofs.NumberLaws.{bor, number_is}
 
 -- ---- numbers
@@ -82,7 +82,7 @@ by_place = refl
 abbrev rows : List MemberRow
 rows = row 1 2 0 0 ∷ row 1 2 0 3 ∷ row 1 2 1 1 ∷ []
 
-the_first_is_reported : IsReported rows 1 2 0 (Some 0)
+the_first_is_reported : IsLeastOrNone rows 1 2 0 (Some 0)
 the_first_is_reported = record {
   row = row 1 2 0 0;
   within = (0, omega arith, refl);
@@ -91,10 +91,10 @@ the_first_is_reported = record {
   least = λ other there such. omega arith;
 }
 
-the_second_is_not : IsReported rows 1 2 0 (Some 3) → ⊥
+the_second_is_not : IsLeastOrNone rows 1 2 0 (Some 3) → ⊥
 the_second_is_not reported = let le = reported.least (row 1 2 0 0) (0, omega arith, refl) (record { name_is = refl; desc_is = refl; class_is = refl }) in absurd (omega (arith, le))
 
-something_is_reported : IsReported rows 1 2 1 None → ⊥
+something_is_reported : IsLeastOrNone rows 1 2 1 None → ⊥
 something_is_reported reported = reported (row 1 2 1 1) (2, omega arith, refl) (record { name_is = refl; desc_is = refl; class_is = refl })
 
 -- rows are alike whatever their places are

@@ -8,7 +8,7 @@ use Rattle.std.proofs.lemmas.List.Elements.{Contains-push, Contains-push_cases, 
 use Rattle.std.proofs.lemmas.List.Quantifiers.{all_pairs_push}
 use Rattle.std.proofs.lemmas.List.Sorted.{IsNonDecreasingBy-push, IsNonDecreasingBy-short}
 use Rattle.dj_directory.specs.declared.rows.MemberRow.{MemberRow}
-use Rattle.dj_directory.specs.DirectoryRows.{key_of, Fits, AreInOrder, IsSuch, IsLeast, IsReported, row_at, AreAlike, IsRepeat, HasFirst, AreFirst, AreRowsWith}
+use Rattle.dj_directory.specs.DirectoryRows.{key_of, Fits, AreInOrder, IsSuch, IsLeast, IsLeastOrNone, row_at, AreAlike, IsRepeat, HasFirst, AreFirst, AreRowsWith}
 use Rattle.dj_directory.specs.Numberings.{ClassesDiffer}
 use Rattle.dj_directory.proofs.RowLaws.{fit_all, such_between, such_key}
 use Rattle.dj_directory.proofs.SpanLaws.{ascend_at}
@@ -183,7 +183,7 @@ all_first rows order count firsts all far =
 -- ---- a look-up among the first rows
 
 module _ (rows firsts : List MemberRow) (are : AreFirst rows firsts) (name desc class : ℕ) where
-  pub reported_by_first : (result : Option ℕ) → IsReported firsts name desc class result → IsReported rows name desc class result
+  pub reported_by_first : (result : Option ℕ) → IsLeastOrNone firsts name desc class result → IsLeastOrNone rows name desc class result
   reported_by_first None none = λ row there such.
       let has = are.each row there in none has.first has.within (such_first name desc class row has.first such has.alike)
   reported_by_first (Some place) reported = record {

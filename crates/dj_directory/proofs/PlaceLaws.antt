@@ -16,7 +16,7 @@ use Rattle.dj_declared.proofs.DescTests.{desc_in_is, is_descriptor, same_name_is
 use Rattle.dj_classes.specs.Tables.{methods_of, methods_at, fields_at}
 use Rattle.dj_directory.specs.Numberings.{DeclareFields, DeclareMethods, Numbering, number_among, number_of}
 use Rattle.dj_directory.specs.declared.rows.MemberRow.{MemberRow}
-use Rattle.dj_directory.specs.DirectoryRows.{Named, method_named, field_named, methods_named, fields_named, Members, place_of, Texts, texts_of, number_in, AreDifferent, IsSuch, IsReported, IsRow, IsThere, AreRows, AreRowsWith, IsDirectory}
+use Rattle.dj_directory.specs.DirectoryRows.{Named, method_named, field_named, methods_named, fields_named, Members, place_of, Texts, texts_of, number_in, AreDifferent, IsSuch, IsLeastOrNone, IsRow, IsThere, AreRows, AreRowsWith, IsDirectory}
 use Rattle.dj_directory.proofs.GatherLaws.{kept_row}
 use Rattle.dj_directory.proofs.NumberLaws.{number_is}
 use Rattle.dj_directory.proofs.FirstLaws.{reported_by_first, least_first, such_first}
@@ -145,7 +145,7 @@ module _ (texts : Texts) (members : Members) (classes : ℕ) (rows : List Member
           ),
         )
 
-    pub place_reported : (result : Option ℕ) → IsReported rows name desc class result → result ≡ place_of (members class) n (desc_in d)
+    pub place_reported : (result : Option ℕ) → IsLeastOrNone rows name desc class result → result ≡ place_of (members class) n (desc_in d)
     place_reported None reported = sym (none_is n (desc_in d) (members class) (λ place m at. not_true (is_named n (desc_in d) m.0 m.1) (λ named.
         let is = row_of class place m less at named in reported is.row is.within (such_row place is))))
     place_reported (Some place) reported =
@@ -158,7 +158,7 @@ module _ (texts : Texts) (members : Members) (classes : ℕ) (rows : List Member
         absurd (omega (arith, le, own, before)))))
 
 -- a row's place is one of its class
-pub place_within : (texts : Texts) (members : Members) (classes : ℕ) (rows : List MemberRow) (name desc class : ℕ) (result : Option ℕ) → AreRows (number_in texts) members classes rows → IsReported rows name desc class result
+pub place_within : (texts : Texts) (members : Members) (classes : ℕ) (rows : List MemberRow) (name desc class : ℕ) (result : Option ℕ) → AreRows (number_in texts) members classes rows → IsLeastOrNone rows name desc class result
     → IfSome result (λ place. place < length (members class))
 place_within texts members classes rows name desc class None are reported = tt
 place_within texts members classes rows name desc class (Some place) are reported =
@@ -229,22 +229,22 @@ module _ (program : Program) (texts : Texts) (methods fields first_methods first
   unknown n d (inl e) = inl (sym (number_is texts n) ∙ e)
   unknown n d (inr e) = inr (sym (number_is texts d) ∙ e)
 
-  pub first_method : (class name desc : ℕ) (result : Option ℕ) → class < length program → IsReported methods name desc class result → IsFirstMethod class name desc result (numbering program texts)
+  pub first_method : (class name desc : ℕ) (result : Option ℕ) → class < length program → IsLeastOrNone methods name desc class result → IsFirstMethod class name desc result (numbering program texts)
   first_method class name desc result less reported n d n_is d_is valid =
       place_reported texts (methods_named program) (length program) methods is.methods_are n d valid is.different name desc class less (known n name n_is) (known d desc d_is) result reported
       ∙ method_place_is (methods_at program class) n (desc_in d)
 
-  pub first_field : (class name desc : ℕ) (result : Option ℕ) → class < length program → IsReported fields name desc class result → IsFirstField class name desc result (numbering program texts)
+  pub first_field : (class name desc : ℕ) (result : Option ℕ) → class < length program → IsLeastOrNone fields name desc class result → IsFirstField class name desc result (numbering program texts)
   first_field class name desc result less reported n d n_is d_is valid =
       place_reported texts (fields_named program) (length program) fields is.fields_are n d valid is.different name desc class less (known n name n_is) (known d desc d_is) result reported
       ∙ field_place_is (fields_at program class) n (desc_in d)
 
-  pub method_within : (class name desc : ℕ) (result : Option ℕ) → IsReported methods name desc class result → IfSome result (λ place. place < length (methods_at program class))
+  pub method_within : (class name desc : ℕ) (result : Option ℕ) → IsLeastOrNone methods name desc class result → IfSome result (λ place. place < length (methods_at program class))
   method_within class name desc result reported =
       subst (λ (count : ℕ). IfSome result (λ place. place < count)) (length-map (methods_at program class) method_named)
       (place_within texts (methods_named program) (length program) methods name desc class result is.methods_are reported)
 
-  pub field_within : (class name desc : ℕ) (result : Option ℕ) → IsReported fields name desc class result → IfSome result (λ place. place < length (fields_at program class))
+  pub field_within : (class name desc : ℕ) (result : Option ℕ) → IsLeastOrNone fields name desc class result → IfSome result (λ place. place < length (fields_at program class))
   field_within class name desc result reported =
       subst (λ (count : ℕ). IfSome result (λ place. place < count)) (length-map (fields_at program class) field_named)
       (place_within texts (fields_named program) (length program) fields name desc class result is.fields_are reported)

@@ -5,7 +5,7 @@ use Rattle.std.proofs.lemmas.Bool.{ltb-true, ltb-false, cases_lt}
 use Rattle.std.proofs.lemmas.List.{get_or_default, get_or-drop, get_or-take, length-drop, length-take-le}
 use Rattle.std.proofs.lemmas.List.Sorted.{IsPartitionedBy-ltb}
 use Rattle.dj_directory.specs.declared.rows.MemberRow.{MemberRow}
-use Rattle.dj_directory.specs.DirectoryRows.{pair_of, key_of, Fits, AreInOrder, AreRowsWith, IsSuch, IsAnswer, IsReported}
+use Rattle.dj_directory.specs.DirectoryRows.{pair_of, key_of, Fits, AreInOrder, AreRowsWith, IsSuch, IsAnswer, IsLeastOrNone}
 
 pub parted : (rows : List MemberRow) (key : ℕ) → AreInOrder rows → IsPartitionedBy (λ row. ltb (key_of row) key) rows
 parted rows key order = IsPartitionedBy-ltb key_of rows key order.ascend
@@ -81,7 +81,7 @@ module _ (rows : List MemberRow) (order : AreInOrder rows) (name desc class : �
     | inr after ↦ after
   ]
 
-  pub none_past : (i : ℕ) → IsPoint i → length rows ≤ i → IsReported rows name desc class None
+  pub none_past : (i : ℕ) → IsPoint i → length rows ≤ i → IsLeastOrNone rows name desc class None
   none_past i point past row there such =
       let after = such_after i point row such there.0 there.1 there.2 in
       let within = there.1 in
@@ -106,7 +106,7 @@ module _ (rows : List MemberRow) (order : AreInOrder rows) (name desc class : �
         let here = ap key_of at in
         omega (arith, high, here)
 
-    pub reported_at : (result : Option ℕ) → IsAnswer row name desc class result → IsReported rows name desc class result
+    pub reported_at : (result : Option ℕ) → IsAnswer row name desc class result → IsLeastOrNone rows name desc class result
     reported_at None other_row = λ other there such.
         let le = rises other there such in
         let key = such_key name desc class other such in

@@ -66,7 +66,7 @@ pub record IsNearestFirst (program : Program) (test : Method → Bool) (name : N
 abbrev pub IsNearestLike : Program → (Method → Bool) → ℕ → ℕ → ℕ → Option ℕ → Type 0
 IsNearestLike program test class member below near = (m : Method) → slice_get (methods_at program class) member ≡ Some m → IsNearestFirst program test m.name m.desc below near
 
--- the first method of the class with the name and the descriptor of the method at a place stands there
+-- `first` is the place of the first method of the class with the name and the descriptor of the method at `member`
 abbrev pub IsFirstLike : Program → ℕ → ℕ → ℕ → Type 0
 IsFirstLike program class member first = (m : Method) → slice_get (methods_at program class) member ≡ Some m → method_place (methods_at program class) m.name m.desc ≡ Some first
 

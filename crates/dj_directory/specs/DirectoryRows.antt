@@ -110,9 +110,9 @@ pub record IsLeast (rows : List MemberRow) (name desc class place : ℕ) : Type 
   pub least : (other : MemberRow) → Contains rows other → IsSuch name desc class other → place ≤ other.place
 
 -- the least place of a row of these numbers, or there is none
-abbrev pub IsReported : List MemberRow → ℕ → ℕ → ℕ → Option ℕ → Type 0
-IsReported rows name desc class None = (row : MemberRow) → Contains rows row → IsSuch name desc class row → ⊥
-IsReported rows name desc class (Some place) = IsLeast rows name desc class place
+abbrev pub IsLeastOrNone : List MemberRow → ℕ → ℕ → ℕ → Option ℕ → Type 0
+IsLeastOrNone rows name desc class None = (row : MemberRow) → Contains rows row → IsSuch name desc class row → ⊥
+IsLeastOrNone rows name desc class (Some place) = IsLeast rows name desc class place
 
 -- ---- the rows of classes
 
@@ -158,7 +158,7 @@ pub record IsRowBy (known : List ℕ) (n d class place : ℕ) (row : MemberRow) 
   pub place_is : row.place ≡ place
   pub fits : Fits row
 
--- the rows of a class more, whose members these are
+-- the rows of one more class, whose members these are
 abbrev pub AddsRows : List Name → List ℕ → List Named → ℕ → List MemberRow → List MemberRow → Type 0
 AddsRows texts known named class before after = (number : Numbers) (members : Members) → AreKnown number texts known → members class ≡ named → AreSoFar number members class 0 before → AreSoFar number members (class + 1) 0 after
 

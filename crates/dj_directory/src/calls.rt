@@ -10,8 +10,7 @@ use crate::marks::SpanMarks;
 use crate::rows::{MemberRow, pair_of, place_in, put_in_order, rows_with};
 use crate::spans::Spans;
 use dj_classes::ClassTable;
-use dj_names::NoMemory;
-use std::alloc::Global;
+use std::alloc::{AllocError, Global};
 
 // JVMS table 4.6-A.
 const PRIVATE: u16 = 0x0002;
@@ -19,7 +18,7 @@ const PRIVATE: u16 = 0x0002;
 // JVMS table 4.6-A.
 const STATIC: u16 = 0x0008;
 
-/// What gives at once the nearest class that declares a method.
+/// Tables in which the nearest class that declares a method is found at once.
 #[derive(Drop)]
 pub struct Marked {
     /// Where the classes stand in the tree of superclasses.
@@ -88,7 +87,7 @@ fn takable(
     table: &ClassTable,
     rows: &[MemberRow],
     private_too: bool,
-) -> Result<Vec<MemberRow>, NoMemory>
+) -> Result<Vec<MemberRow>, AllocError>
     requires { AreMethods table.now rows.now }
     ensures { IfOk result (λ taken. AreTakable table.now (tests private_too) rows.now taken.items) }
 {
@@ -108,7 +107,7 @@ fn mark_classes(
     table: &ClassTable,
     plain: &[MemberRow],
     instance: &[MemberRow],
-) -> Result<Option<Marked>, NoMemory>
+) -> Result<Option<Marked>, AllocError>
     ensures { IfOk result (λ found. IfSome found (AreMarked table.now plain.now instance.now)) }
 {
     let Some(spans) = Spans::of(alloc, table)? else {
@@ -173,7 +172,7 @@ fn starts_of(
     alloc: Global,
     table: &ClassTable,
     rows: &[MemberRow],
-) -> Result<Vec<usize>, NoMemory> {
+) -> Result<Vec<usize>, AllocError> {
     let mut starts = Vec::new(alloc);
     for class in 0..table.class_count() {
         let key = pair_of(class, 0);
@@ -184,7 +183,11 @@ fn starts_of(
 }
 
 // By where rows stand, the first place of a row of the same numbers and the same class.
-fn firsts_of(alloc: Global, rows: &[MemberRow], places: &[MemberRow]) -> Result<Vec<u32>, NoMemory>
+fn firsts_of(
+    alloc: Global,
+    rows: &[MemberRow],
+    places: &[MemberRow],
+) -> Result<Vec<u32>, AllocError>
     requires order { AreInOrder rows.now }
     requires within { (row : MemberRow) → Contains places.now row → Contains rows.now row }
     ensures { IfOk result (λ firsts. AreFirsts rows.now places.now firsts.items) }
@@ -201,7 +204,7 @@ fn firsts_of(alloc: Global, rows: &[MemberRow], places: &[MemberRow]) -> Result<
 
 impl CallTable {
     /// Puts the methods of all classes in order.
-    pub fn of(alloc: Global, table: &ClassTable) -> Result<CallTable, NoMemory>
+    pub fn of(alloc: Global, table: &ClassTable) -> Result<CallTable, AllocError>
         ensures { IfOk result (IsCallTable table.now) }
     {
         let rows = Directory::of(alloc, table)?.into_methods();
@@ -310,7 +313,7 @@ impl CallTable {
     }
 
     /// The nearest class, upward from one, that declares a method that a call may take and that has the name and the descriptor of the method at a place, where it is known.
-    /// It may be another where none is nearer.
+    /// It is only known that none of `below` and its superclasses that declares such a method is nearer; the answer may be a class that isn't among them.
     pub fn nearest_like(
         &self,
         table: &ClassTable,

@@ -13,8 +13,7 @@ use crate::gather::add_class;
 use crate::numbers::number_in;
 use crate::rows::{MemberRow, first_rows, place_in, put_in_order, rows_with};
 use dj_classes::ClassTable;
-use dj_names::NoMemory;
-use std::alloc::Global;
+use std::alloc::{AllocError, Global};
 use std::collections::BTreeMap;
 use std::marker::Model;
 
@@ -42,7 +41,7 @@ impl<'a> Model for Directory<'a> {
 
 impl<'a> Directory<'a> {
     /// Numbers the texts of the members of all classes: a text that is met again keeps its number.
-    pub fn of(alloc: Global, table: &'a ClassTable) -> Result<Directory<'a>, NoMemory>
+    pub fn of(alloc: Global, table: &'a ClassTable) -> Result<Directory<'a>, AllocError>
         ensures { IfOk result (λ directory. directory.program ≡ table.now) }
     {
         let mut numbers = BTreeMap::new(alloc);

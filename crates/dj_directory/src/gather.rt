@@ -5,8 +5,7 @@ use crate::numbers::number_text;
 use crate::rows::MemberRow;
 use dj_classes::ClassTable;
 use dj_declared::MemberTexts;
-use dj_names::NoMemory;
-use std::alloc::Global;
+use std::alloc::{AllocError, Global};
 use std::collections::BTreeMap;
 
 // The numbers of the texts of a class, by their numbers in it. Each text is looked up once, however many members it names.
@@ -14,7 +13,7 @@ fn number_texts<'a>(
     alloc: Global,
     numbers: &mut BTreeMap<&'a [u8], u32>,
     texts: &MemberTexts<'a>,
-) -> Result<Vec<u32>, NoMemory>
+) -> Result<Vec<u32>, AllocError>
     requires { AreDifferent numbers.old }
     ensures { IfOk result (λ known. NumbersAll numbers.old numbers.new texts.now.texts known.items) }
 {
@@ -28,13 +27,10 @@ fn number_texts<'a>(
 }
 
 // A number of members in 32 bits.
-fn count_of(count: usize) -> Result<u32, NoMemory>
+fn count_of(count: usize) -> Result<u32, AllocError>
     ensures { IfOk result (λ number. number ≡ count) }
 {
-    match u32::try_from(count) {
-        Ok(number) => Ok(number),
-        Err(_) => Err(NoMemory::Memory),
-    }
+    u32::try_from(count).map_err(|_| AllocError)
 }
 
 // The row of the member whose texts have these numbers in its class.
@@ -51,13 +47,13 @@ fn row_of(known: &[u32], texts: (u16, u16), class: u32, place: u32) -> MemberRow
     }
 }
 
-// The rows of the methods of a class more.
+// Appends the rows of the methods of one more class.
 fn add_methods(
     rows: &mut Vec<MemberRow>,
     texts: &MemberTexts<'_>,
     known: &[u32],
     class: u32,
-) -> Result<(), NoMemory>
+) -> Result<(), AllocError>
     requires { length known.now ≡ length texts.now.texts }
     ensures { OnOk result (AddsRows texts.now.texts known.now (map method_named texts.now.methods) class rows.old.items rows.new.items) }
 {
@@ -69,13 +65,13 @@ fn add_methods(
     Ok(())
 }
 
-// The rows of the fields of a class more.
+// Appends the rows of the fields of one more class.
 fn add_fields(
     rows: &mut Vec<MemberRow>,
     texts: &MemberTexts<'_>,
     known: &[u32],
     class: u32,
-) -> Result<(), NoMemory>
+) -> Result<(), AllocError>
     requires { length known.now ≡ length texts.now.texts }
     ensures { OnOk result (AddsRows texts.now.texts known.now (map field_named texts.now.fields) class rows.old.items rows.new.items) }
 {
@@ -87,7 +83,7 @@ fn add_fields(
     Ok(())
 }
 
-/// The numbers of the texts of a class more, and the rows of its members.
+/// Numbers the texts of one more class, and appends the rows of its members.
 pub fn add_class<'a>(
     alloc: Global,
     numbers: &mut BTreeMap<&'a [u8], u32>,
@@ -95,7 +91,7 @@ pub fn add_class<'a>(
     fields: &mut Vec<MemberRow>,
     table: &'a ClassTable,
     class: u32,
-) -> Result<(), NoMemory>
+) -> Result<(), AllocError>
     requires there { class < length table.now }
     requires gathering { IsGathering table.now class numbers.old methods.old.items fields.old.items }
     ensures { OnOk result (IsGathering table.now (class + 1) numbers.new methods.new.items fields.new.items) }

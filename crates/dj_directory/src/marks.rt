@@ -6,8 +6,7 @@ ghost use Rattle.dj_directory.specs.Spans.{AreMarks, AreNear, AreNearest, Covers
 
 use crate::rows::{MemberRow, first_not_below, key_of, put_in_order};
 use crate::spans::Spans;
-use dj_names::NoMemory;
-use std::alloc::Global;
+use std::alloc::{AllocError, Global};
 
 /// Where the spans of the classes of rows start and end.
 #[derive(Drop)]
@@ -32,7 +31,7 @@ fn mark_of(row: MemberRow, step: u32) -> MemberRow
 }
 
 // The marks of rows.
-fn marks_of(alloc: Global, spans: &Spans, rows: &[MemberRow]) -> Result<Vec<MemberRow>, NoMemory>
+fn marks_of(alloc: Global, spans: &Spans, rows: &[MemberRow]) -> Result<Vec<MemberRow>, AllocError>
     ensures { IfOk result (λ marks. AreMarks spans.now rows.now marks.items) }
 {
     let mut marks = Vec::new(alloc);
@@ -141,7 +140,7 @@ fn nearest_of(
     alloc: Global,
     spans: &Spans,
     marks: &[MemberRow],
-) -> Result<Option<Vec<Option<u32>>>, NoMemory>
+) -> Result<Option<Vec<Option<u32>>>, AllocError>
     requires { AreInOrder marks.now }
     ensures { IfOk result (λ found. IfSome found (λ nearest. AreNearest spans.now marks.now nearest.items)) }
 {
@@ -161,7 +160,7 @@ impl SpanMarks {
         alloc: Global,
         spans: &Spans,
         rows: &[MemberRow],
-    ) -> Result<Option<SpanMarks>, NoMemory>
+    ) -> Result<Option<SpanMarks>, AllocError>
         ensures { IfOk result (λ found. IfSome found (AreNear spans.now rows.now)) }
     {
         let marks = marks_of(alloc, spans, rows)?;

@@ -1,7 +1,7 @@
 ghost use Rattle.std.specs.Prelude.{◌≡◌, IfOk};
 ghost use Rattle.dj_directory.specs.DirectoryRows.{number_in, AreDifferent, IsNumbered};
 
-use dj_names::NoMemory;
+use std::alloc::AllocError;
 use std::collections::BTreeMap;
 
 /// The number of a text, if it has one.
@@ -15,7 +15,7 @@ pub fn number_in(numbers: &BTreeMap<&[u8], u32>, text: &[u8]) -> Option<u32>
 pub fn number_text<'a>(
     numbers: &mut BTreeMap<&'a [u8], u32>,
     text: &'a [u8],
-) -> Result<u32, NoMemory>
+) -> Result<u32, AllocError>
     requires { AreDifferent numbers.old }
     ensures { IfOk result (IsNumbered numbers.old numbers.new text.now) }
 {
@@ -23,7 +23,7 @@ pub fn number_text<'a>(
         return Ok(number);
     }
     let Ok(number) = u32::try_from(numbers.len()) else {
-        return Err(NoMemory::Memory);
+        return Err(AllocError);
     };
     numbers.insert(text, number)?;
     Ok(number)

@@ -1,10 +1,9 @@
 //! Members by the numbers of their texts, in the order of these.
 ghost use Rattle.std.specs.Prelude.{◌≡◌, ◌<◌, ◌≤◌, ltb, true, false, length, IfOk};
 ghost use Rattle.std.specs.List.Sorted.{IsNonDecreasingBy, IsPartitionPoint, IsPermutation};
-ghost use Rattle.dj_directory.specs.DirectoryRows.{pair_of, key_of, AreAlike, AreFirst, AreInOrder, AreRowsWith, IsReported, IsAnswer, IsRepeat};
+ghost use Rattle.dj_directory.specs.DirectoryRows.{pair_of, key_of, AreAlike, AreFirst, AreInOrder, AreRowsWith, IsLeastOrNone, IsAnswer, IsRepeat};
 
-use dj_names::NoMemory;
-use std::alloc::Global;
+use std::alloc::{AllocError, Global};
 
 /// A member by the numbers of its texts, and where it is declared.
 #[derive(Clone, Copy)]
@@ -63,7 +62,7 @@ fn is_repeat(rows: &[MemberRow], at: usize) -> bool
 }
 
 /// Of each name, descriptor and class the first row alone.
-pub fn first_rows(alloc: Global, rows: &[MemberRow]) -> Result<Vec<MemberRow>, NoMemory>
+pub fn first_rows(alloc: Global, rows: &[MemberRow]) -> Result<Vec<MemberRow>, AllocError>
     requires { AreInOrder rows.now }
     ensures { IfOk result (λ firsts. AreFirst rows.now firsts.items) }
 {
@@ -99,7 +98,7 @@ fn place_if(row: MemberRow, name: u32, desc: u32, class: u32) -> Option<u32>
 /// The least place of a row with these numbers, by halving.
 pub fn place_in(rows: &[MemberRow], name: u32, desc: u32, class: u32) -> Option<u32>
     requires { AreInOrder rows.now }
-    ensures { IsReported rows.now name desc class result }
+    ensures { IsLeastOrNone rows.now name desc class result }
 {
     let least = MemberRow {
         name,

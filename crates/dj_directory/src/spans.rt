@@ -4,8 +4,7 @@ ghost use Rattle.dj_classes.specs.Tables.{super_number};
 ghost use Rattle.dj_directory.specs.Spans.{AreSpans, IsNested, IsWithin, class_in, end_in, start_in};
 
 use dj_classes::ClassTable;
-use dj_names::NoMemory;
-use std::alloc::Global;
+use std::alloc::{AllocError, Global};
 
 // In place of the number of a class, or of a step, where there is none.
 const NONE: u32 = 4_294_967_295;
@@ -61,7 +60,7 @@ fn above(table: &ClassTable, class: u32) -> u32 {
 
 impl Walk {
     // Above all classes, none of which is entered yet.
-    fn of(alloc: Global, table: &ClassTable) -> Result<Walk, NoMemory> {
+    fn of(alloc: Global, table: &ClassTable) -> Result<Walk, AllocError> {
         let count = table.class_count();
         let mut below = vec![in alloc; NONE; count as usize + 1]?;
         let mut next = vec![in alloc; NONE; count as usize]?;
@@ -84,7 +83,7 @@ impl Walk {
     }
 
     // Enters the next class below, or leaves the one where the walk is.
-    fn make(&mut self, table: &ClassTable, step: u32) -> Result<(), NoMemory> {
+    fn make(&mut self, table: &ClassTable, step: u32) -> Result<(), AllocError> {
         let class = number_at(&self.below, self.at);
         if class == NONE {
             put_at(&mut self.spans.ends, self.at, step);
@@ -101,7 +100,7 @@ impl Walk {
 }
 
 // Where the classes stand. Those whose superclasses go round are never entered.
-fn spans_of(alloc: Global, table: &ClassTable) -> Result<Spans, NoMemory> {
+fn spans_of(alloc: Global, table: &ClassTable) -> Result<Spans, AllocError> {
     let mut walk = Walk::of(alloc, table)?;
     for step in 0..table.class_count() * 2 {
         walk.make(table, step)?;
@@ -166,7 +165,7 @@ impl Spans {
     }
 
     /// Where the classes stand. None where superclasses go round.
-    pub fn of(alloc: Global, table: &ClassTable) -> Result<Option<Spans>, NoMemory>
+    pub fn of(alloc: Global, table: &ClassTable) -> Result<Option<Spans>, AllocError>
         ensures { IfOk result (λ spans. IfSome spans (AreSpans table.now)) }
     {
         let spans = spans_of(alloc, table)?;

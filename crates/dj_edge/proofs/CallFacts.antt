@@ -15,7 +15,7 @@ use Rattle.dj_edge.specs.declared.mem_files.MemFiles.{MemFiles}
 use Rattle.dj_edge.specs.trusted.Counts.{Rose}
 use Rattle.dj_edge.specs.Counts.{one_more}
 use Rattle.dj_edge.specs.trusted.Held.{Held, bytes_at}
-use Rattle.dj_edge.specs.trusted.Calls.{ListCounts, ReadCounts, AnswersRead, Gives, Writes, WriteCounts}
+use Rattle.dj_edge.specs.trusted.Calls.{ListAsks, ListCounts, ReadAsks, ReadCounts, AnswersRead, Gives, Writes, WriteCounts}
 use Rattle.dj_edge.specs.Calls.{CountsListing, CountsRead, Puts, CountsWrite}
 use Rattle.dj_edge.specs.Listings.{ListsFolder}
 use Rattle.dj_edge.specs.Sinks.{piece_of, room_of, faults_of, Takes}
@@ -67,6 +67,26 @@ stands-not_failed = (λ h. omega (arith, h.1), λ h. omega (arith, h.1), λ h. o
 
 falls-not : (ListCounts 3 2 (listed (Ok [])) → ⊥) × (ReadCounts 3 2 (read (Err read_errors.Memory)) → ⊥) × (WriteCounts 3 2 (written (Ok 1)) → ⊥)
 falls-not = (λ h. omega (arith, h), λ h. omega (arith, h), λ h. omega (arith, h))
+
+-- ---- what was asked for
+
+abbrev folder : List ℕ
+folder = 7 ∷ []
+
+-- a call that failed asked too, and one without memory didn't
+list-asks : ListAsks [] (folder ∷ []) folder (listed (Ok [])) × ListAsks [] (folder ∷ []) folder (listed (Err list_errors.Failed)) × ListAsks [] [] folder (listed (Err list_errors.Memory))
+list-asks = (refl, refl, refl)
+
+list-asks_not : (ListAsks [] [] folder (listed (Ok [])) → ⊥) × (ListAsks [] [] folder (listed (Err list_errors.Failed)) → ⊥) × (ListAsks [] (folder ∷ []) folder (listed (Err list_errors.Memory)) → ⊥)
+list-asks_not = (λ h. absurd cc, λ h. absurd cc, λ h. absurd cc)
+
+read-asks : ReadAsks [] (folder ∷ []) folder (read (Ok [])) × ReadAsks [] (folder ∷ []) folder (read (Err read_errors.Failed))
+    × ReadAsks [] (folder ∷ []) folder (read (Err read_errors.Absent)) × ReadAsks [] (folder ∷ []) folder (read (Err read_errors.TooLong)) × ReadAsks [] [] folder (read (Err read_errors.Memory))
+read-asks = (refl, refl, refl, refl, refl)
+
+read-asks_not : (ReadAsks [] [] folder (read (Ok [])) → ⊥) × (ReadAsks [] [] folder (read (Err read_errors.Failed)) → ⊥) × (ReadAsks [] [] folder (read (Err read_errors.Absent)) → ⊥)
+    × (ReadAsks [] [] folder (read (Err read_errors.TooLong)) → ⊥) × (ReadAsks [] (folder ∷ []) folder (read (Err read_errors.Memory)) → ⊥)
+read-asks_not = (λ h. absurd cc, λ h. absurd cc, λ h. absurd cc, λ h. absurd cc, λ h. absurd cc)
 
 -- ---- what calls report
 

@@ -22,7 +22,7 @@ abbrev pub cut_of : Slots → List Value → Option (Cut Value)
 cut_of slots.One stack = one_slot is_long stack
 cut_of slots.Two stack = two_slots is_long stack
 
--- the upper operands are put once more below those that are cut under them
+-- copies of the upper operands are put below the operands under them
 abbrev pub put_under : Slots → Option (Cut Value) → Option (List Value)
 put_under below None = None
 put_under below (Some cut) = under cut.top (cut_of below cut.rest)

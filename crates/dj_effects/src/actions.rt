@@ -15,7 +15,7 @@ pub enum Movement {
     Drop(Slots),
     /// They are pushed once more.
     Double(Slots),
-    /// They are put once more below those under them.
+    /// Copies of the upper ones are put below those under them.
     Under(Slots, Slots),
     /// The upper two change places.
     Swap,

@@ -16,8 +16,9 @@ use crate::top::{is_of_kind, pop, pop_place};
 use crate::way::{Flow, Way};
 use dj_arith::long_to_int;
 use dj_heap::{Heap, HeapError, Made};
-use dj_names::{Element, Kind, NoMemory, Raised, Value};
+use dj_names::{Element, Kind, Raised, Value};
 use dj_stack::Frames;
+use std::alloc::AllocError;
 
 /// An index and an array are taken, and the element is pushed.
 #[tactic(auto, using(crate::proofs::LoadFacts::not_placed, crate::proofs::ArrayFacts::element_there))]
@@ -100,7 +101,7 @@ pub fn new_array(
     heap: &mut Heap,
     class: u32,
     element: Element,
-) -> Result<Option<Flow>, NoMemory>
+) -> Result<Option<Flow>, AllocError>
     requires { FitsOnHeap (arrays.make_array (Some heap.old.limit) class element) frames.old heap.old }
     ensures { IfOk result (λ flow. DoesOnHeap (arrays.make_array (Some heap.old.limit) class element) frames.old frames.new heap.old heap.new flow) }
 {
@@ -116,7 +117,7 @@ pub fn new_array(
             Ok(Some(Flow::Goes(Way::Next)))
         }
         Err(HeapError::Full { used, size }) => Ok(Some(Flow::HeapFull { used, size })),
-        Err(HeapError::Memory) => Err(NoMemory::Memory),
+        Err(HeapError::Memory) => Err(AllocError),
     }
 }
 

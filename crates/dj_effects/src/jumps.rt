@@ -44,7 +44,7 @@ pub fn switch_table(frames: &mut Frames, default: u64, low: i32, targets: &[i64]
     }
 }
 
-/// The run goes on where the first match of the int that is taken says.
+/// lookupswitch: takes an int, and the run goes on at the target of the first pair that it matches, or at the default.
 #[tactic(auto, unfolding(dj_model::specs::trusted::Values::on_values))]
 pub fn switch_lookup(frames: &mut Frames, default: u64, pairs: &Pairs) -> Option<Way>
     ensures { Does (model.Switch (lookup_pairs pairs.now) default) frames.old frames.new result }

@@ -100,7 +100,7 @@ fn is_some_long(value: Option<Value>) -> bool
     }
 }
 
-// What takes two slots, of which this is the second, loses its value.
+// A long whose second slot is this one loses its value.
 fn cut_half(frames: &mut Frames, slot: u16)
     requires { slot < length (top_locals frames.old) }
     ensures locals { top_locals frames.new ≡ without_half is_long (top_locals frames.old) slot }

@@ -33,7 +33,7 @@ pub fn move_operands(frames: &mut Frames, movement: Movement) -> Option<Way>
     }
 }
 
-// Whether the operands are such that they can be moved so. Then they are.
+// Whether the operands can be moved in this way; where they can, they are moved.
 #[tactic(auto, unfolding(dj_model::specs::trusted::Values::moved), using(crate::proofs::MoveFacts::moved_under))]
 fn moved(frames: &mut Frames, movement: Movement) -> bool
     requires { HasRoom (top_room frames.old) (moved is_long (move_view movement) (top_operands frames.old)) }

@@ -47,7 +47,7 @@ pub fn convert(frames: &mut Frames, operation: UnaryOperation) -> Option<Way>
     Some(Way::Next)
 }
 
-// What is computed, where the values are of such kinds.
+// What the operation computes from the two values; none where they aren't of the kinds that it takes.
 fn of_two(operation: BinaryOperation, a: Value, b: Value) -> Option<Result<Value, Raised>>
     ensures { result ≡ of_two (binary_view operation) a b }
 {
@@ -109,19 +109,13 @@ fn longs_compared(a: Value, b: Value) -> Option<Result<Value, Raised>>
 fn int_value(number: Result<i32, Raised>) -> Result<Value, Raised>
     ensures { result ≡ value_result kinds.Int number }
 {
-    match number {
-        Ok(z) => Ok(Value::Int(z)),
-        Err(raised) => Err(raised),
-    }
+    Ok(Value::Int(number?))
 }
 
 fn long_value(number: Result<i64, Raised>) -> Result<Value, Raised>
     ensures { result ≡ value_result kinds.Long number }
 {
-    match number {
-        Ok(z) => Ok(Value::Long(z)),
-        Err(raised) => Err(raised),
-    }
+    Ok(Value::Long(number?))
 }
 
 #[tactic(auto, unfolding(dj_model::specs::trusted::Numbers::compute), using(crate::proofs::NumberFacts::no_divisor, crate::proofs::NumberFacts::some_divisor))]
@@ -178,7 +172,7 @@ fn shift_long(shift: Shift, a: i64, count: i32) -> Result<i64, Raised>
     })
 }
 
-// What a value is converted to, where it is of such a kind.
+// What a value is converted to; none where it isn't of the kind that the operation takes.
 #[tactic(auto, unfolding(dj_model::specs::trusted::Numbers::convert))]
 fn of_one(operation: UnaryOperation, a: Value) -> Option<Value>
     ensures { result ≡ of_one (unary_view operation) a }

@@ -6,8 +6,8 @@ ghost use Rattle.dj_entries.specs.Pooling.{constant_of_key, constants_in};
 
 use crate::key::Key;
 use crate::texts::Texts;
-use dj_pool::{Entry, NoMemory};
-use std::alloc::Global;
+use dj_pool::Entry;
+use std::alloc::{AllocError, Global};
 
 /// The entry of a key.
 fn entry_of<'a>(texts: &'a Texts, key: Key) -> Entry<'a>
@@ -39,7 +39,7 @@ fn is_wide(entry: Entry<'_>) -> bool
 
 /// Appends an entry, and the hole after a long.
 #[tactic(auto, using(crate::proofs::PoolEntries::pushed_narrow, crate::proofs::PoolEntries::pushed_wide))]
-fn push_entry<'a>(entries: &mut Vec<Entry<'a>>, entry: Entry<'a>) -> Result<(), NoMemory>
+fn push_entry<'a>(entries: &mut Vec<Entry<'a>>, entry: Entry<'a>) -> Result<(), AllocError>
     ensures { OnOk result (map constant_of entries.new.items ≡ map constant_of entries.old.items ++ indexed (constant_of entry.entry ∷ [])) }
 {
     let wide = is_wide(entry);
@@ -56,7 +56,7 @@ pub(crate) fn entries_of<'a>(
     alloc: Global,
     texts: &'a Texts,
     keys: &[Key],
-) -> Result<Vec<Entry<'a>>, NoMemory>
+) -> Result<Vec<Entry<'a>>, AllocError>
     ensures { IfOk result (λ list. map constant_of list.items ≡ indexed (constants_in texts.now keys.now)) }
 {
     let mut list = Vec::new(alloc);

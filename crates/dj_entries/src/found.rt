@@ -9,9 +9,8 @@ ghost use Rattle.dj_entries.specs.Pooling.{found_index};
 
 use crate::key::Key;
 use crate::pool::PoolBuilder;
-use dj_pool::NoMemory;
 use dj_source::{Literal, Quoted, Value};
-use std::alloc::Global;
+use std::alloc::{AllocError, Global};
 
 impl PoolBuilder {
     /// The index of an int.
@@ -109,15 +108,15 @@ impl PoolBuilder {
     }
 
     /// The index of a string that is written between quotes.
-    fn quoted_index(&self, alloc: Global, string: Quoted<'_>) -> Result<u16, NoMemory>
+    fn quoted_index(&self, alloc: Global, string: Quoted<'_>) -> Result<u16, AllocError>
         ensures { IfOk result (λ i. i ≡ found_index self.now (entries.Text (units_text (string_units_of string.entry)))) }
     {
-        let text = string.text(alloc).or(Err(NoMemory::Memory))?;
+        let text = string.text(alloc)?;
         Ok(self.string_index(text.as_slice()))
     }
 
     /// The index of what ldc pushes.
-    pub fn literal_index(&self, alloc: Global, literal: &Literal<'_>) -> Result<u16, NoMemory>
+    pub fn literal_index(&self, alloc: Global, literal: &Literal<'_>) -> Result<u16, AllocError>
         ensures { IfOk result (λ i. i ≡ found_index self.now (literal_entry (literal_view literal.now))) }
     {
         match literal {
@@ -128,7 +127,7 @@ impl PoolBuilder {
     }
 
     /// The index of the constant of a field.
-    pub fn value_index(&self, alloc: Global, value: Value<'_>) -> Result<u16, NoMemory>
+    pub fn value_index(&self, alloc: Global, value: Value<'_>) -> Result<u16, AllocError>
         ensures { IfOk result (λ i. i ≡ found_index self.now (value_entry (value_view value.entry))) }
     {
         match value {

@@ -11,24 +11,23 @@ ghost use Rattle.dj_entries.specs.PoolNeeds.{PutsNeeds};
 
 use crate::needs::{both, need_class, need_integer, need_long, need_names, need_string, need_text};
 use crate::pool::PoolBuilder;
-use dj_pool::NoMemory;
 use dj_source::{Line, Quoted, Value};
-use std::alloc::Global;
+use std::alloc::{AllocError, Global};
 
 /// Puts a string with its text.
 pub(crate) fn need_quoted(
     pool: &mut PoolBuilder,
     alloc: Global,
     string: Quoted<'_>,
-) -> Result<bool, NoMemory>
+) -> Result<bool, AllocError>
     ensures { IfOk result (λ room. PutsNeeds pool.old (entries.Text (units_text (string_units_of string.entry)) ∷ []) pool.new room) }
 {
-    let text = string.text(alloc).or(Err(NoMemory::Memory))?;
+    let text = string.text(alloc)?;
     need_string(pool, alloc, text.as_slice())
 }
 
 /// Puts the constant of a field.
-fn need_value(pool: &mut PoolBuilder, alloc: Global, value: Value<'_>) -> Result<bool, NoMemory>
+fn need_value(pool: &mut PoolBuilder, alloc: Global, value: Value<'_>) -> Result<bool, AllocError>
     ensures { IfOk result (λ room. PutsNeeds pool.old (value_entry (value_view value.entry) ∷ []) pool.new room) }
 {
     match value {
@@ -43,7 +42,7 @@ fn need_named_value(
     pool: &mut PoolBuilder,
     alloc: Global,
     value: Value<'_>,
-) -> Result<bool, NoMemory>
+) -> Result<bool, AllocError>
     ensures { IfOk result (λ room. PutsNeeds pool.old (constant_value_name ∷ (value_entry (value_view value.entry) ∷ [])) pool.new room) }
 {
     let name = need_text(pool, alloc, b"ConstantValue")?;
@@ -56,7 +55,7 @@ fn need_constant(
     pool: &mut PoolBuilder,
     alloc: Global,
     value: Option<Value<'_>>,
-) -> Result<bool, NoMemory>
+) -> Result<bool, AllocError>
     ensures { IfOk result (λ room. PutsNeeds pool.old (value_entries (option_map value_view value.entry)) pool.new room) }
 {
     match value {
@@ -72,7 +71,7 @@ fn need_field(
     name: &[u8],
     desc: &[u8],
     value: Option<Value<'_>>,
-) -> Result<bool, NoMemory>
+) -> Result<bool, AllocError>
     ensures { IfOk result (λ room. PutsNeeds pool.old (entries.Utf8 name.now ∷ (entries.Utf8 desc.now ∷ value_entries (option_map value_view value.entry))) pool.new room) }
 {
     let names = need_names(pool, alloc, name, desc)?;
@@ -86,7 +85,7 @@ fn need_method(
     alloc: Global,
     name: &[u8],
     desc: &[u8],
-) -> Result<bool, NoMemory>
+) -> Result<bool, AllocError>
     ensures { IfOk result (λ room. PutsNeeds pool.old (entries.Utf8 name.now ∷ (entries.Utf8 desc.now ∷ (code_name ∷ []))) pool.new room) }
 {
     let names = need_names(pool, alloc, name, desc)?;
@@ -99,7 +98,7 @@ pub(crate) fn need_head(
     pool: &mut PoolBuilder,
     alloc: Global,
     line: &Line<'_>,
-) -> Result<bool, NoMemory>
+) -> Result<bool, AllocError>
     ensures { IfOk result (λ room. PutsNeeds pool.old (head_entries (line_view line.now)) pool.new room) }
 {
     match line {
@@ -134,7 +133,7 @@ pub(crate) fn need_catch(
     pool: &mut PoolBuilder,
     alloc: Global,
     line: &Line<'_>,
-) -> Result<bool, NoMemory>
+) -> Result<bool, AllocError>
     ensures { IfOk result (λ room. PutsNeeds pool.old (catch_entries (line_view line.now)) pool.new room) }
 {
     match line {

@@ -6,8 +6,7 @@ ghost use Rattle.dj_entries.specs.Pooling.{Puts};
 ghost use Rattle.dj_entries.specs.PoolNeeds.{is_short, PutsNeeds};
 
 use crate::pool::PoolBuilder;
-use dj_pool::NoMemory;
-use std::alloc::Global;
+use std::alloc::{AllocError, Global};
 
 /// Whether a text has at most 65,535 bytes (JVMS 4.4.7).
 fn is_short(text: &[u8]) -> bool
@@ -35,7 +34,7 @@ pub(crate) fn need_text(
     pool: &mut PoolBuilder,
     alloc: Global,
     text: &[u8],
-) -> Result<bool, NoMemory>
+) -> Result<bool, AllocError>
     ensures { IfOk result (λ room. PutsNeeds pool.old (entries.Utf8 text.now ∷ []) pool.new room) }
 {
     let index = pool.utf8(alloc, text)?;
@@ -47,7 +46,7 @@ pub(crate) fn need_class(
     pool: &mut PoolBuilder,
     alloc: Global,
     name: &[u8],
-) -> Result<bool, NoMemory>
+) -> Result<bool, AllocError>
     ensures { IfOk result (λ room. PutsNeeds pool.old (entries.Class name.now ∷ []) pool.new room) }
 {
     let index = pool.class(alloc, name)?;
@@ -59,7 +58,7 @@ pub(crate) fn need_string(
     pool: &mut PoolBuilder,
     alloc: Global,
     text: &[u8],
-) -> Result<bool, NoMemory>
+) -> Result<bool, AllocError>
     ensures { IfOk result (λ room. PutsNeeds pool.old (entries.Text text.now ∷ []) pool.new room) }
 {
     let index = pool.string(alloc, text)?;
@@ -68,7 +67,7 @@ pub(crate) fn need_string(
 
 /// Puts an int, and returns whether it has room.
 #[tactic(auto, using(crate::proofs::NeedSteps::number_need))]
-pub(crate) fn need_integer(pool: &mut PoolBuilder, n: i32) -> Result<bool, NoMemory>
+pub(crate) fn need_integer(pool: &mut PoolBuilder, n: i32) -> Result<bool, AllocError>
     ensures { IfOk result (λ room. PutsNeeds pool.old (entries.Integer n ∷ []) pool.new room) }
 {
     let index = pool.integer(n)?;
@@ -77,7 +76,7 @@ pub(crate) fn need_integer(pool: &mut PoolBuilder, n: i32) -> Result<bool, NoMem
 
 /// Puts a long, and returns whether it has room.
 #[tactic(auto, using(crate::proofs::NeedSteps::long_need))]
-pub(crate) fn need_long(pool: &mut PoolBuilder, n: i64) -> Result<bool, NoMemory>
+pub(crate) fn need_long(pool: &mut PoolBuilder, n: i64) -> Result<bool, AllocError>
     ensures { IfOk result (λ room. PutsNeeds pool.old (entries.Long n ∷ []) pool.new room) }
 {
     let index = pool.long(n)?;
@@ -91,7 +90,7 @@ pub(crate) fn need_dynamic(
     place: u16,
     name: &[u8],
     desc: &[u8],
-) -> Result<bool, NoMemory>
+) -> Result<bool, AllocError>
     ensures { IfOk result (λ room. PutsNeeds pool.old (entries.Dynamic place name.now desc.now ∷ []) pool.new room) }
 {
     let index = pool.dynamic(alloc, place, name, desc)?;
@@ -107,7 +106,7 @@ fn put_member(
     name: &[u8],
     desc: &[u8],
     interface: bool,
-) -> Result<Option<u16>, NoMemory>
+) -> Result<Option<u16>, AllocError>
     ensures { IfOk result (λ answer. Puts pool.old (member_entry op class.now name.now desc.now interface) pool.new answer) }
 {
     if op <= 181 {
@@ -135,7 +134,7 @@ pub(crate) fn need_member(
     name: &[u8],
     desc: &[u8],
     interface: bool,
-) -> Result<bool, NoMemory>
+) -> Result<bool, AllocError>
     ensures { IfOk result (λ room. PutsNeeds pool.old (member_entry op class.now name.now desc.now interface ∷ []) pool.new room) }
 {
     let index = put_member(pool, alloc, op, class, name, desc, interface)?;
@@ -155,7 +154,7 @@ pub(crate) fn need_names(
     alloc: Global,
     name: &[u8],
     desc: &[u8],
-) -> Result<bool, NoMemory>
+) -> Result<bool, AllocError>
     ensures { IfOk result (λ room. PutsNeeds pool.old (entries.Utf8 name.now ∷ (entries.Utf8 desc.now ∷ [])) pool.new room) }
 {
     let first = need_text(pool, alloc, name)?;

@@ -10,16 +10,15 @@ ghost use Rattle.dj_entries.specs.PoolNeeds.{PutsNeeds};
 use crate::needs::{both, need_class, need_dynamic, need_long, need_member};
 use crate::pool::PoolBuilder;
 use crate::types::{need_literal, need_stack_map, need_type, need_types};
-use dj_pool::NoMemory;
 use dj_source::{Frame, FrameType, Line, Operation};
-use std::alloc::Global;
+use std::alloc::{AllocError, Global};
 
 /// Puts what an instruction needs.
 fn need_operation(
     pool: &mut PoolBuilder,
     alloc: Global,
     operation: &Operation<'_>,
-) -> Result<bool, NoMemory>
+) -> Result<bool, AllocError>
     ensures { IfOk result (λ room. PutsNeeds pool.old (operation_entries (operation_view operation.now)) pool.new room) }
 {
     match operation {
@@ -61,7 +60,7 @@ pub(crate) fn need_instruction(
     pool: &mut PoolBuilder,
     alloc: Global,
     line: &Line<'_>,
-) -> Result<bool, NoMemory>
+) -> Result<bool, AllocError>
     ensures { IfOk result (λ room. PutsNeeds pool.old (instruction_entries (line_view line.now)) pool.new room) }
 {
     match line {
@@ -88,7 +87,7 @@ fn need_both_types(
     alloc: Global,
     locals: &[FrameType<'_>],
     stack: &[FrameType<'_>],
-) -> Result<bool, NoMemory>
+) -> Result<bool, AllocError>
     ensures { IfOk result (λ room. PutsNeeds pool.old (flat_map type_entries (map type_view locals.now) ++ flat_map type_entries (map type_view stack.now)) pool.new room) }
 {
     let first = need_types(pool, alloc, locals)?;
@@ -97,7 +96,7 @@ fn need_both_types(
 }
 
 /// Puts what a frame needs.
-fn need_frame(pool: &mut PoolBuilder, alloc: Global, frame: &Frame<'_>) -> Result<bool, NoMemory>
+fn need_frame(pool: &mut PoolBuilder, alloc: Global, frame: &Frame<'_>) -> Result<bool, AllocError>
     ensures { IfOk result (λ room. PutsNeeds pool.old (types_entries (frame_view frame.now)) pool.new room) }
 {
     match frame {
@@ -115,7 +114,7 @@ pub(crate) fn need_frame_line(
     pool: &mut PoolBuilder,
     alloc: Global,
     line: &Line<'_>,
-) -> Result<bool, NoMemory>
+) -> Result<bool, AllocError>
     ensures { IfOk result (λ room. PutsNeeds pool.old (frame_entries (line_view line.now)) pool.new room) }
 {
     match line {
@@ -141,7 +140,7 @@ pub(crate) fn need_stack_map_line(
     pool: &mut PoolBuilder,
     alloc: Global,
     line: &Line<'_>,
-) -> Result<bool, NoMemory>
+) -> Result<bool, AllocError>
     ensures { IfOk result (λ room. PutsNeeds pool.old (stack_map_entries (line_view line.now)) pool.new room) }
 {
     match line {

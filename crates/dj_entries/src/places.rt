@@ -3,9 +3,8 @@ ghost use Rattle.std.specs.Prelude.{◌≡◌, [], nat_lt};
 ghost use Rattle.dj_entries.specs.Keys.{next_index, most_next, AddsKey, IsWithin, FindsKey};
 
 use crate::key::{Key, width};
-use dj_pool::NoMemory;
 use indexmap::IndexMap;
-use std::alloc::Global;
+use std::alloc::{AllocError, Global};
 use std::marker::Model;
 
 // The index after all constants is at most this (JVMS 4.1, constant_pool_count).
@@ -67,7 +66,7 @@ impl Places {
     }
 
     /// The index of a constant, where it ends within the most. It is put last unless it is there, or one before it ends past the most.
-    pub(crate) fn add(&mut self, key: Key) -> Result<Option<u16>, NoMemory>
+    pub(crate) fn add(&mut self, key: Key) -> Result<Option<u16>, AllocError>
         ensures { AddsKey self.old key self.new result }
     {
         if let Some(index) = self.indexes.get(&key) {

@@ -8,8 +8,8 @@ use crate::entries::entries_of;
 use crate::key::Key;
 use crate::places::Places;
 use crate::texts::Texts;
-use dj_pool::{Entry, NoMemory};
-use std::alloc::Global;
+use dj_pool::Entry;
+use std::alloc::{AllocError, Global};
 use std::marker::Model;
 
 /// The entries of a pool, each once, in the order in which they were first needed.
@@ -43,7 +43,7 @@ impl PoolBuilder {
     }
 
     /// Puts an entry that has no text of its own, and returns its index.
-    fn add(&mut self, key: Key) -> Result<Option<u16>, NoMemory>
+    fn add(&mut self, key: Key) -> Result<Option<u16>, AllocError>
         requires { (e : entries.Entry) × IsKeyOf self.old key e }
         ensures { IfOk result (λ answer. (e : entries.Entry) → IsKeyOf self.old key e → PutsOne self.old e self.new answer) }
     {
@@ -51,7 +51,7 @@ impl PoolBuilder {
     }
 
     /// Puts a text, and returns its index.
-    pub(crate) fn utf8(&mut self, alloc: Global, text: &[u8]) -> Result<Option<u16>, NoMemory>
+    pub(crate) fn utf8(&mut self, alloc: Global, text: &[u8]) -> Result<Option<u16>, AllocError>
         ensures { IfOk result (λ answer. PutsOne self.old (entries.Utf8 text.now) self.new answer) }
     {
         match self.texts.find(text) {
@@ -84,7 +84,7 @@ impl PoolBuilder {
     }
 
     /// The entries at their indexes, with a hole after each long.
-    pub fn entries(&self, alloc: Global) -> Result<Vec<Entry<'_>>, NoMemory>
+    pub fn entries(&self, alloc: Global) -> Result<Vec<Entry<'_>>, AllocError>
         ensures { IfOk result (λ list. map constant_of list.items ≡ entries.pool_of self.now) }
     {
         entries_of(alloc, &self.texts, self.places.as_slice())
@@ -92,7 +92,7 @@ impl PoolBuilder {
 
     /// Puts an int, and returns its index.
     #[tactic(auto, using(crate::proofs::PoolChains::alone))]
-    pub(crate) fn integer(&mut self, n: i32) -> Result<Option<u16>, NoMemory>
+    pub(crate) fn integer(&mut self, n: i32) -> Result<Option<u16>, AllocError>
         ensures { IfOk result (λ answer. Puts self.old (entries.Integer n) self.new answer) }
     {
         self.add(Key::Integer(n))
@@ -100,7 +100,7 @@ impl PoolBuilder {
 
     /// Puts a long, and returns its index.
     #[tactic(auto, using(crate::proofs::PoolChains::alone))]
-    pub(crate) fn long(&mut self, n: i64) -> Result<Option<u16>, NoMemory>
+    pub(crate) fn long(&mut self, n: i64) -> Result<Option<u16>, AllocError>
         ensures { IfOk result (λ answer. Puts self.old (entries.Long n) self.new answer) }
     {
         self.add(Key::Long(n))
@@ -108,7 +108,7 @@ impl PoolBuilder {
 
     /// Puts a class with its text, and returns its index.
     #[tactic(auto, using(crate::proofs::PoolChains::class_key, crate::proofs::PoolChains::class_put, crate::proofs::PoolChains::class_stop))]
-    pub(crate) fn class(&mut self, alloc: Global, name: &[u8]) -> Result<Option<u16>, NoMemory>
+    pub(crate) fn class(&mut self, alloc: Global, name: &[u8]) -> Result<Option<u16>, AllocError>
         ensures { IfOk result (λ answer. Puts self.old (entries.Class name.now) self.new answer) }
     {
         let Some(index) = self.utf8(alloc, name)? else {
@@ -119,7 +119,7 @@ impl PoolBuilder {
 
     /// Puts a string with its text, and returns its index.
     #[tactic(auto, using(crate::proofs::PoolChains::string_key, crate::proofs::PoolChains::string_put, crate::proofs::PoolChains::string_stop))]
-    pub(crate) fn string(&mut self, alloc: Global, text: &[u8]) -> Result<Option<u16>, NoMemory>
+    pub(crate) fn string(&mut self, alloc: Global, text: &[u8]) -> Result<Option<u16>, AllocError>
         ensures { IfOk result (λ answer. Puts self.old (entries.Text text.now) self.new answer) }
     {
         let Some(index) = self.utf8(alloc, text)? else {
@@ -135,7 +135,7 @@ impl PoolBuilder {
         alloc: Global,
         name: &[u8],
         desc: &[u8],
-    ) -> Result<Option<(u16, u16)>, NoMemory>
+    ) -> Result<Option<(u16, u16)>, AllocError>
         ensures { IfOk result (λ answer. PutsPair self.old (entries.Utf8 name.now ∷ (entries.Utf8 desc.now ∷ [])) (entries.Utf8 name.now) (entries.Utf8 desc.now) self.new answer) }
     {
         let Some(name_index) = self.utf8(alloc, name)? else {
@@ -154,7 +154,7 @@ impl PoolBuilder {
         alloc: Global,
         name: &[u8],
         desc: &[u8],
-    ) -> Result<Option<u16>, NoMemory>
+    ) -> Result<Option<u16>, AllocError>
         ensures { IfOk result (λ answer. Puts self.old (entries.NameAndType name.now desc.now) self.new answer) }
     {
         let Some((name_index, desc_index)) = self.names(alloc, name, desc)? else {
@@ -171,7 +171,7 @@ impl PoolBuilder {
         class: &[u8],
         name: &[u8],
         desc: &[u8],
-    ) -> Result<Option<(u16, u16)>, NoMemory>
+    ) -> Result<Option<(u16, u16)>, AllocError>
         ensures { IfOk result (λ answer. PutsPair self.old (member_parts class.now name.now desc.now) (entries.Class class.now) (entries.NameAndType name.now desc.now) self.new answer) }
     {
         let Some(class_index) = self.class(alloc, class)? else {
@@ -191,7 +191,7 @@ impl PoolBuilder {
         class: &[u8],
         name: &[u8],
         desc: &[u8],
-    ) -> Result<Option<u16>, NoMemory>
+    ) -> Result<Option<u16>, AllocError>
         ensures { IfOk result (λ answer. Puts self.old (entries.Field class.now name.now desc.now) self.new answer) }
     {
         let Some((class_index, names_index)) = self.member(alloc, class, name, desc)? else {
@@ -208,7 +208,7 @@ impl PoolBuilder {
         class: &[u8],
         name: &[u8],
         desc: &[u8],
-    ) -> Result<Option<u16>, NoMemory>
+    ) -> Result<Option<u16>, AllocError>
         ensures { IfOk result (λ answer. Puts self.old (entries.Method class.now name.now desc.now) self.new answer) }
     {
         let Some((class_index, names_index)) = self.member(alloc, class, name, desc)? else {
@@ -225,7 +225,7 @@ impl PoolBuilder {
         class: &[u8],
         name: &[u8],
         desc: &[u8],
-    ) -> Result<Option<u16>, NoMemory>
+    ) -> Result<Option<u16>, AllocError>
         ensures { IfOk result (λ answer. Puts self.old (entries.InterfaceMethod class.now name.now desc.now) self.new answer) }
     {
         let Some((class_index, names_index)) = self.member(alloc, class, name, desc)? else {
@@ -242,7 +242,7 @@ impl PoolBuilder {
         place: u16,
         name: &[u8],
         desc: &[u8],
-    ) -> Result<Option<u16>, NoMemory>
+    ) -> Result<Option<u16>, AllocError>
         ensures { IfOk result (λ answer. Puts self.old (entries.Dynamic place name.now desc.now) self.new answer) }
     {
         let Some(names_index) = self.name_and_type(alloc, name, desc)? else {

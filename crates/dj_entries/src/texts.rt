@@ -2,9 +2,8 @@
 ghost use Rattle.std.specs.Prelude.{◌≡◌, [], get_or, Contains};
 ghost use Rattle.dj_entries.specs.Pooling.{IsFound, PutsText};
 
-use dj_pool::NoMemory;
 use indexmap::IndexSet;
-use std::alloc::Global;
+use std::alloc::{AllocError, Global};
 use std::marker::Model;
 
 /// Texts in the order in which they were first needed, each once.
@@ -49,7 +48,7 @@ impl Texts {
     }
 
     /// Puts a new text last, and returns its number.
-    pub(crate) fn push(&mut self, alloc: Global, text: &[u8]) -> Result<usize, NoMemory>
+    pub(crate) fn push(&mut self, alloc: Global, text: &[u8]) -> Result<usize, AllocError>
         requires { Contains self.old text.now → ⊥ }
         ensures { PutsText self.old text.now self.new result }
     {

@@ -8,16 +8,15 @@ ghost use Rattle.dj_entries.specs.PoolNeeds.{PutsNeeds};
 use crate::lines::need_quoted;
 use crate::needs::{both, need_class, need_integer, need_text};
 use crate::pool::PoolBuilder;
-use dj_pool::NoMemory;
 use dj_source::{FrameType, Literal};
-use std::alloc::Global;
+use std::alloc::{AllocError, Global};
 
 /// Puts what ldc pushes.
 pub(crate) fn need_literal(
     pool: &mut PoolBuilder,
     alloc: Global,
     literal: &Literal<'_>,
-) -> Result<bool, NoMemory>
+) -> Result<bool, AllocError>
     ensures { IfOk result (λ room. PutsNeeds pool.old (literal_entry (literal_view literal.now) ∷ []) pool.new room) }
 {
     match literal {
@@ -32,7 +31,7 @@ pub(crate) fn need_type(
     pool: &mut PoolBuilder,
     alloc: Global,
     ty: &FrameType<'_>,
-) -> Result<bool, NoMemory>
+) -> Result<bool, AllocError>
     ensures { IfOk result (λ room. PutsNeeds pool.old (type_entries (type_view ty.now)) pool.new room) }
 {
     match ty {
@@ -46,7 +45,7 @@ pub(crate) fn need_types(
     pool: &mut PoolBuilder,
     alloc: Global,
     types: &[FrameType<'_>],
-) -> Result<bool, NoMemory>
+) -> Result<bool, AllocError>
     ensures { IfOk result (λ room. PutsNeeds pool.old (flat_map type_entries (map type_view types.now)) pool.new room) }
 {
     let mut room = true;
@@ -58,7 +57,7 @@ pub(crate) fn need_types(
 }
 
 /// Puts the name of the attribute of frames.
-pub(crate) fn need_stack_map(pool: &mut PoolBuilder, alloc: Global) -> Result<bool, NoMemory>
+pub(crate) fn need_stack_map(pool: &mut PoolBuilder, alloc: Global) -> Result<bool, AllocError>
     ensures { IfOk result (λ room. PutsNeeds pool.old (stack_map_name ∷ []) pool.new room) }
 {
     need_text(pool, alloc, b"StackMapTable")

@@ -10,9 +10,8 @@ ghost use Rattle.dj_entries.specs.Walking.{kind_entries, code_needs, noted, Walk
 use crate::lines::{need_catch, need_head};
 use crate::operations::{need_frame_line, need_instruction, need_stack_map_line};
 use crate::pool::PoolBuilder;
-use dj_pool::NoMemory;
 use dj_source::{Line, section_size};
-use std::alloc::Global;
+use std::alloc::{AllocError, Global};
 
 /// What is put of a line: each kind of need is put for all lines of a method before the next kind.
 #[derive(Clone, Copy)]
@@ -30,7 +29,7 @@ fn need_kind(
     alloc: Global,
     kind: Kind,
     line: &Line<'_>,
-) -> Result<bool, NoMemory>
+) -> Result<bool, AllocError>
     ensures { IfOk result (λ room. PutsNeeds pool.old (kind_entries kind (line_view line.now)) pool.new room) }
 {
     match kind {
@@ -70,7 +69,7 @@ fn walk_line(
     place: usize,
     line: &Line<'_>,
     lacking: Option<usize>,
-) -> Result<Option<usize>, NoMemory>
+) -> Result<Option<usize>, AllocError>
     ensures { IfOk result (λ first. Walks pool.old lacking (needs_at place (kind_entries kind (line_view line.now))) pool.new first) }
 {
     let room = need_kind(pool, alloc, kind, line)?;
@@ -85,7 +84,7 @@ fn walk_kind(
     before: usize,
     lines: &[Line<'_>],
     lacking: Option<usize>,
-) -> Result<Option<usize>, NoMemory>
+) -> Result<Option<usize>, AllocError>
     requires { before + length lines.now < 2 ^ 32 }
     ensures { IfOk result (λ first. Walks pool.old lacking (needs (kind_entries kind) (enumerate_from before (map line_view lines.now))) pool.new first) }
 {
@@ -104,7 +103,7 @@ fn walk_code(
     before: usize,
     lines: &[Line<'_>],
     lacking: Option<usize>,
-) -> Result<Option<usize>, NoMemory>
+) -> Result<Option<usize>, AllocError>
     requires { before + length lines.now < 2 ^ 32 }
     ensures { IfOk result (λ first. Walks pool.old lacking (code_needs (enumerate_from before (map line_view lines.now))) pool.new first) }
 {
@@ -120,7 +119,7 @@ fn walk_section(
     before: usize,
     lines: &[Line<'_>],
     lacking: Option<usize>,
-) -> Result<Option<usize>, NoMemory>
+) -> Result<Option<usize>, AllocError>
     requires { before + length lines.now < 2 ^ 32 }
     ensures { IfOk result (λ first. Walks pool.old lacking (method_needs (enumerate_from before (map line_view lines.now))) pool.new first) }
 {
@@ -130,7 +129,10 @@ fn walk_section(
 }
 
 /// The pool of the lines of a text, and the first of them that needs an entry without room.
-pub fn pool_of(alloc: Global, lines: &[Line<'_>]) -> Result<(PoolBuilder, Option<usize>), NoMemory>
+pub fn pool_of(
+    alloc: Global,
+    lines: &[Line<'_>],
+) -> Result<(PoolBuilder, Option<usize>), AllocError>
     requires { length lines.now < 2 ^ 32 }
     ensures { IfOk result (λ x. (s : Source) → map line_view lines.now ≡ lines_of s → IsPoolOf s x.0 x.1) }
 {

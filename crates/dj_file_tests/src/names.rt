@@ -1,9 +1,9 @@
 use dj_names::{
-    Base, Bytes, Desc, Kind, Name, NoMemory, Of, TextError, Ty, Tys, Units, is_array_descriptor,
+    Base, Bytes, Desc, Kind, Name, Of, TextError, Ty, Tys, Units, is_array_descriptor,
     is_class_name, is_field_descriptor, is_method_descriptor, is_method_name, is_modified_utf8,
     is_unqualified_name, kind_of, read_desc, slots, units_of,
 };
-use std::alloc::Global;
+use std::alloc::{AllocError, Global};
 use std::test::Fail;
 
 // A text, and whether it is an unqualified name, a method's name and a class's (JVMS 4.2).
@@ -127,7 +127,7 @@ fn repeated(
     unit: u8,
     count: usize,
     back: &[u8],
-) -> Result<Bytes, NoMemory> {
+) -> Result<Bytes, AllocError> {
     let mut text = Bytes::from_slice(alloc, prefix)?;
     for _ in 0..count {
         text.push(unit)?;
@@ -170,27 +170,27 @@ fn parts(rt: HostRuntime) -> Result<(), Fail> {
     Ok(())
 }
 
-fn names_grow(alloc: Global) -> Result<bool, NoMemory> {
+fn names_grow(alloc: Global) -> Result<bool, AllocError> {
     let mut name = Name::from_slice(alloc, b"ab")?;
     name.push(b'c')?;
     name.extend(b"de")?;
     Ok(name.as_slice() == b"abcde".as_slice() && Name::new(alloc).as_slice().is_empty())
 }
 
-fn bytes_grow(alloc: Global) -> Result<bool, NoMemory> {
+fn bytes_grow(alloc: Global) -> Result<bool, AllocError> {
     let mut bytes = Bytes::new(alloc);
     bytes.push(b'a')?;
     bytes.extend(b"bc")?;
     Ok(bytes.as_slice() == b"abc".as_slice())
 }
 
-fn units_grow(alloc: Global) -> Result<bool, NoMemory> {
+fn units_grow(alloc: Global) -> Result<bool, AllocError> {
     let mut units = Units::from_slice(alloc, &[1])?;
     units.push(65535)?;
     Ok(units.as_slice() == [1, 65535].as_slice())
 }
 
-fn types_grow(alloc: Global) -> Result<bool, NoMemory> {
+fn types_grow(alloc: Global) -> Result<bool, AllocError> {
     let mut types = Tys::new(alloc);
     types.push(Ty {
         dims: 0,

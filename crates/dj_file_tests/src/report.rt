@@ -1,8 +1,8 @@
-use dj_names::{Bytes, Charge, Costs, Message, Name, NoMemory, Outcome, Units};
+use dj_names::{Bytes, Charge, Costs, Message, Name, Outcome, Units};
 use dj_report::{
     Limit, Report, ReportError, Violation, Violations, bytes_of, compare, in_order, status_of,
 };
-use std::alloc::Global;
+use std::alloc::{AllocError, Global};
 
 // The report has this text, and the program ends with this status.
 fn says(alloc: Global, report: &Report, text: &[u8], status: u8) -> Result<bool, ReportError> {
@@ -63,9 +63,7 @@ fn says_path(
     text: &[u8],
     status: u8,
 ) -> Result<bool, ReportError> {
-    let Ok(path) = Name::from_slice(alloc, path) else {
-        return Err(ReportError::Memory);
-    };
+    let path = Name::from_slice(alloc, path)?;
     let report = if is_absent {
         Report::Absent(path)
     } else {
@@ -123,10 +121,8 @@ fn plain_ends(rt: HostRuntime) {
 const RETURNED: [(&[u8], &[u8]); 2] = [(b"", b"OK 0\n"), (b"\x0a\x0b", b"OK 2 0a0b\n")];
 
 fn says_bytes(alloc: Global, bytes: &[u8], line: &[u8]) -> Result<bool, ReportError> {
-    match Bytes::from_slice(alloc, bytes) {
-        Ok(bytes) => says_run(alloc, Outcome::OkBytes(bytes), line, 0),
-        Err(_) => Err(ReportError::Memory),
-    }
+    let bytes = Bytes::from_slice(alloc, bytes)?;
+    says_run(alloc, Outcome::OkBytes(bytes), line, 0)
 }
 
 #[test]
@@ -172,14 +168,14 @@ const THROWN: [Thrown; 4] = [
     ),
 ];
 
-fn message_of(alloc: Global, units: Option<&[u16]>) -> Result<Message, NoMemory> {
+fn message_of(alloc: Global, units: Option<&[u16]>) -> Result<Message, AllocError> {
     match units {
         None => Ok(Message::Null),
         Some(units) => Ok(Message::Text(Units::from_slice(alloc, units)?)),
     }
 }
 
-fn thrown_of(alloc: Global, row: &Thrown) -> Result<Outcome, NoMemory> {
+fn thrown_of(alloc: Global, row: &Thrown) -> Result<Outcome, AllocError> {
     let exception = Name::from_slice(alloc, row.1)?;
     let message = message_of(alloc, row.2)?;
     match row.0 {
@@ -189,10 +185,8 @@ fn thrown_of(alloc: Global, row: &Thrown) -> Result<Outcome, NoMemory> {
 }
 
 fn says_thrown(alloc: Global, row: &Thrown) -> Result<bool, ReportError> {
-    match thrown_of(alloc, row) {
-        Ok(outcome) => says_run(alloc, outcome, row.3, row.4),
-        Err(_) => Err(ReportError::Memory),
-    }
+    let outcome = thrown_of(alloc, row)?;
+    says_run(alloc, outcome, row.3, row.4)
 }
 
 #[test]
@@ -203,9 +197,9 @@ fn exceptions(rt: HostRuntime) {
 }
 
 // A path, a member, a number and a rule.
-type Line = (&'static [u8], &'static [u8], Option<u32>, u8);
+type ViolationRow = (&'static [u8], &'static [u8], Option<u32>, u8);
 
-fn violation(alloc: Global, line: &Line) -> Result<Violation, NoMemory> {
+fn violation(alloc: Global, line: &ViolationRow) -> Result<Violation, AllocError> {
     Ok(Violation {
         path: Name::from_slice(alloc, line.0)?,
         member: Name::from_slice(alloc, line.1)?,
@@ -214,14 +208,14 @@ fn violation(alloc: Global, line: &Line) -> Result<Violation, NoMemory> {
     })
 }
 
-const FOUND: [Line; 4] = [
+const FOUND: [ViolationRow; 4] = [
     (b"B.class", b"n()V", None, 7),
     (b"B.class", b"finalize()V", None, 8),
     (b"B.class", b"n()V", None, 7),
     (b"A.class", b"", None, 1),
 ];
 
-const FOUND_LATER: [Line; 4] = [
+const FOUND_LATER: [ViolationRow; 4] = [
     (b"C.class", b"v([B)[B", Some(10), 3),
     (b"C.class", b"v([B)[B", Some(9), 2),
     (b"D.class", b"d()V", Some(0), 19),
@@ -232,7 +226,7 @@ const REJECTED: &[u8] =
     b"REJECTED 7\nA.class - - 1 MALFORMED\nB.class finalize()V - 8 FINALIZER\nB.class n()V - 7 NATIVE\n\
       C.class v([B)[B 9 2 VERSION\nC.class v([B)[B 10 3 NAME\nD.class d()V - 20 ENTRY\nD.class d()V 0 19 SHAPE\n";
 
-fn ordered(alloc: Global, lines: &[Line]) -> Result<Violations, NoMemory> {
+fn ordered(alloc: Global, lines: &[ViolationRow]) -> Result<Violations, AllocError> {
     let mut found = Vec::new(alloc);
     for line in lines {
         found.push(violation(alloc, line)?)?;
@@ -240,14 +234,10 @@ fn ordered(alloc: Global, lines: &[Line]) -> Result<Violations, NoMemory> {
     Ok(in_order(found))
 }
 
-fn rejected(alloc: Global) -> Result<Report, ReportError> {
-    let (Ok(mut lines), Ok(later)) = (ordered(alloc, &FOUND), ordered(alloc, &FOUND_LATER)) else {
-        return Err(ReportError::Memory);
-    };
-    match lines.append(later) {
-        Ok(()) => Ok(Report::Rejected(lines)),
-        Err(_) => Err(ReportError::Memory),
-    }
+fn rejected(alloc: Global) -> Result<Report, AllocError> {
+    let mut lines = ordered(alloc, &FOUND)?;
+    lines.append(ordered(alloc, &FOUND_LATER)?)?;
+    Ok(Report::Rejected(lines))
 }
 
 #[test]
@@ -257,7 +247,7 @@ fn violations_in_order(rt: HostRuntime) {
 }
 
 // Lines that rise: no number comes before any, and capital letters before small ones.
-const RISING: [Line; 5] = [
+const RISING: [ViolationRow; 5] = [
     (b"A.class", b"", None, 3),
     (b"A.class", b"a()V", None, 8),
     (b"A.class", b"a()V", Some(0), 7),
@@ -265,13 +255,10 @@ const RISING: [Line; 5] = [
     (b"a.class", b"", None, 1),
 ];
 
-fn rise(alloc: Global) -> Result<Violations, NoMemory> {
+fn rise(alloc: Global) -> Result<Violations, AllocError> {
     let mut rising = Violations::new(alloc);
     for line in &RISING {
-        match rising.push(violation(alloc, line)?) {
-            Ok(()) => {}
-            Err(_) => return Err(NoMemory::Memory),
-        }
+        rising.push(violation(alloc, line)?)?;
     }
     Ok(rising)
 }

@@ -1,44 +1,21 @@
-ghost use Rattle.std.specs.Prelude.{◌<◌, ◌^◌, length, All};
+ghost use Rattle.std.specs.Prelude.{◌<◌, ◌^◌, ◌↔◌, length, All, IsTrue};
 
+use crate::files::{A, FileText, NATIVE, PathText, TWICE, build, lend};
 use dj_class::ClassError;
 use dj_pool::PoolError;
 use dj_report::{PathFile, Violation};
 use dj_rules::{RulesError, is_memory, rules, units_of_path};
 use std::alloc::Global;
 
-// A class A with a method verify, without its last byte.
-const CUT_SHORT: &[u8] =
-    b"\xca\xfe\xba\xbe\0\0\04\0\x08\x01\0\x01A\x07\0\x01\x01\0\x10java/lang/Object\x07\0\x03\x01\0\x06veri\
-    fy\x01\0\x06([B)[B\x01\0\x04Code\0\x21\0\x02\0\x04\0\0\0\0\0\x01\0\x09\0\x05\0\x06\0\x01\0\x07\0\0\0\
-    \x0e\0\x01\0\x01\0\0\0\x02\x2a\xb0\0\0\0\0\0";
-
-// A class B with a native n()V, and a finalize()V with code.
-const NATIVE: &[u8] =
-    b"\xca\xfe\xba\xbe\0\0\04\0\x09\x01\0\x01B\x07\0\x01\x01\0\x10java/lang/Object\x07\0\x03\x01\0\x01n\
-    \x01\0\x03()V\x01\0\x08finalize\x01\0\x04Code\0\x21\0\x02\0\x04\0\0\0\0\0\x02\x01\x01\0\x05\0\x06\0\
-    \0\0\x01\0\x07\0\x06\0\x01\0\x08\0\0\0\x0d\0\0\0\x01\0\0\0\x01\xb1\0\0\0\0\0\0";
-
-// A class D of version 53 with two native n()V, and a native finalize()V.
-const TWICE: &[u8] =
-    b"\xca\xfe\xba\xbe\0\0\05\0\x09\x01\0\x01D\x07\0\x01\x01\0\x10java/lang/Object\x07\0\x03\x01\0\x01n\
-    \x01\0\x03()V\x01\0\x08finalize\x01\0\x04Code\0\x21\0\x02\0\x04\0\0\0\0\0\x03\x01\x01\0\x05\0\x06\0\
-    \0\x01\x01\0\x05\0\x06\0\0\x01\x01\0\x07\0\x06\0\0\0\0";
-
 // A path, a member and a rule.
-type Line = (&'static [u8], &'static [u8], u8);
+type RuleRow = (&'static [u8], &'static [u8], u8);
 
-// Files, and the lines of their violations, in order and each once.
-const SETS: [(&[PathFile<'static>], &[Line]); 2] = [
+// Files, and the rows of their violations, in order and each once.
+const SETS: [(&[PathText], &[RuleRow]); 2] = [
     (
         &[
-            PathFile {
-                path: "B.class",
-                bytes: NATIVE,
-            },
-            PathFile {
-                path: "A.class",
-                bytes: CUT_SHORT,
-            },
+            ("B.class", FileText::Whole(NATIVE)),
+            ("A.class", FileText::Cut(A)),
         ],
         &[
             (b"A.class", b"", 1),
@@ -47,10 +24,7 @@ const SETS: [(&[PathFile<'static>], &[Line]); 2] = [
         ],
     ),
     (
-        &[PathFile {
-            path: "d/D.class",
-            bytes: TWICE,
-        }],
+        &[("d/D.class", FileText::Whole(TWICE))],
         &[
             (b"d/D.class", b"", 2),
             (b"d/D.class", b"", 3),
@@ -61,19 +35,30 @@ const SETS: [(&[PathFile<'static>], &[Line]); 2] = [
     ),
 ];
 
-fn is_line(found: &Violation, wanted: &Line) -> bool {
+fn is_row(found: &Violation, wanted: &RuleRow) -> bool {
     found.path.as_slice() == wanted.0
         && found.member.as_slice() == wanted.1
         && found.number.is_none()
         && found.rule == wanted.2
 }
 
-fn violates(alloc: Global, files: &[PathFile<'_>], wanted: &[Line]) -> Result<bool, RulesError>
-    requires { All (λ file. length file.bytes.now < 2 ^ 32) files.now }
+// Whether the files are as short as the rules want them.
+fn are_short(files: &[PathFile<'_>]) -> bool
+    ensures { IsTrue result ↔ All (λ file. length file.bytes.now < 2 ^ 32) files.now }
 {
-    let found = rules(alloc, files)?;
+    files.iter().all(|file| file.bytes.len() < 4_294_967_296)
+}
+
+// Whether the files have these violations, in order, and no others.
+fn violates(alloc: Global, files: &[PathText], wanted: &[RuleRow]) -> Result<bool, RulesError> {
+    let built = build(alloc, files)?;
+    let lent = lend(alloc, &built)?;
+    if !are_short(&lent) {
+        return Ok(false);
+    }
+    let found = rules(alloc, &lent)?;
     let lines = found.as_slice();
-    Ok(lines.len() == wanted.len() && lines.iter().zip(wanted).all(|(a, b)| is_line(a, b)))
+    Ok(lines.len() == wanted.len() && lines.iter().zip(wanted).all(|(a, b)| is_row(a, b)))
 }
 
 #[test]

@@ -6,7 +6,7 @@ use std::test::Fail;
 
 // Each folder has a folder, down to this many levels, and something named as a class file. One opening or one entry fails.
 #[derive(Drop)]
-struct Chain {
+struct FolderChain {
     levels: u32,
     failing: u32,
     kind: EntryKind,
@@ -16,9 +16,9 @@ struct Chain {
     folder: String,
 }
 
-impl Chain {
-    fn new(alloc: Global, levels: u32, failing: u32, kind: EntryKind) -> Chain {
-        Chain {
+impl FolderChain {
+    fn new(alloc: Global, levels: u32, failing: u32, kind: EntryKind) -> FolderChain {
+        FolderChain {
             levels,
             failing,
             kind,
@@ -40,7 +40,7 @@ impl Chain {
     }
 }
 
-impl Folders for Chain {
+impl Folders for FolderChain {
     ghost tree = { λ _. None };
 
     ghost left = { λ _. None };
@@ -67,10 +67,7 @@ impl Folders for Chain {
             2 => self.entry(alloc, "A.class", self.kind),
             _ => self.entry(alloc, "d/", EntryKind::Folder),
         };
-        match entry {
-            Ok(entry) => Ok(Some(entry)),
-            Err(_) => Err(ListError::Memory),
-        }
+        Ok(Some(entry?))
     }
 }
 
@@ -81,7 +78,7 @@ fn walking(
     failing: u32,
     kind: EntryKind,
 ) -> Result<String, AllocError> {
-    let mut folders = Chain::new(alloc, levels, failing, kind);
+    let mut folders = FolderChain::new(alloc, levels, failing, kind);
     let found = files_below(alloc, &mut folders, "f");
     let calls = folders.calls;
     match &found {
@@ -118,7 +115,7 @@ fn walks_or_fails(rt: HostRuntime) -> Result<(), Fail> {
 fn lists_each_once(rt: HostRuntime) -> Result<(), Fail> {
     let alloc = rt.alloc();
     for (most, wanted) in [(9, 3), (3, 3), (2, 2), (0, 0)] {
-        let mut folders = Chain::new(alloc, 2, 999, EntryKind::File);
+        let mut folders = FolderChain::new(alloc, 2, 999, EntryKind::File);
         let listed = list_folder(alloc, &mut folders, "f", most);
         let count = listed.as_ref().map_or(99, |paths| paths.len());
         assert_eq!(rt; count, wanted);
@@ -128,14 +125,14 @@ fn lists_each_once(rt: HostRuntime) -> Result<(), Fail> {
 
 // Folders whose contents are known: each is empty, or none can be read.
 #[derive(Drop)]
-struct Reported(bool);
+struct KnownFolders(bool);
 
-impl Folders for Reported {
+impl Folders for KnownFolders {
     ghost use Rattle.std.specs.Prelude.{Some, None, [], cond};
 
-    ghost tree = { λ reported. Some (λ _. cond reported.0 (Some []) None) };
+    ghost tree = { λ folders. Some (λ _. cond folders.0 (Some []) None) };
 
-    ghost left = { λ reported. cond reported.0 (Some []) None };
+    ghost left = { λ folders. cond folders.0 (Some []) None };
 
     fn open(&mut self, _folder: &str) -> Result<(), ListError> {
         if self.0 {
@@ -156,8 +153,8 @@ impl Folders for Reported {
 
 #[test]
 fn empty_or_unread(rt: HostRuntime) {
-    let empty = list_folder(rt.alloc(), &mut Reported(true), "f", 9);
+    let empty = list_folder(rt.alloc(), &mut KnownFolders(true), "f", 9);
     assert!(rt; matches!(&empty, Ok(paths) if paths.is_empty()));
-    let unread = list_folder(rt.alloc(), &mut Reported(false), "f", 9);
+    let unread = list_folder(rt.alloc(), &mut KnownFolders(false), "f", 9);
     assert!(rt; matches!(&unread, Err(ListError::Failed)));
 }

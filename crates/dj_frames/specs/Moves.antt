@@ -6,7 +6,7 @@ use Rattle.dj_ops.specs.declared.frames.Form.{Form}
 use Rattle.dj_ops.specs.declared.frames.Form.TheVariants as forms
 use Rattle.dj_ops.specs.declared.frames.Frame.{Frame}
 
--- the new instruction's number through own
+-- the type, whose new instruction gets its number from the list `own`
 abbrev pub moved_type : (own : List ℕ) → VType → VType
 moved_type own (types.Uninitialized number) = types.Uninitialized (slice_index own number)
 moved_type own type = type

@@ -19,7 +19,7 @@ pub enum FrameError {
     #[error("the item at {0} of the stack map is cut, has a value that it may not have, or is one too many")]
     BadFrame(u32),
     /// The item at this place gives an address where no instruction starts.
-    #[error("the item at {0} of the stack map tells an address where no instruction starts")]
+    #[error("the item at {0} of the stack map gives an address where no instruction starts")]
     NotAnInstruction(u32),
     /// There was no memory.
     #[error("out of memory")]
@@ -46,14 +46,6 @@ impl<T: Drop> From<AllocFailed<T>> for FrameError {
     ghost from_gives = { λ _ e. e ≡ errors.Memory };
 
     fn from(_error: AllocFailed<T>) -> FrameError {
-        FrameError::Memory
-    }
-}
-
-impl From<dj_names::NoMemory> for FrameError {
-    ghost from_gives = { λ _ e. e ≡ errors.Memory };
-
-    fn from(_error: dj_names::NoMemory) -> FrameError {
         FrameError::Memory
     }
 }
@@ -298,7 +290,7 @@ fn read_stack1_frame<'a>(
     Ok((Frame { at, form }, after))
 }
 
-/// A frame, where least is the least address that it can have.
+/// A frame, where `least` is the least address that it can have.
 #[tactic(auto, unfolding(crate::specs::Reading::frame_at))]
 fn read_frame<'a>(
     alloc: Global,

@@ -81,7 +81,7 @@ edges_left [] looked = 0
 edges_left (targets ∷ edges) [] = 0
 edges_left (targets ∷ edges) (n ∷ looked) = (length targets - n) + edges_left edges looked
 
--- no step leaves as much of this as there was
+-- each step makes this number less
 abbrev pub effort : Edges → Search → ℕ
 effort edges search = 3 * edges_left edges search.looked.items + (length search.work.items + length search.starts.items)
 

@@ -6,7 +6,7 @@ use dj_calls::NativeAnswer;
 use dj_edge::Host;
 use dj_names::Value;
 
-// The method returns a word of the host.
+/// The method returns a word of the host.
 pub fn give_word<H: Host>(host: &mut H) -> NativeAnswer
     ensures { Passes Word values.Int (H.given host.old) (H.given host.new) result }
 {
@@ -16,7 +16,7 @@ pub fn give_word<H: Host>(host: &mut H) -> NativeAnswer
     }
 }
 
-// The method returns the host's time in nanoseconds.
+/// The method returns the host's time in nanoseconds.
 pub fn give_nanos<H: Host>(host: &mut H) -> NativeAnswer
     ensures { Passes Nanos values.Long (H.given host.old) (H.given host.new) result }
 {
@@ -26,7 +26,7 @@ pub fn give_nanos<H: Host>(host: &mut H) -> NativeAnswer
     }
 }
 
-// The method returns the host's time in milliseconds.
+/// The method returns the host's time in milliseconds.
 pub fn give_millis<H: Host>(host: &mut H) -> NativeAnswer
     ensures { Passes Millis values.Long (H.given host.old) (H.given host.new) result }
 {

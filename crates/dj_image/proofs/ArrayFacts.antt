@@ -21,7 +21,7 @@ use Rattle.dj_types.specs.Typed.{is_known_of, is_array_of, arrays_rise, AreArray
 use Rattle.dj_image.specs.Imaged.{IsPartOf}
 use Rattle.dj_image.specs.declared.parts.ClassParts.{ClassParts}
 use Rattle.dj_image.specs.Uses.{used_types}
-use Rattle.dj_image.specs.ArrayRows.{ArrayRows, RiseStrictly, dims_in, most_at, has_row, IsKeyed, IsRow, AreRows, AreAllKnown, known_types, wholes_of, levels}
+use Rattle.dj_image.specs.ArrayRows.{ArrayRows, RowsRiseStrictly, dims_in, most_at, has_row, IsKeyed, IsRow, AreRows, AreAllKnown, known_types, wholes_of, levels}
 use Rattle.dj_image.proofs.RowFacts.{Entries, found_in, same_items, of_once, has_parts, has_from, both}
 use Rattle.dj_image.proofs.Levels.{IsUnder, Ordered, ordered_from, type_levels, levels_types, elements_levels, under_levels, levels_under, levels_rise, top_found}
 use Rattle.dj_image.proofs.Members.{member_first, member_later, member_none, member_cases, member_of_filter}
@@ -48,7 +48,7 @@ found_value : (es : Entries) → AllByRecursion IsKeyed es → (text : Name) (t 
 found_value [] keyed text t is = absurd (none-some t is)
 found_value (e ∷ es) keyed text t is = found_by e es text t keyed.0 (found_value es keyed.1 text t) (slice_cmp nat_cmp text e.0.items) refl is
 
-module _ (wholes : List Ty) (rows : ArrayRows) (are : AreRows wholes rows) (up : RiseStrictly (keys_of rows.entries)) where
+module _ (wholes : List Ty) (rows : ArrayRows) (are : AreRows wholes rows) (up : RowsRiseStrictly (keys_of rows.entries)) where
   abbrev tops : List Ty
   tops = values_of rows.entries
 
@@ -102,7 +102,7 @@ all_from : (program : Program) (tys : List Ty) → ((t : Ty) → Contains tys t 
 all_from program [] each = tt
 all_from program (t ∷ tys) each = (each t (member_first t tys), all_from program tys (λ u m. each u (member_later t tys u m)))
 
-module _ (program : Program) (parts : List ClassParts) (rows : ArrayRows) (are : AreRows (wholes_of program parts) rows) (up : RiseStrictly (keys_of rows.entries)) where
+module _ (program : Program) (parts : List ClassParts) (rows : ArrayRows) (are : AreRows (wholes_of program parts) rows) (up : RowsRiseStrictly (keys_of rows.entries)) where
   pub tops_known : AreAllKnown program (values_of rows.entries)
   tops_known = all_from program (values_of rows.entries) (λ t m. let row = top_row (wholes_of program parts) rows are up t m in ap (is_known_of program) row.2.same ∙ whole_known program parts row.0 row.1)
 

@@ -27,7 +27,7 @@ use Rattle.dj_types.proofs.Reported.{element_reported}
 use Rattle.dj_types.specs.declared.shapes.Shape.{Shape}
 use Rattle.dj_types.specs.Shapes.{AreElements, shape_in, shape_type}
 use Rattle.dj_types.specs.Typed.{is_known_of, arrays_rise}
-use Rattle.dj_image.specs.ArrayRows.{RiseStrictly, IsKeyed, AreAllKnown, at_level, level, levels}
+use Rattle.dj_image.specs.ArrayRows.{RowsRiseStrictly, IsKeyed, AreAllKnown, at_level, level, levels}
 use Rattle.dj_image.proofs.RowFacts.{Entries, found_in, order, both}
 use Rattle.dj_image.proofs.Wholes.{filter_map_more}
 use Rattle.dj_image.proofs.Members.{member_first, member_none, member_cases, member_of_filter_map, member_filter_map}
@@ -37,7 +37,7 @@ abbrev pub Ordered : Entries → Type 0
 Ordered [] = Unit {0}
 Ordered (e ∷ es) = AllByRecursion (λ (other : Vec ℕ). order e.0 other ≡ Less) (keys_of es) × Ordered es
 
-pub ordered_from : (es : Entries) → RiseStrictly (keys_of es) → Ordered es
+pub ordered_from : (es : Entries) → RowsRiseStrictly (keys_of es) → Ordered es
 unfolding IsStrictlySortedBy
 ordered_from [] up = tt
 ordered_from (e ∷ es) up = (up.0, ordered_from es up.1)

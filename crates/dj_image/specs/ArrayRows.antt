@@ -34,7 +34,7 @@ of_lent (lents.Class name) = ofs.Class name.now
 abbrev pub type_lent : LentType → Ty
 type_lent ty = record { dims = ty.dims; of = of_lent ty.of }
 
--- the brackets at the front of a text
+-- the brackets that a text begins with
 abbrev pub brackets : List ℕ → ℕ
 brackets [] = 0
 brackets (b ∷ more) = if nat_eq b 91 then suc (brackets more) else 0
@@ -51,8 +51,8 @@ abbrev pub ArrayRows : Type 0
 ArrayRows = BTreeMap (Vec ℕ) Ty
 
 -- the texts rise
-abbrev pub RiseStrictly : List (Vec ℕ) → Type 0
-RiseStrictly texts = IsStrictlySortedBy (λ x y. slice_cmp nat_cmp x.items y.items) texts
+abbrev pub RowsRiseStrictly : List (Vec ℕ) → Type 0
+RowsRiseStrictly texts = IsStrictlySortedBy (λ x y. slice_cmp nat_cmp x.items y.items) texts
 
 -- the dimensions of a row, none where there is none
 abbrev pub dims_in : Option Ty → ℕ
@@ -71,7 +71,7 @@ has_row rows ty = nat_le 1 ty.dims && nat_le ty.dims (most_at rows (of_text ty.o
 abbrev pub IsKeyed : Vec ℕ × Ty → Type 0
 IsKeyed entry = (of_text entry.1.of ≡ entry.0.items) × (1 ≤ entry.1.dims) × (entry.1.dims ≤ 255)
 
--- one of the arrays is it, or has it for elements at whatever depth
+-- the type is one of these arrays, or their elements, or the elements of these, and so on
 abbrev pub IsRow : List Ty → Ty → Type 0
 IsRow wholes ty = (whole : Ty) × Contains wholes whole × IsPartOf ty whole
 

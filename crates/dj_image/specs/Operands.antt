@@ -94,7 +94,7 @@ named_class imaged (AMethod m) = type_number (typed_of imaged) m.class
 named_class imaged (AnInterfaceMethod m) = type_number (typed_of imaged) m.class
 named_class imaged named = None
 
--- the number of the array of which the elements are of the class that a constant names: what anewarray makes by it
+-- the number of the array that anewarray makes by a constant: its elements are of the class that the constant names
 abbrev pub made_class : Imaged → Named → Option ℕ
 made_class imaged (AClass ty) = type_number (typed_of imaged) (array_type ty)
 made_class imaged named = None

@@ -12,7 +12,7 @@ ghost use Rattle.dj_types.specs.Typed.{is_known_of, AreArrays};
 ghost use Rattle.dj_types.specs.Shapes.{AreElements, shape_in, shape_type};
 ghost use Rattle.dj_image.specs.Parts.{FitClasses};
 ghost use Rattle.dj_image.specs.Uses.{base_used, used_type, class_types};
-ghost use Rattle.dj_image.specs.ArrayRows.{RiseStrictly, of_lent, type_lent, most_at, level, levels, IsKeyed, IsFitUse, AreAllKnown, AreRows, IsRow, known_types, first_wholes, wholes_of};
+ghost use Rattle.dj_image.specs.ArrayRows.{RowsRiseStrictly, of_lent, type_lent, most_at, level, levels, IsKeyed, IsFitUse, AreAllKnown, AreRows, IsRow, known_types, first_wholes, wholes_of};
 
 use crate::error::ImageError;
 use crate::lent_type::{LentOf, LentType, type_in};
@@ -237,7 +237,7 @@ fn add_level(arrays: &mut Vec<Shape>, tops: &[Shape], dims: u8) -> Result<(), Im
     Ok(())
 }
 
-// The arrays that these are or have for elements at whatever depth, in the order of the texts: those of fewer dimensions first.
+// These arrays, and those that are their elements, at every depth, in the order of their texts: those of fewer dimensions first.
 fn levels_of(alloc: Global, tops: &[Shape]) -> Result<Vec<Shape>, ImageError>
     ensures { IfOk result (λ arrays. arrays.items ≡ levels 255 tops.now) }
 {

@@ -32,16 +32,6 @@ impl<T: Drop> From<AllocFailed<T>> for ImageError {
     }
 }
 
-impl From<dj_names::NoMemory> for ImageError {
-    ghost use Rattle.dj_image.specs.declared.error.ImageError.TheVariants.{Memory};
-
-    ghost from_gives = { λ _ e. e ≡ Memory };
-
-    fn from(_error: dj_names::NoMemory) -> ImageError {
-        ImageError::Memory
-    }
-}
-
 impl From<TypesError> for ImageError {
     ghost use Rattle.dj_image.specs.declared.error.ImageError.TheVariants.{Memory};
 

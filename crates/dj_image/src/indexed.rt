@@ -208,7 +208,7 @@ fn kept_array(pool: &OwnedPool, arrays: &[Option<u32>], index: u16) -> Option<u3
     number_at(arrays, pool.class_text(index)?)
 }
 
-/// By the index of a constant the number of the array that anewarray makes by it.
+/// For each index of the pool, the number of the array that anewarray makes by its constant.
 pub(crate) fn made_table(
     alloc: Global,
     pool: &OwnedPool,

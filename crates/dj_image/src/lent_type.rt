@@ -24,7 +24,7 @@ pub(crate) struct LentType<'a> {
     pub(crate) of: LentOf<'a>,
 }
 
-// The brackets at the front.
+// The brackets that the text begins with.
 fn brackets(text: &[u8]) -> u16
     requires { brackets text.now ≤ 255 }
     ensures count { result ≡ brackets text.now }

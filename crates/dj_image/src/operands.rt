@@ -194,7 +194,7 @@ fn operand_at(
     }
 }
 
-/// By the index of a constant what it is as an operand.
+/// For each index of the pool, what its constant is as an operand.
 pub(crate) fn operand_table(
     alloc: Global,
     types: &Types,

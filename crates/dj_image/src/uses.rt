@@ -16,7 +16,7 @@ use std::alloc::Global;
 pub(crate) enum Use {
     /// The class or the array that the text of a class constant names.
     Itself(u16),
-    /// An array of such.
+    /// An array whose elements are of the class at this index.
     Element(u16),
     /// An array of a base type, by its code (JVMS table 6.5.newarray-A).
     Base(u8),

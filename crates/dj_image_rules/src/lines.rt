@@ -4,22 +4,19 @@ ghost use Rattle.dj_image_rules.specs.Reported.{IsLineOf};
 
 use crate::paths::{class_path, joined};
 use dj_image::MemberOf;
-use dj_names::{Name, NoMemory};
+use dj_names::Name;
 use dj_report::Violation;
-use dj_shape::{ShapeError, ShapeFault};
-use std::alloc::Global;
+use dj_shape::ShapeFault;
+use std::alloc::{AllocError, Global};
 
 // The number of SHAPE.
 const SHAPE: u8 = 19;
 
 // The name of a member, followed by its descriptor.
-fn member_text(alloc: Global, member: &MemberOf<'_>) -> Result<Name, ShapeError>
+fn member_text(alloc: Global, member: &MemberOf<'_>) -> Result<Name, AllocError>
     ensures { IfOk result (λ text. text ≡ member.now.name.now ++ member.now.desc.now) }
 {
-    match joined(alloc, member.name, member.desc) {
-        Ok(text) => Ok(text),
-        Err(NoMemory::Memory) => Err(ShapeError::Memory),
-    }
+    joined(alloc, member.name, member.desc)
 }
 
 /// The line of a fault of a method, of a class with this name.
@@ -28,7 +25,7 @@ pub fn shape_line(
     class: &[u8],
     member: &MemberOf<'_>,
     fault: ShapeFault,
-) -> Result<Violation, ShapeError>
+) -> Result<Violation, AllocError>
     requires { (units : List ℕ) × SpellsUnits class.now units }
     ensures { IfOk result (IsLineOf class.now member.now fault) }
 {

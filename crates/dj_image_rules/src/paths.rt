@@ -4,12 +4,11 @@ ghost use Rattle.std.specs.Str.{encode_utf8_all};
 ghost use Rattle.dj_names.specs.trusted.ModifiedUtf8.{SpellsUnits};
 ghost use Rattle.dj_image_rules.specs.Rules.{IsPathOf};
 
-use dj_names::{Name, NoMemory, TextError, units_of};
-use dj_shape::ShapeError;
-use std::alloc::Global;
+use dj_names::{Name, TextError, units_of};
+use std::alloc::{AllocError, Global};
 
-// The two one after the other.
-pub fn joined(alloc: Global, prefix: &[u8], back: &[u8]) -> Result<Name, NoMemory>
+/// The two one after the other.
+pub fn joined(alloc: Global, prefix: &[u8], back: &[u8]) -> Result<Name, AllocError>
     ensures { IfOk result (λ text. text ≡ prefix.now ++ back.now) }
 {
     let mut text = Name::from_slice(alloc, prefix)?;
@@ -18,28 +17,25 @@ pub fn joined(alloc: Global, prefix: &[u8], back: &[u8]) -> Result<Name, NoMemor
 }
 
 // The characters that units spell, and .class
-fn units_path(alloc: Global, units: &[u16]) -> Result<Name, ShapeError>
+fn units_path(alloc: Global, units: &[u16]) -> Result<Name, AllocError>
     ensures { IfOk result (λ path. path ≡ encode_utf8_all (utf16_lossy_chars units.now) ++ codes ".class") }
 {
     let text = String::from_utf16_lossy(alloc, units)?;
-    match joined(alloc, text.as_bytes(), b".class") {
-        Ok(path) => Ok(path),
-        Err(NoMemory::Memory) => Err(ShapeError::Memory),
-    }
+    joined(alloc, text.as_bytes(), b".class")
 }
 
 /// The path of the file of the class of this name.
-pub fn class_path(alloc: Global, name: &[u8]) -> Result<Name, ShapeError>
+pub fn class_path(alloc: Global, name: &[u8]) -> Result<Name, AllocError>
     requires { (units : List ℕ) × SpellsUnits name.now units }
     ensures { IfOk result (λ path. IsPathOf path name.now) }
 {
     // There is no memory for a longer name.
     let Ok(_) = u32::try_from(name.len()) else {
-        return Err(ShapeError::Memory);
+        return Err(AllocError);
     };
     match units_of(alloc, name) {
         Ok(units) => units_path(alloc, units.as_slice()),
         Err(TextError::NotModifiedUtf8(_)) => unreachable!(),
-        Err(TextError::Memory) => Err(ShapeError::Memory),
+        Err(TextError::Memory) => Err(AllocError),
     }
 }

@@ -22,22 +22,22 @@ use dj_image::{Image, MemberOf, MethodId, ShapeParts};
 use dj_link::is_static;
 use dj_report::Violation;
 use dj_shape::{ShapeError, ShapeFault};
-use std::alloc::Global;
+use std::alloc::{AllocError, Global};
 
 // The first fault of code.
 fn fault_of(
     alloc: Global,
     flags: u16,
     parts: &ShapeParts<'_>,
-) -> Result<Option<ShapeFault>, ShapeError>
+) -> Result<Option<ShapeFault>, AllocError>
     ensures { IfOk result (λ fault. (pool : List Constant) (signature : Signature) → ArePoolKinds pool parts.now.kinds.now → IsDescriptor (name_in pool parts.now.desc)
         → signature_at pool (is_static flags) parts.now.desc ≡ Some signature → IsShapeAnswer signature (code_in pool (parts_of parts.now.code.now)) fault) }
 {
     // There is no memory for more instructions than have numbers.
     let Ok(_) = u32::try_from(parts.code.code.code.as_slice().len()) else {
-        return Err(ShapeError::Memory);
+        return Err(AllocError);
     };
-    dj_shape::shape(alloc, parts.kinds, is_static(flags), parts.desc, parts.code)
+    Ok(dj_shape::shape(alloc, parts.kinds, is_static(flags), parts.desc, parts.code)?)
 }
 
 // The name of a class.
@@ -54,7 +54,7 @@ fn line_of(
     image: &Image,
     member: &MemberOf<'_>,
     fault: ShapeFault,
-) -> Result<Violation, ShapeError>
+) -> Result<Violation, AllocError>
     requires there { member.now.class < length (program_of image.now) }
     requires spelled { (class : List ℕ) → name_at (program_of image.now) member.now.class ≡ Some class → (units : List ℕ) × SpellsUnits class units }
     ensures { IfOk result (IsLineIn image.now member.now fault) }
@@ -69,7 +69,7 @@ fn shape_of(
     image: &Image,
     method: MethodId,
     parts: &ShapeParts<'_>,
-) -> Result<Option<Violation>, ShapeError>
+) -> Result<Option<Violation>, AllocError>
     requires there { method.number < length (all_methods (program_of image.now)) }
     requires kinds { HasKinds image.now method.number }
     requires spelled { IsSpelled image.now method.number }
@@ -96,6 +96,6 @@ pub fn shape(
 {
     match image.shape_parts(method) {
         None => Ok(None),
-        Some(parts) => shape_of(alloc, image, method, &parts),
+        Some(parts) => Ok(shape_of(alloc, image, method, &parts)?),
     }
 }

@@ -14,8 +14,9 @@ use crate::places::StaticPlaces;
 use dj_heap::Heap;
 use dj_image::{Image, Operand};
 use dj_members::{Kept, Literals, Statics, field_bits, keep_text};
-use dj_names::{NoMemory, Value};
+use dj_names::Value;
 use dj_types::FieldId;
+use std::alloc::AllocError;
 
 // A static field begins with the object of a text.
 fn set_text(
@@ -25,7 +26,7 @@ fn set_text(
     heap: &mut Heap,
     place: u32,
     text: u32,
-) -> Result<Filled, NoMemory>
+) -> Result<Filled, AllocError>
     requires texts { AreTexts image.now }
     requires known { text < length image.now.texts }
     requires place { place < length statics.old }
@@ -50,7 +51,7 @@ fn set_constant(
     heap: &mut Heap,
     place: u32,
     field: FieldId,
-) -> Result<Filled, NoMemory>
+) -> Result<Filled, AllocError>
     requires texts { AreTexts image.now }
     requires there { field.number < length (all_fields (program_of image.now)) }
     requires place { place < length statics.old }
@@ -80,7 +81,7 @@ fn fill_field(
     literals: &mut Literals,
     heap: &mut Heap,
     field: FieldId,
-) -> Result<Filled, NoMemory>
+) -> Result<Filled, AllocError>
     requires formed { IsProgram (program_of image.now) }
     requires texts { AreTexts image.now }
     requires places { ArePlaces (program_of image.now) places.now }
@@ -103,7 +104,7 @@ fn fill_class(
     literals: &mut Literals,
     heap: &mut Heap,
     class: u32,
-) -> Result<Filled, NoMemory>
+) -> Result<Filled, AllocError>
     requires formed { IsProgram (program_of image.now) }
     requires texts { AreTexts image.now }
     requires places { ArePlaces (program_of image.now) places.now }
@@ -122,7 +123,7 @@ fn fill_class(
             Filled::HeapFull { used, size } => return Ok(Filled::HeapFull { used, size }),
         }
     }
-    Err(NoMemory::Memory)
+    Err(AllocError)
 }
 
 /// The static fields of these classes begin with their constants, the last class first.
@@ -133,7 +134,7 @@ pub fn fill_all(
     literals: &mut Literals,
     heap: &mut Heap,
     classes: &[u32],
-) -> Result<Filled, NoMemory>
+) -> Result<Filled, AllocError>
     requires formed { IsProgram (program_of image.now) }
     requires texts { AreTexts image.now }
     requires places { ArePlaces (program_of image.now) places.now }

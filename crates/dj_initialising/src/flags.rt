@@ -1,8 +1,7 @@
 ghost use Rattle.std.specs.Prelude.{◌≡◌, ◌<◌, length, replicate, set, false, true, IfOk};
 ghost use Rattle.dj_initialising.specs.Flags.{has_begun};
 
-use dj_names::NoMemory;
-use std::alloc::Global;
+use std::alloc::{AllocError, Global};
 use std::marker::Model;
 
 /// For each class, in their order, whether its initialisation has begun.
@@ -21,7 +20,7 @@ impl Model for Initialised {
 
 impl Initialised {
     /// The flags of this many classes, none of which has begun.
-    pub fn new(alloc: Global, count: u32) -> Result<Initialised, NoMemory>
+    pub fn new(alloc: Global, count: u32) -> Result<Initialised, AllocError>
         ensures { IfOk result (λ initialised. initialised ≡ replicate count false) }
     {
         Ok(Initialised {

@@ -8,9 +8,8 @@ ghost use Rattle.dj_initialising.specs.Initialisers.{AreInitialisers, IsInitiali
 
 use crate::bits::is_static;
 use dj_image::{Body, Image};
-use dj_names::NoMemory;
 use dj_types::MethodId;
-use std::alloc::Global;
+use std::alloc::{AllocError, Global};
 use std::marker::Model;
 
 /// The initialiser of a class (JVMS 2.9): its number, and how many local variables and operands its frame has.
@@ -38,7 +37,7 @@ impl Model for Initialisers {
 
 impl Initialisers {
     /// The initialisers of the classes of an image. Each method is looked at once at most.
-    pub fn of(alloc: Global, image: &Image) -> Result<Initialisers, NoMemory>
+    pub fn of(alloc: Global, image: &Image) -> Result<Initialisers, AllocError>
         requires { IsProgram (program_of image.now) }
         ensures { IfOk result (λ initialisers. AreInitialisers image.now initialisers) }
     {
@@ -62,7 +61,7 @@ impl Initialisers {
 }
 
 // The initialiser of a class: the first method with its name and its descriptor, where it is static and has code.
-fn initialiser_of(image: &Image, class: u32) -> Result<Option<Initialiser>, NoMemory>
+fn initialiser_of(image: &Image, class: u32) -> Result<Option<Initialiser>, AllocError>
     requires formed { IsProgram (program_of image.now) }
     requires there { class < length (types_of (typed_of image.now)) }
     ensures { IfOk result (λ o. class < length (program_of image.now) → IsInitialiserOf image.now (class_name (program_of image.now) class) o) }
@@ -76,7 +75,7 @@ fn initialiser_of(image: &Image, class: u32) -> Result<Option<Initialiser>, NoMe
             return Ok(running(image, method, member.flags));
         }
     }
-    Err(NoMemory::Memory)
+    Err(AllocError)
 }
 
 // Whether these are the name and the descriptor of an initialiser.

@@ -8,9 +8,8 @@ ghost use Rattle.dj_initialising.specs.Places.{ArePlaces, IsCounted, one_if_stat
 
 use crate::bits::is_static;
 use dj_image::Image;
-use dj_names::NoMemory;
 use dj_types::FieldId;
-use std::alloc::Global;
+use std::alloc::{AllocError, Global};
 use std::marker::Model;
 
 /// For each field its place among the static fields of the program, and how many static fields there are.
@@ -31,7 +30,7 @@ impl Model for StaticPlaces {
 
 impl StaticPlaces {
     /// The places of the fields of an image, each of which is looked at once.
-    pub fn of(alloc: Global, image: &Image) -> Result<StaticPlaces, NoMemory>
+    pub fn of(alloc: Global, image: &Image) -> Result<StaticPlaces, AllocError>
         requires { IsProgram (program_of image.now) }
         ensures { IfOk result (λ places. ArePlaces (program_of image.now) places) }
     {
@@ -60,7 +59,7 @@ impl StaticPlaces {
 }
 
 // The places of the fields that a class declares, after this many static fields; and how many come before the next class.
-fn add_class(image: &Image, each: &mut Vec<u32>, before: u32, class: u32) -> Result<u32, NoMemory>
+fn add_class(image: &Image, each: &mut Vec<u32>, before: u32, class: u32) -> Result<u32, AllocError>
     requires { class < length (types_of (typed_of image.now)) }
     ensures { IfOk result (λ after. IsCounted (fields_at (program_of image.now) class) each.old.items before each.new.items after) }
 {
@@ -72,15 +71,15 @@ fn add_class(image: &Image, each: &mut Vec<u32>, before: u32, class: u32) -> Res
         each.push(count)?;
         count = with_one(count, image.field(field).flags)?;
     }
-    Err(NoMemory::Memory)
+    Err(AllocError)
 }
 
-// One more, where these are the flags of a static field.
-fn with_one(count: u32, flags: u16) -> Result<u32, NoMemory>
+// The count, and one more where these are the flags of a static field.
+fn with_one(count: u32, flags: u16) -> Result<u32, AllocError>
     ensures { IfOk result (λ next. next ≡ count + one_if_static flags) }
 {
     if is_static(flags) {
-        count.checked_add(1).ok_or(NoMemory::Memory)
+        count.checked_add(1).ok_or(AllocError)
     } else {
         Ok(count)
     }

@@ -19,9 +19,8 @@ use crate::waiting::begin_upward;
 use dj_heap::Heap;
 use dj_image::Image;
 use dj_members::{Literals, Statics};
-use dj_names::NoMemory;
 use dj_stack::Frames;
-use std::alloc::Global;
+use std::alloc::{AllocError, Global};
 
 /// How a run goes on at a use of a class.
 #[derive(Clone, Copy, Debug)]
@@ -41,7 +40,7 @@ fn stand_above(
     initialisers: &Initialisers,
     frames: &mut Frames,
     classes: &[u32],
-) -> Result<Prepared, NoMemory>
+) -> Result<Prepared, AllocError>
     ensures { IfOk result (λ prepared. Pushes initialisers.now classes.now frames.old frames.new prepared) }
 {
     let count = count_of(initialisers, classes);
@@ -68,7 +67,7 @@ pub fn initialise(
     heap: &mut Heap,
     frames: &mut Frames,
     class: u32,
-) -> Result<Prepared, NoMemory>
+) -> Result<Prepared, AllocError>
     requires formed { IsProgram (program_of image.now) }
     requires texts { AreTexts image.now }
     requires places { ArePlaces (program_of image.now) places.now }

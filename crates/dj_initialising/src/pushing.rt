@@ -2,8 +2,8 @@ ghost use Rattle.std.specs.Prelude.{◌≡◌, ◌≤◌, length, get_or, None, 
 ghost use Rattle.dj_initialising.specs.Initialisers.{initialiser_count, one_if, pushed, with_initialiser};
 
 use crate::initialisers::{Initialiser, Initialisers};
-use dj_names::NoMemory;
 use dj_stack::Frames;
+use std::alloc::AllocError;
 
 /// How many of these classes have an initialiser.
 pub fn count_of(initialisers: &Initialisers, classes: &[u32]) -> usize
@@ -28,7 +28,7 @@ fn one_if(initialiser: Option<Initialiser>) -> usize
 }
 
 // Pushes the frame of the initialiser of a class, where it has one.
-fn push_one(initialisers: &Initialisers, frames: &mut Frames, class: u32) -> Result<(), NoMemory>
+fn push_one(initialisers: &Initialisers, frames: &mut Frames, class: u32) -> Result<(), AllocError>
     ensures { OnOk result (frames.new ≡ with_initialiser (get_or initialisers.now class None) frames.old) }
 {
     let Some(initialiser) = initialisers.initialiser(class) else {
@@ -36,7 +36,7 @@ fn push_one(initialisers: &Initialisers, frames: &mut Frames, class: u32) -> Res
     };
     frames
         .push(initialiser.method, initialiser.locals, initialiser.room)
-        .or(Err(NoMemory::Memory))
+        .or(Err(AllocError))
 }
 
 /// Pushes the frames of the initialisers of these classes, that of the last class on top.
@@ -44,7 +44,7 @@ pub fn push_all(
     initialisers: &Initialisers,
     frames: &mut Frames,
     classes: &[u32],
-) -> Result<(), NoMemory>
+) -> Result<(), AllocError>
     ensures { OnOk result (frames.new ≡ pushed initialisers.now classes.now frames.old) }
 {
     for class in classes {

@@ -6,8 +6,7 @@ ghost use Rattle.dj_initialising.specs.Waiting.{AreWaiting};
 
 use crate::flags::Initialised;
 use dj_image::Image;
-use dj_names::NoMemory;
-use std::alloc::Global;
+use std::alloc::{AllocError, Global};
 
 /// The class and those of its superclasses that aren't initialised yet, the class first; they count as initialised from now on.
 pub fn begin_upward(
@@ -15,7 +14,7 @@ pub fn begin_upward(
     image: &Image,
     flags: &mut Initialised,
     class: u32,
-) -> Result<Vec<u32>, NoMemory>
+) -> Result<Vec<u32>, AllocError>
     requires there { class < length (program_of image.now) }
     requires formed { IsProgram (program_of image.now) }
     requires flags { AreFlags (program_of image.now) flags.old }

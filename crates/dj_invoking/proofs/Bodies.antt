@@ -26,7 +26,7 @@ use Rattle.dj_invoking.specs.declared.entering.Room.{Room}
 use Rattle.dj_invoking.specs.Operands.{with_operands}
 use Rattle.dj_invoking.specs.declared.choosing.Mode.TheVariants as modes
 use Rattle.dj_invoking.specs.Choosing.{IsMethod, reported_mode}
-use Rattle.dj_invoking.specs.Entering.{entered, Enters as EntersFrame}
+use Rattle.dj_invoking.specs.Entering.{entered, EntersIfAllowed}
 use Rattle.dj_invoking.specs.Natives.{AreClasses, AreNatives, AreTyped, row_at}
 use Rattle.dj_invoking.specs.Invoking.{Site, Steps, Invokes, RunsBody, taken_kinds, taken_values}
 use Rattle.dj_invoking.proofs.Sites.{calls_code}
@@ -74,7 +74,7 @@ code_body imaged method found code there at = by at.found.method.body (same_body
 -- ---- frames
 
 pub entered_steps : (method : MethodId) (code : MethodCode) (room : Room) (taken : ℕ) (old new : List StackFrame) → room.method ≡ method.number → room.max_locals ≡ code.max_locals
-    → room.max_stack ≡ code.max_stack → EntersFrame taken room old new true → Steps method code taken old new invoked.Entered
+    → room.max_stack ≡ code.max_stack → EntersIfAllowed taken room old new true → Steps method code taken old new invoked.Entered
 entered_steps method code room taken old new m l s e = (
   e.0,
   e.1 ∙ (λ i. entered (m i) (l i) (s i) (reverse (take taken (top_operands old))) ∷ with_operands (drop taken (top_operands old)) old),

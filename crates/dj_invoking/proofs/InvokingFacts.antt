@@ -11,7 +11,7 @@ use Rattle.dj_invoking.specs.declared.choosing.Mode.TheVariants as modes
 use Rattle.dj_invoking.specs.declared.choosing.Chosen.TheVariants as chosen
 use Rattle.dj_invoking.specs.declared.entering.Room.{Room}
 use Rattle.dj_invoking.specs.Operands.{fit, receiver_in}
-use Rattle.dj_invoking.specs.Entering.{entered, Enters}
+use Rattle.dj_invoking.specs.Entering.{entered, EntersIfAllowed}
 use Rattle.dj_invoking.specs.Choosing.{IsNull, IsBroken, IsChosen, reported_mode, received_choice, taken_method}
 
 -- the top first: an int above a long above a reference
@@ -50,13 +50,13 @@ abbrev a_room : Room
 a_room = record { method = 5; max_locals = 1; max_stack = 0 }
 
 -- the caller keeps what is left
-a_call : Enters 1 a_room (a_caller ∷ []) (
+a_call : EntersIfAllowed 1 a_room (a_caller ∷ []) (
     record { method = 5; number = 0; locals = Some (values.Int (pos 1)) ∷ []; operands = []; room = 0 } ∷ record a_caller { operands = values.Ref 3 ∷ [] } ∷ []
     ) true
 a_call = (omega arith, refl)
 
 -- with one frame there is room for one more
-not_deep : (new : List StackFrame) → Enters 1 a_room (a_caller ∷ []) new false → ⊥
+not_deep : (new : List StackFrame) → EntersIfAllowed 1 a_room (a_caller ∷ []) new false → ⊥
 not_deep new e = let many = e.0 in omega (arith, many)
 
 reported_modes : map reported_mode (Virtual ∷ Special ∷ Static ∷ Interface 2 ∷ []) ≡ modes.Virtual ∷ modes.Special ∷ modes.Static ∷ modes.Interface ∷ []

@@ -8,7 +8,7 @@ use Rattle.dj_names.specs.trusted.Descriptors.{type_kind}
 use Rattle.dj_names.specs.trusted.Types.{parameters_of}
 use Rattle.dj_model.specs.trusted.Linking.{FoundMethod}
 use Rattle.dj_model.specs.trusted.Members.{kinds_of}
-use Rattle.dj_model.specs.trusted.Kinds.{Signature, signature_with, with_result, call_signature}
+use Rattle.dj_model.specs.trusted.Kinds.{Signature, signature_with, signature_result, call_signature}
 use Rattle.dj_shape.specs.Pools.{call_at}
 use Rattle.dj_types.specs.declared.types.MethodId.{MethodId}
 use Rattle.dj_image.specs.declared.shaped.ShapeParts.{ShapeParts}
@@ -32,6 +32,6 @@ pub kinds_there : (desc : Desc) (signature : Signature) → call_signature desc 
 kinds_there (descs.Field ty) signature e = absurd (none-some signature e)
 kinds_there (descs.Method params None) signature e = with_given None (kinds_of params) signature e
 kinds_there (descs.Method params (Some ret)) signature e = by (type_kind ret) e where
-  by : (kind : Option Kind) → with_result kind (kinds_of params) ≡ Some signature → kinds_of params ≡ Some signature.parameters
+  by : (kind : Option Kind) → signature_result kind (kinds_of params) ≡ Some signature → kinds_of params ≡ Some signature.parameters
   by None e = absurd (none-some signature e)
   by (Some kind) e = with_given (Some kind) (kinds_of params) signature e

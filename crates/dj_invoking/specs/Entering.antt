@@ -14,7 +14,7 @@ entered method locals room arguments =
     record { method = method; number = 0; locals = padded locals (in_slots is_long arguments); operands = []; room = room }
 
 -- where one more frame is allowed, the upper operands, which are taken, are the arguments of a new one
-abbrev pub Enters : ℕ → Room → List StackFrame → List StackFrame → Bool → Type 0
-Enters count room old new true = (length old < most_frames)
+abbrev pub EntersIfAllowed : ℕ → Room → List StackFrame → List StackFrame → Bool → Type 0
+EntersIfAllowed count room old new true = (length old < most_frames)
     × (new ≡ entered room.method room.max_locals room.max_stack (reverse (take count (top_operands old))) ∷ with_operands (drop count (top_operands old)) old)
-Enters count room old new false = (most_frames ≤ length old) × (new ≡ with_operands (drop count (top_operands old)) old)
+EntersIfAllowed count room old new false = (most_frames ≤ length old) × (new ≡ with_operands (drop count (top_operands old)) old)

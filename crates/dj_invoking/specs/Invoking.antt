@@ -28,7 +28,7 @@ use Rattle.dj_invoking.specs.Receivers.{typed_heap}
 use Rattle.dj_invoking.specs.Choosing.{IsMethod}
 use Rattle.dj_invoking.specs.Entering.{entered}
 
--- the state before a call, in a method of the class own
+-- the state before a call, in a method of the class `own`
 pub record Site : Type 0 where
   pub imaged : Imaged
   pub frames : List StackFrame

@@ -4,11 +4,12 @@ ghost use Rattle.dj_model.specs.trusted.Values.{in_slots};
 ghost use Rattle.dj_model.specs.trusted.Initialisation.{padded};
 ghost use Rattle.dj_stack.specs.Frames.{SameButLocals, most_frames, top_locals, top_operands};
 ghost use Rattle.dj_invoking.specs.Operands.{with_operands};
-ghost use Rattle.dj_invoking.specs.Entering.{Enters};
+ghost use Rattle.dj_invoking.specs.Entering.{EntersIfAllowed};
 
 use crate::operands::{copy_operands, drop_operands};
-use dj_names::{NoMemory, Value};
+use dj_names::Value;
 use dj_stack::Frames;
+use std::alloc::AllocError;
 
 /// What a frame of a method has.
 #[derive(Clone, Copy)]
@@ -62,9 +63,9 @@ pub fn enter(
     arguments: &mut Vec<Value>,
     count: u16,
     room: Room,
-) -> Result<bool, NoMemory>
+) -> Result<bool, AllocError>
     requires { count ≤ length (top_operands frames.old) }
-    ensures { IfOk result (Enters count room frames.old frames.new) }
+    ensures { IfOk result (EntersIfAllowed count room frames.old frames.new) }
 {
     if frames.depth() == 1024 {
         drop_operands(frames, count);
@@ -72,12 +73,12 @@ pub fn enter(
     }
     copy_operands(frames, count, arguments)?;
     let Ok(slots) = u16::try_from(slot_count(arguments)) else {
-        return Err(NoMemory::Memory);
+        return Err(AllocError);
     };
     drop_operands(frames, count);
     frames
         .push(room.method, room.max_locals.max(slots), room.max_stack)
-        .or(Err(NoMemory::Memory))?;
+        .or(Err(AllocError))?;
     set_arguments(frames, arguments);
     Ok(true)
 }

@@ -27,8 +27,9 @@ use crate::natives::Natives;
 use crate::operands::{drop_operands, fit, receiver};
 use dj_heap::Heap;
 use dj_image::{Body, Image, MethodCode, MethodId};
-use dj_names::{Kind, NoMemory, Raised, Value};
+use dj_names::{Kind, Raised, Value};
 use dj_stack::Frames;
+use std::alloc::AllocError;
 
 // The room for a frame of a method with code.
 fn room_of(method: MethodId, code: &MethodCode) -> Room
@@ -60,7 +61,7 @@ fn enter_code(
     method: MethodId,
     code: &MethodCode,
     taken: u16,
-) -> Result<Invoked, NoMemory>
+) -> Result<Invoked, AllocError>
     requires { taken ≤ length (top_operands frames.old) }
     ensures { IfOk result (Steps method code.now taken frames.old frames.new) }
 {
@@ -98,7 +99,7 @@ fn run_method(
     method: MethodId,
     taken: u16,
     count: u16,
-) -> Result<Invoked, NoMemory>
+) -> Result<Invoked, AllocError>
     requires there { method.number < length (all_methods (program_of image.now)) }
     requires natives { AreNatives image.now natives.now }
     requires numbered { AreNumbered image.now heap.now.heap }
@@ -114,10 +115,10 @@ fn run_method(
         Body::Native(id) => {
             // In a sound program a method is static where it is called without a receiver, and each reference is null or that of an object.
             if !is_called_so(image, method, taken == count) {
-                return Err(NoMemory::Memory);
+                return Err(AllocError);
             }
             if !are_there(heap, frames, count) {
-                return Err(NoMemory::Memory);
+                return Err(AllocError);
             }
             if are_instances(image, heap, frames, natives.classes_of(method), count) {
                 Ok(Invoked::Native(id, taken))
@@ -139,7 +140,7 @@ fn invoke_on(
     mode: Mode,
     own: u32,
     method: MethodId,
-) -> Result<Option<Invoked>, NoMemory>
+) -> Result<Option<Invoked>, AllocError>
     requires there { method.number < length (all_methods (program_of image.now)) }
     requires own { own < length (program_of image.now) }
     requires natives { AreNatives image.now natives.now }
@@ -154,7 +155,7 @@ fn invoke_on(
     };
     // In a sound program each reference is null or that of an object.
     if !is_there(heap, r) {
-        return Err(NoMemory::Memory);
+        return Err(AllocError);
     }
     match choose(image, heap, mode, own, method, r) {
         Chosen::Method(found) => {
@@ -175,7 +176,7 @@ fn invoke_on(
     }
 }
 
-/// Calls a method to which an instruction resolves in a method of the class own, on operands of these kinds and, where it isn't static, the object below them.
+/// Calls a method to which an instruction resolves in a method of the class `own`, on operands of these kinds and, where it isn't static, the object below them.
 /// None where the operands don't have these.
 pub fn invoke(
     image: &Image,
@@ -187,7 +188,7 @@ pub fn invoke(
     mode: Mode,
     own: u32,
     method: MethodId,
-) -> Result<Option<Invoked>, NoMemory>
+) -> Result<Option<Invoked>, AllocError>
     requires there { method.number < length (all_methods (program_of image.now)) }
     requires own { own < length (program_of image.now) }
     requires natives { AreNatives image.now natives.now }

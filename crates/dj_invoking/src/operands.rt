@@ -3,8 +3,9 @@ ghost use Rattle.dj_stack.specs.Frames.{SameButOperands, top_operands};
 ghost use Rattle.dj_invoking.specs.Operands.{fit, receiver_in};
 
 use dj_effects::is_of_kind;
-use dj_names::{Kind, NoMemory, Value};
+use dj_names::{Kind, Value};
 use dj_stack::Frames;
+use std::alloc::AllocError;
 
 /// How many operands the top frame has; none where there is no frame.
 #[tactic(auto, using(dj_effects::proofs::TopFacts::last_operands, dj_effects::proofs::TopFacts::no_operands, dj_effects::proofs::TopFacts::some_last))]
@@ -59,7 +60,7 @@ pub fn drop_operands(frames: &mut Frames, count: u16)
 }
 
 /// Puts this many upper operands of the top frame, where they stay, into a buffer, in the order in which they were pushed.
-pub fn copy_operands(frames: &Frames, count: u16, copied: &mut Vec<Value>) -> Result<(), NoMemory>
+pub fn copy_operands(frames: &Frames, count: u16, copied: &mut Vec<Value>) -> Result<(), AllocError>
     requires { count ≤ length (top_operands frames.now) }
     ensures { OnOk result (copied.new.items ≡ reverse (take count (top_operands frames.now))) }
 {

@@ -25,7 +25,7 @@ pub record IsReportedMethod (c : ClassFile) (Has : Program → Type 0) (texts : 
   pub early : Gains (MarksOf (names_in texts m) (MethodViolates c m)) old.early.items new.early.items
   pub late : (program : Program) → Has program → Gains (MarksOf (names_in texts m) (MethodLateViolates program c m)) old.late.items new.late.items
 
--- that is so, or the method is faulty
+-- by the truth value: the marks of the method were added, or the method is faulty
 abbrev pub IsJudgedMethod : ClassFile → (Program → Type 0) → List JudgedText → MemberInfo → Marks → Marks → Bool → Type 0
 IsJudgedMethod c Has texts m old new true = IsReportedMethod c Has texts m old new
 IsJudgedMethod c Has texts m old new false = IsFaultyMethod c.pool m

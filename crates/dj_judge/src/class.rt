@@ -18,8 +18,8 @@ use dj_check::{
 };
 use dj_class::ClassView;
 use dj_link::{Known, classes_above, judge_constants};
-use dj_rules::{RulesError, add_class_lines};
-use std::alloc::Global;
+use dj_rules::add_class_lines;
+use std::alloc::{AllocError, Global};
 
 // The marks of the methods of a class file where classes are borrowed. What its constants name, and what is above it, is looked up once.
 fn judge_linked(
@@ -27,7 +27,7 @@ fn judge_linked(
     lent: Lent<'_, '_>,
     view: &ClassView<'_>,
     texts: &[JudgedText],
-) -> Result<Option<Marks>, RulesError>
+) -> Result<Option<Marks>, AllocError>
     requires lent { AreLent lent }
     requires texts { AreTexts view.now.pool texts.now }
     requires valid { IsValid (class_of view.now) }
@@ -50,7 +50,7 @@ fn judge_members(
     lent: Option<Lent<'_, '_>>,
     view: &ClassView<'_>,
     texts: &[JudgedText],
-) -> Result<Option<Marks>, RulesError>
+) -> Result<Option<Marks>, AllocError>
     requires lent { IsReady lent }
     requires texts { AreTexts view.now.pool texts.now }
     requires valid { IsValid (class_of view.now) }
@@ -70,7 +70,7 @@ fn add_lines(
     view: &ClassView<'_>,
     texts: &[JudgedText],
     marks: Marks,
-) -> Result<(), RulesError>
+) -> Result<(), AllocError>
     requires texts { AreTexts view.now.pool texts.now }
     requires valid { IsValid (class_of view.now) }
     requires marks { Gains (AreMarksOf texts.now (MethodViolates (class_of view.now)) (class_of view.now).methods) [] marks.early.items }
@@ -92,7 +92,7 @@ pub fn judge_class<'a>(
     lent: Option<Lent<'_, '_>>,
     path: &str,
     view: &ClassView<'a>,
-) -> Result<Option<GoodFile<'a>>, RulesError>
+) -> Result<Option<GoodFile<'a>>, AllocError>
     requires lent { IsReady lent }
     requires valid { IsValid (class_of view.now) }
     ensures { IfOk result (IsJudgedClass path.now (class_of view.now) (HasLent lent.entry) found.old found.new) }

@@ -15,9 +15,8 @@ use dj_check::{JudgedText, Mark, WholeCode, add_own_marks, names_of};
 use dj_class::{ClassView, MemberView};
 use dj_link::{Known, add_whole_marks};
 use dj_pool::Pool;
-use dj_rules::RulesError;
 use dj_shape::PoolKinds;
-use std::alloc::Global;
+use std::alloc::{AllocError, Global};
 
 // Whether the method is one that a garbage collector would call.
 fn is_finalizer(pool: &Pool<'_>, method: &MemberView<'_>) -> bool
@@ -51,7 +50,7 @@ pub fn judge_code(
     known: Option<&Known<'_>>,
     method: &MemberView<'_>,
     code: WholeCode<'_>,
-) -> Result<Marks, RulesError>
+) -> Result<Marks, AllocError>
     requires kinds { IfSome kinds.old (ArePoolKinds view.now.pool) }
     requires texts { AreTexts view.now.pool texts.now }
     requires valid { IsValid (class_of view.now) }

@@ -21,7 +21,7 @@ use dj_link::unmakeable_classes;
 use dj_linking::Linker;
 use dj_report::{PathFile, Violation, Violations, add_in_order, in_order};
 use dj_rules::RulesError;
-use std::alloc::Global;
+use std::alloc::{AllocError, Global};
 
 /// Lines of the report, in any order, with repeats.
 #[derive(Drop)]
@@ -38,7 +38,7 @@ fn judge_in_order<'a>(
     found: &mut JudgedFiles,
     lent: Option<Lent<'_, '_>>,
     file: &PathFile<'a>,
-) -> Result<Option<GoodFile<'a>>, RulesError>
+) -> Result<Option<GoodFile<'a>>, AllocError>
     requires lent { IsReady lent }
     requires short { length file.now.bytes.now < 2 ^ 32 }
     ensures { IfOk result (IsReportedFile file.now (HasLent lent.entry) found.old found.new) }
@@ -60,7 +60,7 @@ fn judge_all<'a>(
     found: &mut JudgedFiles,
     lent: Option<Lent<'_, '_>>,
     files: &[PathFile<'a>],
-) -> Result<Kept<'a>, RulesError>
+) -> Result<Kept<'a>, AllocError>
     requires lent { IsReady lent }
     requires short { All (λ file. length file.bytes.now < 2 ^ 32) files.now }
     ensures early { OnOk result (Adds (IsAmongLoneLines (map path_file_view files.now)) found.old.early.items found.new.early.items) }
@@ -84,7 +84,7 @@ fn judge_lent(
     alloc: Global,
     files: &[PathFile<'_>],
     lent: Option<Lent<'_, '_>>,
-) -> Result<JudgedFiles, RulesError>
+) -> Result<JudgedFiles, AllocError>
     requires lent { IsReady lent }
     requires short { All (λ file. length file.bytes.now < 2 ^ 32) files.now }
     ensures early { IfOk result (λ judged. Adds (IsEarlyLine (map path_file_view files.now)) [] judged.early.items) }
@@ -107,7 +107,7 @@ fn judge_linked_by(
     files: &[PathFile<'_>],
     linker: &Linker,
     directory: Option<&Directory<'_>>,
-) -> Result<JudgedFiles, RulesError>
+) -> Result<JudgedFiles, AllocError>
     requires short { All (λ file. length file.bytes.now < 2 ^ 32) files.now }
     requires plain { linker.now.prefix ≡ [] }
     requires same { IsDirectoryOf linker.now.program directory }
@@ -128,7 +128,7 @@ fn judge_linked(
     alloc: Global,
     files: &[PathFile<'_>],
     linker: &Linker,
-) -> Result<JudgedFiles, RulesError>
+) -> Result<JudgedFiles, AllocError>
     requires short { All (λ file. length file.bytes.now < 2 ^ 32) files.now }
     requires plain { linker.now.prefix ≡ [] }
     ensures early { IfOk result (λ judged. Adds (IsEarlyLine (map path_file_view files.now)) [] judged.early.items) }
@@ -146,7 +146,7 @@ pub fn judge_files(
     alloc: Global,
     files: &[PathFile<'_>],
     linker: Option<&Linker>,
-) -> Result<JudgedFiles, RulesError>
+) -> Result<JudgedFiles, AllocError>
     requires short { All (λ file. length file.bytes.now < 2 ^ 32) files.now }
     requires plain { (linked : Linked) → HasLinker linker linked → linked.prefix ≡ [] }
     ensures early { IfOk result (λ judged. Adds (IsEarlyLine (map path_file_view files.now)) [] judged.early.items) }

@@ -3,7 +3,7 @@ ghost use Rattle.dj_judge.specs.Kept.{Keeps};
 
 use dj_check::{GoodFile, NamedFile, Owner};
 use dj_hierarchy::ClassHead;
-use dj_rules::RulesError;
+use std::alloc::AllocError;
 
 /// What is kept of files.
 #[derive(Drop)]
@@ -17,7 +17,7 @@ pub struct Kept<'a> {
 }
 
 // Keeps a file that doesn't violate rule 1.
-fn keep_good<'a>(kept: &mut Kept<'a>, path: &'a str, good: GoodFile<'a>) -> Result<(), RulesError>
+fn keep_good<'a>(kept: &mut Kept<'a>, path: &'a str, good: GoodFile<'a>) -> Result<(), AllocError>
     ensures { OnOk result (Keeps path.entry (Some good.entry) kept.old kept.new) }
 {
     let GoodFile { head, repeats } = good;
@@ -35,7 +35,7 @@ pub fn keep_file<'a>(
     kept: &mut Kept<'a>,
     path: &'a str,
     good: Option<GoodFile<'a>>,
-) -> Result<(), RulesError>
+) -> Result<(), AllocError>
     ensures { OnOk result (Keeps path.entry good.entry kept.old kept.new) }
 {
     match good {

@@ -12,12 +12,11 @@ use crate::lent::Marks;
 use dj_check::{JudgedText, MethodBody, add_bodiless_marks, code_of_method};
 use dj_class::{ClassView, MemberView};
 use dj_link::Known;
-use dj_rules::RulesError;
 use dj_shape::PoolKinds;
-use std::alloc::Global;
+use std::alloc::{AllocError, Global};
 
 // Appends the marks of one method.
-fn add_marks(marks: &mut Marks, own: Marks) -> Result<(), RulesError>
+fn add_marks(marks: &mut Marks, own: Marks) -> Result<(), AllocError>
     ensures early { OnOk result (marks.new.early.items ≡ marks.old.early.items ++ own.early.items) }
     ensures late { OnOk result (marks.new.late.items ≡ marks.old.late.items ++ own.late.items) }
 {
@@ -39,7 +38,7 @@ fn judge_method(
     texts: &[JudgedText],
     known: Option<&Known<'_>>,
     method: &MemberView<'_>,
-) -> Result<bool, RulesError>
+) -> Result<bool, AllocError>
     requires kinds { IfSome kinds.old (ArePoolKinds view.now.pool) }
     requires texts { AreTexts view.now.pool texts.now }
     requires valid { IsValid (class_of view.now) }
@@ -68,7 +67,7 @@ pub fn judge_methods(
     view: &ClassView<'_>,
     texts: &[JudgedText],
     known: Option<&Known<'_>>,
-) -> Result<Option<Marks>, RulesError>
+) -> Result<Option<Marks>, AllocError>
     requires texts { AreTexts view.now.pool texts.now }
     requires valid { IsValid (class_of view.now) }
     requires known { IsKnownOf (class_of view.now) known }

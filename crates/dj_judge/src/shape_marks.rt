@@ -17,9 +17,8 @@ use dj_class::{ClassView, MemberView};
 use dj_link::is_static;
 use dj_pool::Pool;
 use dj_program::{MethodCode, method_code};
-use dj_rules::RulesError;
-use dj_shape::{PoolKinds, ShapeError, ShapeFault, pool_kinds, shape};
-use std::alloc::Global;
+use dj_shape::{PoolKinds, ShapeFault, pool_kinds, shape};
+use std::alloc::{AllocError, Global};
 
 // The number of the rule SHAPE.
 const SHAPE: u8 = 19;
@@ -29,7 +28,7 @@ fn kinds_of(
     alloc: Global,
     pool: &Pool<'_>,
     kinds: Option<PoolKinds>,
-) -> Result<PoolKinds, RulesError>
+) -> Result<PoolKinds, AllocError>
     requires kinds { IfSome kinds (ArePoolKinds pool.now) }
     requires linked { IsPool pool.now }
     requires few { length pool.now < 2 ^ 16 }
@@ -38,10 +37,7 @@ fn kinds_of(
     if let Some(kinds) = kinds {
         return Ok(kinds);
     }
-    match pool_kinds(alloc, pool) {
-        Ok(kinds) => Ok(kinds),
-        Err(ShapeError::Memory) => Err(RulesError::Memory),
-    }
+    Ok(pool_kinds(alloc, pool)?)
 }
 
 // The code of the method.
@@ -60,7 +56,7 @@ fn fault_of(
     pool: &Pool<'_>,
     method: &MemberView<'_>,
     code: WholeCode<'_>,
-) -> Result<Option<ShapeFault>, RulesError>
+) -> Result<Option<ShapeFault>, AllocError>
     requires kinds { ArePoolKinds pool.now kinds.now }
     requires method { IsMethod pool.now (member_of method.now) }
     requires code { IsWholeMethod pool.now (member_of method.now) code }
@@ -68,10 +64,7 @@ fn fault_of(
     ensures { IfOk result (IsFaultOf pool.now (member_of method.now)) }
 {
     let read = code_of(pool, method, code);
-    match shape(alloc, kinds, is_static(method.flags), method.desc, &read) {
-        Ok(fault) => Ok(fault),
-        Err(ShapeError::Memory) => Err(RulesError::Memory),
-    }
+    Ok(shape(alloc, kinds, is_static(method.flags), method.desc, &read)?)
 }
 
 // Appends the mark of a fault in shape.
@@ -79,7 +72,7 @@ fn add_fault_mark(
     marks: &mut Vec<Mark>,
     names: (u16, u16),
     fault: Option<ShapeFault>,
-) -> Result<(), RulesError>
+) -> Result<(), AllocError>
     ensures { OnOk result (Gains (MarksOf names (FaultViolates fault)) marks.old.items marks.new.items) }
 {
     let Some(fault) = fault else {
@@ -102,7 +95,7 @@ pub fn add_shape_mark(
     view: &ClassView<'_>,
     method: &MemberView<'_>,
     code: WholeCode<'_>,
-) -> Result<(), RulesError>
+) -> Result<(), AllocError>
     requires kinds { IfSome kinds.old (ArePoolKinds view.now.pool) }
     requires valid { IsValid (class_of view.now) }
     requires method { IsMethod view.now.pool (member_of method.now) }

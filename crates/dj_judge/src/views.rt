@@ -11,8 +11,8 @@ use crate::lent::Lent;
 use dj_check::GoodFile;
 use dj_class::ClassView;
 use dj_report::{PathFile, add_file_line};
-use dj_rules::{FileView, RulesError, view_file};
-use std::alloc::Global;
+use dj_rules::{FileView, view_file};
+use std::alloc::{AllocError, Global};
 
 // The number of the rule MALFORMED.
 const MALFORMED: u8 = 1;
@@ -24,7 +24,7 @@ fn judge_class_file<'a>(
     lent: Option<Lent<'_, '_>>,
     file: &PathFile<'_>,
     class: &ClassView<'a>,
-) -> Result<Option<GoodFile<'a>>, RulesError>
+) -> Result<Option<GoodFile<'a>>, AllocError>
     requires lent { IsReady lent }
     requires class { IsClassFile file.now.bytes.now (class_of class.now) }
     ensures { IfOk result (IsJudgedFile file.now (HasLent lent.entry) found.old found.new) }
@@ -46,7 +46,7 @@ fn judge_view<'a>(
     lent: Option<Lent<'_, '_>>,
     file: &PathFile<'_>,
     view: &FileView<'a>,
-) -> Result<Option<GoodFile<'a>>, RulesError>
+) -> Result<Option<GoodFile<'a>>, AllocError>
     requires lent { IsReady lent }
     requires view { IsViewOf file.now.bytes.now view.now }
     ensures { IfOk result (IsJudgedFile file.now (HasLent lent.entry) found.old found.new) }
@@ -66,7 +66,7 @@ pub fn judge_file<'a>(
     found: &mut JudgedFiles,
     lent: Option<Lent<'_, '_>>,
     file: &PathFile<'a>,
-) -> Result<Option<GoodFile<'a>>, RulesError>
+) -> Result<Option<GoodFile<'a>>, AllocError>
     requires lent { IsReady lent }
     requires short { length file.now.bytes.now < 2 ^ 32 }
     ensures { IfOk result (IsJudgedFile file.now (HasLent lent.entry) found.old found.new) }

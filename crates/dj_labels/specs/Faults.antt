@@ -10,7 +10,7 @@ use Rattle.dj_labels.specs.declared.errors.CodeError.TheVariants as errors
 use Rattle.dj_labels.specs.trusted.Targets.{targets_of}
 use Rattle.dj_labels.specs.trusted.Labels.{IsCut}
 
--- an item of a list, by its number, is not such, and all before it are
+-- `number` is that of the first item of a list that doesn't meet the condition
 pub record IsFirstWithout {X : Type 0} (P : X → Type 0) (xs : List X) (number : ℕ) (x : X) : Type 0 where
   pub found : slice_get xs number ≡ Some x
   pub lacks : P x → ⊥

@@ -1,6 +1,5 @@
 ghost use Rattle.std.specs.Prelude.{◌≡◌};
 
-use dj_bytes::NoMemory;
 use std::alloc::{AllocError, AllocFailed};
 use thiserror::Error;
 
@@ -19,16 +18,6 @@ pub enum CodeError {
     /// There was no memory.
     #[error("out of memory")]
     Memory,
-}
-
-impl From<NoMemory> for CodeError {
-    ghost use Rattle.dj_labels.specs.declared.errors.CodeError.TheVariants as causes;
-
-    ghost from_gives = { λ _ e. e ≡ causes.Memory };
-
-    fn from(_error: NoMemory) -> CodeError {
-        CodeError::Memory
-    }
 }
 
 impl From<AllocError> for CodeError {

@@ -1,8 +1,7 @@
 ghost use Rattle.std.specs.Prelude.{◌≡◌, [], ◌∷◌, ◌++◌, OnOk, OnErr};
 
-use dj_bytes::NoMemory;
 use dj_ops::Instrs;
-use std::alloc::Global;
+use std::alloc::{AllocError, Global};
 use std::marker::Model;
 
 /// A range of instructions and its handler (JVMS 4.7.3, exception_table), all by the numbers of the instructions.
@@ -44,7 +43,7 @@ impl Ranges {
     }
 
     /// Appends a range.
-    pub fn push(&mut self, item: Protected) -> Result<(), NoMemory>
+    pub fn push(&mut self, item: Protected) -> Result<(), AllocError>
         ensures ok { OnOk result (self.new ≡ self.old ++ item ∷ []) }
         ensures err { OnErr result (self.new ≡ self.old) }
     {

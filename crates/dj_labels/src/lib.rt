@@ -9,7 +9,6 @@ mod rows;
 mod starts;
 mod targets;
 
-pub use dj_bytes::NoMemory;
 pub use errors::CodeError;
 pub use labelled::{Labelled, Labelling, Protected, Ranges};
 pub use labelling::{label, label_with_starts};

@@ -6,7 +6,7 @@ use Rattle.std.proofs.lemmas.Bool.{cases_lt}
 use Rattle.std.proofs.lemmas.Int.{ints}
 use Rattle.dj_ops.specs.declared.instruction.Instr.{Instr}
 use Rattle.dj_ops.specs.declared.instruction.Instr.TheVariants as instrs
-use Rattle.dj_ops.specs.trusted.Forms.{Form, ShortOffset, LongOffset, form_of}
+use Rattle.dj_ops.specs.trusted.Forms.{OperandForm, ShortOffset, LongOffset, form_of}
 use Rattle.dj_ops.specs.trusted.Instructions.{IsOffset, IsFar, AreOffsets, offset, length_at}
 use Rattle.dj_labels.specs.declared.labelled.Labelled.{Labelled}
 use Rattle.dj_labels.specs.Labels.{IsWellFormed}
@@ -31,7 +31,7 @@ fits_long : (z : ℤ) → Is (FitsSigned w32 z)
 fits_long (pos n) = elim (cases_lt n 2147483648) [ inl lt ↦ inl (omega (arith, ints, lt)) | inr ge ↦ inr (λ h. omega (arith, ints, ge, h)) ]
 fits_long (negsuc n) = elim (cases_lt n 2147483648) [ inl lt ↦ inl (omega (arith, ints, lt)) | inr ge ↦ inr (λ h. omega (arith, ints, ge, h)) ]
 
-fits_form : (form : Form) (z : ℤ) → Is (IsOffset form z)
+fits_form : (form : OperandForm) (z : ℤ) → Is (IsOffset form z)
 fits_form ShortOffset z = fits_short z
 fits_form LongOffset z = fits_long z
 fits_form _ z = inr (λ h. absurd h)

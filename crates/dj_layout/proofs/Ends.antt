@@ -3,7 +3,7 @@ use Rattle.std.proofs.Common.{◌≡◌, ℕ, zero, suc, ◌+◌, ◌*◌, ◌<�
 use Rattle.std.proofs.lemmas.List.{length-map, length-take}
 use Rattle.dj_ops.specs.declared.instruction.Instr.{Instr}
 use Rattle.dj_ops.specs.declared.instruction.Instr.TheVariants as instrs
-use Rattle.dj_ops.specs.trusted.Forms.{Form, SignedByte, SignedShort, ShortLiteral, LongLiteral, ShortOffset, LongOffset, form_of}
+use Rattle.dj_ops.specs.trusted.Forms.{OperandForm, SignedByte, SignedShort, ShortLiteral, LongLiteral, ShortOffset, LongOffset, form_of}
 use Rattle.dj_ops.specs.trusted.Instructions.{signed_bytes, literal_bytes, length_at}
 use Rattle.dj_ops.proofs.Sizes.{some_bytes, table_length, lookup_length}
 use Rattle.dj_labels.specs.trusted.Targets.{with_targets}
@@ -12,14 +12,14 @@ use Rattle.dj_layout.specs.Passes.{entry_count}
 
 -- ---- how long an instruction is
 
-signed_short : (form : Form) (z : ℤ) → length (signed_bytes form z) ≤ 4
+signed_short : (form : OperandForm) (z : ℤ) → length (signed_bytes form z) ≤ 4
 signed_short SignedByte z = omega arith
 signed_short SignedShort z = omega arith
 signed_short ShortOffset z = omega arith
 signed_short LongOffset z = omega arith
 signed_short _ z = omega arith
 
-literal_short : (form : Form) (index : ℕ) → length (literal_bytes form index) ≤ 4
+literal_short : (form : OperandForm) (index : ℕ) → length (literal_bytes form index) ≤ 4
 literal_short ShortLiteral index = omega arith
 literal_short LongLiteral index = omega arith
 literal_short _ index = omega arith
@@ -44,7 +44,7 @@ length_least at (instrs.Lookup default pairs) = omega (arith, lookup_length at d
 length_least at _ = omega arith
 
 -- its targets don't matter
-signed_same : (form : Form) (a b : ℤ) → length (signed_bytes form a) ≡ length (signed_bytes form b)
+signed_same : (form : OperandForm) (a b : ℤ) → length (signed_bytes form a) ≡ length (signed_bytes form b)
 signed_same SignedByte a b = refl
 signed_same SignedShort a b = refl
 signed_same ShortOffset a b = refl

@@ -11,7 +11,7 @@ use Rattle.std.proofs.lemmas.List.{take_all, flat_map_more}
 use Rattle.std.proofs.lemmas.List.Elements.{All-from_recursion}
 use Rattle.dj_ops.specs.declared.instruction.Instr.{Instr}
 use Rattle.dj_ops.specs.declared.instruction.Instr.TheVariants as instrs
-use Rattle.dj_ops.specs.trusted.Forms.{Form, ShortOffset, LongOffset, Reserved, form_of}
+use Rattle.dj_ops.specs.trusted.Forms.{OperandForm, ShortOffset, LongOffset, Reserved, form_of}
 use Rattle.dj_ops.specs.trusted.Instructions.{IsProper, IsOffset, IsFar, AreOffsets, offset, length_at}
 use Rattle.dj_ops.proofs.FormFacts.{short_form, long_form, opcode_below}
 use Rattle.dj_labels.specs.trusted.Targets.{targets_of, with_targets}
@@ -66,8 +66,8 @@ others_reach at _ le are other = tt
 jump_form : (op : ℕ) → (form_of op ≡ ShortOffset) ⊎ (form_of op ≡ LongOffset) → IsOffset (form_of op) (pos 0)
 jump_form op h =
     elim h [
-      | inl e ↦ subst (λ (f : Form). IsOffset f (pos 0)) (sym e) (sfits_lit tt)
-      | inr e ↦ subst (λ (f : Form). IsOffset f (pos 0)) (sym e) (sfits_lit tt)
+      | inl e ↦ subst (λ (f : OperandForm). IsOffset f (pos 0)) (sym e) (sfits_lit tt)
+      | inr e ↦ subst (λ (f : OperandForm). IsOffset f (pos 0)) (sym e) (sfits_lit tt)
     ]
 
 jump_opcode : (op : ℕ) → (form_of op ≡ ShortOffset) ⊎ (form_of op ≡ LongOffset) → op < 256
@@ -80,7 +80,7 @@ jump_opcode op h =
 
 long_reaches : (at op : ℕ) (target : ℤ) → 200 ≤ op → IsProper (instrs.Branch op target) → at ≤ most_bytes → IsAddress target → AreOffsets at (instrs.Branch op target)
 long_reaches at op target high proper le is =
-    subst (λ (f : Form). IsOffset f (offset at target)) (sym (long_form op (pos 0) (jump_opcode op proper) high (jump_form op proper))) (far_is at target le is)
+    subst (λ (f : OperandForm). IsOffset f (offset at target)) (sym (long_form op (pos 0) (jump_opcode op proper) high (jump_form op proper))) (far_is at target le is)
 
 pub long_is : (instr : Instr) (at op : ℕ) (target : ℤ) → instr ≡ instrs.Branch op target → 200 ≤ op → IsProper instr → at ≤ most_bytes → AllByRecursion IsAddress (targets_of instr)
     → MatchBool (nat_le 200 op) (AreOffsets at instr) (AreOffsets at instr → ⊥)
@@ -106,8 +106,8 @@ near_is r instr at op target same e t low proper h =
     let form : form_of op ≡ ShortOffset = short_form op (pos 0) low (jump_form op (subst IsProper e proper)) in
     let way : ℤ = offset at target in
     match_same r (FitsSigned w16 (offset at same)) (AreOffsets at instr)
-    (λ near. subst (AreOffsets at) (sym e) (subst (λ (f : Form). IsOffset f way) (sym form) (subst (λ (z : ℤ). FitsSigned w16 (offset at z)) t near)))
-    (λ there. subst (λ (z : ℤ). FitsSigned w16 (offset at z)) (sym t) (subst (λ (f : Form). IsOffset f way) form (subst (AreOffsets at) e there)))
+    (λ near. subst (AreOffsets at) (sym e) (subst (λ (f : OperandForm). IsOffset f way) (sym form) (subst (λ (z : ℤ). FitsSigned w16 (offset at z)) t near)))
+    (λ there. subst (λ (z : ℤ). FitsSigned w16 (offset at z)) (sym t) (subst (λ (f : OperandForm). IsOffset f way) form (subst (AreOffsets at) e there)))
     h
 
 -- ---- the instruction of a number

@@ -10,8 +10,8 @@ ghost use Rattle.dj_layout.specs.trusted.Places.{starts_from, end_from};
 ghost use Rattle.dj_layout.specs.Passes.{IsAddress, IsWritten, AreBytes, IsByteFault};
 
 use crate::errors::LayError;
-use dj_ops::{Instr, NoMemory, Pairs, Targets, write_instr};
-use std::alloc::Global;
+use dj_ops::{Instr, Pairs, Targets, write_instr};
+use std::alloc::{AllocError, Global};
 
 /// The address at which the instruction of this number starts.
 fn address_of(starts: &[u32], number: i64) -> i64
@@ -22,7 +22,7 @@ fn address_of(starts: &[u32], number: i64) -> i64
 }
 
 /// The addresses of targets that are numbers.
-fn target_addresses(alloc: Global, starts: &[u32], numbers: &[i64]) -> Result<Targets, NoMemory>
+fn target_addresses(alloc: Global, starts: &[u32], numbers: &[i64]) -> Result<Targets, AllocError>
     requires { AllByRecursion (IsNumber (length starts.now)) numbers.now }
     ensures { IfOk result (λ targets. targets ≡ map (address_of starts.now) numbers.now) }
 {
@@ -34,7 +34,11 @@ fn target_addresses(alloc: Global, starts: &[u32], numbers: &[i64]) -> Result<Ta
 }
 
 /// Matches, and the addresses of their targets.
-fn pair_addresses(alloc: Global, starts: &[u32], numbers: &[(i32, i64)]) -> Result<Pairs, NoMemory>
+fn pair_addresses(
+    alloc: Global,
+    starts: &[u32],
+    numbers: &[(i32, i64)],
+) -> Result<Pairs, AllocError>
     requires { AllByRecursion (λ pair. IsNumber (length starts.now) pair.1) numbers.now }
     ensures { IfOk result (λ pairs. pairs ≡ map (λ pair. (pair.0, address_of starts.now pair.1)) numbers.now) }
 {
@@ -46,7 +50,7 @@ fn pair_addresses(alloc: Global, starts: &[u32], numbers: &[(i32, i64)]) -> Resu
 }
 
 /// The instruction with the addresses of its targets.
-fn address_instr(alloc: Global, starts: &[u32], instr: &Instr) -> Result<Instr, NoMemory>
+fn address_instr(alloc: Global, starts: &[u32], instr: &Instr) -> Result<Instr, AllocError>
     requires { HasNumbers (length starts.now) instr.now }
     ensures { IfOk result (λ addressed. addressed ≡ with_targets (address_of starts.now) instr.now) }
 {

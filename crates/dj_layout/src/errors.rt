@@ -1,6 +1,6 @@
 ghost use Rattle.std.specs.Prelude.{◌≡◌};
 
-use dj_ops::{NoMemory, OpError};
+use dj_ops::OpError;
 use std::alloc::{AllocError, AllocFailed};
 use thiserror::Error;
 
@@ -16,16 +16,6 @@ pub enum LayError {
     /// There was no memory.
     #[error("out of memory")]
     Memory,
-}
-
-impl From<NoMemory> for LayError {
-    ghost use Rattle.dj_layout.specs.declared.errors.LayError.TheVariants as causes;
-
-    ghost from_gives = { λ _ e. e ≡ causes.Memory };
-
-    fn from(_error: NoMemory) -> LayError {
-        LayError::Memory
-    }
 }
 
 impl From<OpError> for LayError {

@@ -4,8 +4,8 @@ ghost use Rattle.dj_labels.specs.trusted.Labels.{IsRange, row_of};
 ghost use Rattle.dj_layout.specs.trusted.Layouts.{most_bytes};
 
 use dj_labels::Protected;
-use dj_ops::{CatchRow, CatchRows, NoMemory};
-use std::alloc::Global;
+use dj_ops::{CatchRow, CatchRows};
+use std::alloc::{AllocError, Global};
 
 /// The address of a bound: that of an instruction, or the end of the code of this size.
 fn bound_of(starts: &[u32], size: u32, number: u32) -> u16
@@ -44,7 +44,7 @@ pub fn rows_of(
     starts: &[u32],
     size: u32,
     ranges: &[Protected],
-) -> Result<CatchRows, NoMemory>
+) -> Result<CatchRows, AllocError>
     requires ranges { AllByRecursion (IsRange (length starts.now)) ranges.now }
     requires starts { All (λ start. start ≤ most_bytes) starts.now }
     requires size { size ≤ most_bytes }

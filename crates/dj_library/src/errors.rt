@@ -1,3 +1,4 @@
+use std::alloc::AllocError;
 use thiserror::Error;
 
 /// Why there is no library.
@@ -8,13 +9,13 @@ pub enum LibraryError {
     Memory,
 }
 
-impl From<dj_names::NoMemory> for LibraryError {
+impl From<AllocError> for LibraryError {
     ghost use Rattle.std.specs.Prelude.{◌≡◌};
     ghost use Rattle.dj_library.specs.declared.errors.LibraryError.TheVariants.{Memory};
 
     ghost from_gives = { λ _ e. e ≡ Memory };
 
-    fn from(_e: dj_names::NoMemory) -> LibraryError {
+    fn from(_e: AllocError) -> LibraryError {
         LibraryError::Memory
     }
 }

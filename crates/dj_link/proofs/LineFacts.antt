@@ -8,9 +8,19 @@ use Rattle.dj_report.proofs.Sorted.{contains_none, contains_cases}
 use Rattle.dj_names.specs.trusted.Types.{Name}
 use Rattle.dj_model.specs.trusted.Program.{Program}
 use Rattle.dj_declared.specs.trusted.Files.{type_in}
+use Rattle.dj_check.specs.trusted.Classes.{BeginsWith, IsReserved}
 use Rattle.dj_check.specs.trusted.Methods.{CatchesError}
+use Rattle.dj_link.specs.trusted.Foreign.{IsOfLibrary}
 use Rattle.dj_link.specs.trusted.Lines.{IsFirstOf, LinkViolates, HandlerLinkViolates}
 use Rattle.dj_link.proofs.RuleNumbers.{catch_reported}
+
+-- ---- the packages of rule 17: of all names, those that rule 4 reserves, other than the sandbox's
+
+library_reserved : (name : Name) → IsOfLibrary name → IsReserved name
+library_reserved name is = inr is
+
+reserved_library : (name : Name) → IsReserved name → BeginsWith name (codes "sandbox/") ⊎ IsOfLibrary name
+reserved_library name is = is
 
 -- ---- what silences
 

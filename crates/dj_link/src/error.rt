@@ -1,6 +1,5 @@
 ghost use Rattle.std.specs.Prelude.{◌≡◌};
 
-use dj_names::NoMemory;
 use dj_rules::RulesError;
 use std::alloc::{AllocError, AllocFailed};
 use thiserror::Error;
@@ -11,16 +10,6 @@ pub enum LinkError {
     /// There was no memory.
     #[error("out of memory")]
     Memory,
-}
-
-impl From<NoMemory> for LinkError {
-    ghost use Rattle.dj_link.specs.declared.error.LinkError.TheVariants.{Memory};
-
-    ghost from_gives = { λ _ e. e ≡ Memory };
-
-    fn from(_error: NoMemory) -> LinkError {
-        LinkError::Memory
-    }
 }
 
 impl From<RulesError> for LinkError {
@@ -53,12 +42,12 @@ impl<T: Drop> From<AllocFailed<T>> for LinkError {
     }
 }
 
-impl From<LinkError> for RulesError {
-    ghost use Rattle.dj_rules.specs.declared.error.RulesError.TheVariants.{Memory};
+impl From<LinkError> for AllocError {
+    ghost use Rattle.std.specs.declared.alloc.AllocError.{AllocError};
 
-    ghost from_gives = { λ _ e. e ≡ Memory };
+    ghost from_gives = { λ _ e. e ≡ record {} };
 
-    fn from(_error: LinkError) -> RulesError {
-        RulesError::Memory
+    fn from(_error: LinkError) -> AllocError {
+        AllocError
     }
 }

@@ -30,12 +30,12 @@ first_places xs = with_all [] xs
 
 -- ---- classes above a class
 
--- interfaces with theirs, at most this many levels
+-- interfaces and those above them, at most this many levels
 unfoldable pub numbers_from : ℕ → Program → List ℕ → List ℕ
 numbers_from zero program classes = []
 numbers_from (suc n) program classes = flat_map (λ k. k ∷ numbers_from n program (interface_numbers program k)) classes
 
--- the interfaces that a class lists, with theirs
+-- the interfaces that a class lists, and those above them
 unfoldable pub numbers_above : Program → ℕ → List ℕ
 numbers_above program class = numbers_from most_classes program (interface_numbers program class)
 

@@ -5,8 +5,8 @@ ghost use Rattle.dj_linking.specs.Numbers.{AreAbove, AreBelow, AreKnown, IsEnoug
 use crate::empty::{empty_lists, empty_rows};
 use crate::numbers::Numbers;
 use crate::order::order_of;
-use dj_classes::{ClassTable, TableError};
-use std::alloc::Global;
+use dj_classes::ClassTable;
+use std::alloc::{AllocError, Global};
 
 // For each class, by its number, the interfaces above it, each once, and these as bits, where they are known.
 #[derive(Drop)]
@@ -17,7 +17,7 @@ struct Known {
 }
 
 impl Known {
-    fn none(alloc: Global, count: usize) -> Result<Known, TableError>
+    fn none(alloc: Global, count: usize) -> Result<Known, AllocError>
         ensures lists { IfOk result (λ known. lists_of known.lists.items ≡ replicate count []) }
         ensures rows { IfOk result (λ known. length (lists_of known.rows.items) ≡ count) }
         ensures marks { IfOk result (λ known. known.marks.items ≡ replicate count false) }
@@ -28,8 +28,8 @@ impl Known {
         Ok(Known { lists, rows, marks })
     }
 
-    // An interface and those above it come to the numbers. Where all of those are there, their list isn't gone through.
-    fn add_above(&self, numbers: &mut Numbers, class: u32) -> Result<(), TableError>
+    // Adds an interface and those above it to the numbers. Where all of them are there already, their list isn't gone through.
+    fn add_above(&self, numbers: &mut Numbers, class: u32) -> Result<(), AllocError>
         requires lists { length self.now.lists.items ≡ length self.now.marks.items }
         requires bits { HaveBits (lists_of self.now.lists.items) (lists_of self.now.rows.items) self.now.marks.items }
         requires bound { length numbers.old.bits.items ≡ words_for (length self.now.marks.items) }
@@ -40,7 +40,7 @@ impl Known {
         ensures bound { OnOk result (length numbers.new.bits.items ≡ length numbers.old.bits.items) }
     {
         if !self.marks[class as usize] {
-            return Err(TableError::Memory);
+            return Err(AllocError);
         }
         if numbers.has(class) {
             return Ok(());
@@ -53,7 +53,7 @@ impl Known {
     }
 
     // The interfaces above a class, where those that it lists are known.
-    fn above(&self, alloc: Global, table: &ClassTable, class: u32) -> Result<Numbers, TableError>
+    fn above(&self, alloc: Global, table: &ClassTable, class: u32) -> Result<Numbers, AllocError>
         requires few { length table.now < 2 ^ 31 }
         requires there { class < length table.now }
         requires known { AreKnown table.now (lists_of self.now.lists.items) self.now.marks.items }
@@ -70,7 +70,7 @@ impl Known {
     }
 
     // The class is known too.
-    fn learn(&mut self, alloc: Global, table: &ClassTable, class: u32) -> Result<(), TableError>
+    fn learn(&mut self, alloc: Global, table: &ClassTable, class: u32) -> Result<(), AllocError>
         requires few { length table.now < 2 ^ 31 }
         requires there { class < length table.now }
         requires known { AreKnown table.now (lists_of self.old.lists.items) self.old.marks.items }
@@ -89,7 +89,7 @@ impl Known {
 }
 
 // What can be known of the classes, each after the interfaces that it lists.
-fn learn_all(alloc: Global, table: &ClassTable) -> Result<Known, TableError>
+fn learn_all(alloc: Global, table: &ClassTable) -> Result<Known, AllocError>
     ensures { IfOk result (λ known. AreKnown table.now (lists_of known.lists.items) known.marks.items) }
 {
     let mut known = Known::none(alloc, table.class_count() as usize)?;
@@ -101,7 +101,7 @@ fn learn_all(alloc: Global, table: &ClassTable) -> Result<Known, TableError>
 }
 
 /// For each class, by its number, the interfaces above it, each once. Where a class is its own ancestor it is want of memory.
-pub fn interfaces_above(alloc: Global, table: &ClassTable) -> Result<Vec<Vec<u32>>, TableError>
+pub fn interfaces_above(alloc: Global, table: &ClassTable) -> Result<Vec<Vec<u32>>, AllocError>
     ensures { IfOk result (λ lists. AreAbove table.now (lists_of lists.items)) }
 {
     let Known {
@@ -111,7 +111,7 @@ pub fn interfaces_above(alloc: Global, table: &ClassTable) -> Result<Vec<Vec<u32
     } = learn_all(alloc, table)?;
     for mark in &marks {
         if !*mark {
-            return Err(TableError::Memory);
+            return Err(AllocError);
         }
     }
     Ok(lists)

@@ -23,7 +23,7 @@ fn is_at(table: &ClassTable, above: &[Vec<u32>], class: u32, other: u32) -> bool
     is_among(&above[class as usize], other)
 }
 
-// Class by class, whether a class is the other one, or that is above it.
+// Whether the other class is this one or is above it, by going through the classes one by one.
 fn is_above_by_class(table: &ClassTable, above: &[Vec<u32>], class: u32, other: u32) -> bool
     requires there { class < length table.now }
     requires above { AreAbove table.now (lists_of above.now) }

@@ -6,8 +6,8 @@ use crate::empty::empty_rows;
 use crate::numbers::{Numbers, is_among};
 use crate::ranked::MOST_ROWS;
 use crate::words::may_have_bit;
-use dj_classes::{ClassTable, TableError};
-use std::alloc::Global;
+use dj_classes::ClassTable;
+use std::alloc::{AllocError, Global};
 
 /// For each class, by its number, the place of its list: the rows of the class and its superclasses in turn, each number once. Classes may share a list, and one whose superclasses go round has none.
 #[derive(Drop)]
@@ -20,7 +20,7 @@ pub struct Chains {
 }
 
 // The numbers of both lists, each once, where it comes first.
-fn joined(alloc: Global, bound: usize, row: &[u32], above: &[u32]) -> Result<Numbers, TableError>
+fn joined(alloc: Global, bound: usize, row: &[u32], above: &[u32]) -> Result<Numbers, AllocError>
     requires row { AreBelow bound row.now }
     requires above { AreBelow bound above.now }
     ensures { IfOk result (λ numbers. numbers.list.items ≡ with_all (first_places row.now) above.now) }
@@ -39,7 +39,7 @@ impl Chains {
     ghost use Rattle.dj_linking.specs.Chained.{AreLearnt, AreListsOf, row_at};
 
     // No list is known.
-    fn none(alloc: Global, count: usize) -> Result<Chains, TableError>
+    fn none(alloc: Global, count: usize) -> Result<Chains, AllocError>
         ensures lists { IfOk result (λ chains. lists_of chains.lists.items ≡ []) }
         ensures places { IfOk result (λ chains. chains.places.items ≡ replicate count None) }
     {
@@ -54,7 +54,7 @@ impl Chains {
     }
 
     // A class has a list of its own.
-    fn put(&mut self, class: u32, numbers: Numbers) -> Result<(), TableError>
+    fn put(&mut self, class: u32, numbers: Numbers) -> Result<(), AllocError>
         requires { class < length self.old.places.items }
         ensures lists { OnOk result (lists_of self.new.lists.items ≡ lists_of self.old.lists.items ++ numbers.list.items ∷ []) }
         ensures places { OnOk result (self.new.places.items ≡ set self.old.places.items class (Some (length (lists_of self.old.lists.items)))) }
@@ -77,7 +77,7 @@ impl Chains {
         rows: &[Vec<u32>],
         class: u32,
         next: u32,
-    ) -> Result<(), TableError>
+    ) -> Result<(), AllocError>
         requires few { length table.now < 2 ^ 31 }
         requires there { class < length table.now }
         requires next { super_number table.now class ≡ Some next }
@@ -105,7 +105,7 @@ impl Chains {
         table: &ClassTable,
         rows: &[Vec<u32>],
         class: u32,
-    ) -> Result<(), TableError>
+    ) -> Result<(), AllocError>
         requires few { length table.now < 2 ^ 31 }
         requires there { class < length table.now }
         requires rows { AreInside (length table.now) (lists_of rows.now) }
@@ -128,7 +128,7 @@ impl Chains {
         table: &ClassTable,
         order: &[u32],
         rows: &[Vec<u32>],
-    ) -> Result<Chains, TableError>
+    ) -> Result<Chains, AllocError>
         requires order { AreBelow (length table.now) order.now }
         requires rows { AreInside (length table.now) (lists_of rows.now) }
         ensures { IfOk result (AreListsOf table.now (row_at (lists_of rows.now))) }

@@ -67,7 +67,7 @@ fn longest_text(table: &ClassTable) -> usize {
     longest
 }
 
-// How many of these comparisons a search in a class and its superclasses leaves, where they are enough and the chain isn't long.
+// How many of these comparisons are left after a search in a class and its superclasses; none where they aren't enough, or the chain is long.
 fn left_by_chain(table: &ClassTable, class: u32, comparisons: usize) -> Option<usize>
     requires { class < length table.now }
 {

@@ -2,11 +2,11 @@ ghost use Rattle.std.specs.Prelude.{◌≡◌, ◌<◌, length, IfOk};
 ghost use Rattle.dj_linking.specs.Numbers.{AreBelow, AreInside, lists_of};
 
 use crate::empty::empty_lists;
-use dj_classes::{ClassTable, TableError};
-use std::alloc::Global;
+use dj_classes::ClassTable;
+use std::alloc::{AllocError, Global};
 
 // For each class, by its number, the classes whose superclass it is.
-fn subclasses(alloc: Global, table: &ClassTable) -> Result<Vec<Vec<u32>>, TableError>
+fn subclasses(alloc: Global, table: &ClassTable) -> Result<Vec<Vec<u32>>, AllocError>
     ensures { IfOk result (λ below. AreInside (length table.now) (lists_of below.items)) }
 {
     let count = table.class_count();
@@ -20,7 +20,7 @@ fn subclasses(alloc: Global, table: &ClassTable) -> Result<Vec<Vec<u32>>, TableE
 }
 
 // The classes that have no superclass that is there.
-fn without_superclass(alloc: Global, table: &ClassTable) -> Result<Vec<u32>, TableError>
+fn without_superclass(alloc: Global, table: &ClassTable) -> Result<Vec<u32>, AllocError>
     ensures { IfOk result (λ order. AreBelow (length table.now) order.items) }
 {
     let mut order = Vec::new(alloc);
@@ -33,7 +33,7 @@ fn without_superclass(alloc: Global, table: &ClassTable) -> Result<Vec<u32>, Tab
 }
 
 /// Classes so that each comes after its superclass; those whose superclasses go round are left out.
-pub fn downward(alloc: Global, table: &ClassTable) -> Result<Vec<u32>, TableError>
+pub fn downward(alloc: Global, table: &ClassTable) -> Result<Vec<u32>, AllocError>
     ensures { IfOk result (λ order. AreBelow (length table.now) order.items) }
 {
     let below = subclasses(alloc, table)?;

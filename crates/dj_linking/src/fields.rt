@@ -4,11 +4,11 @@ ghost use Rattle.dj_linking.specs.Numbers.{AreAbove, AreBelow, lists_of};
 ghost use Rattle.dj_linking.specs.Chained.{AreFieldChains, AreRows, field_row, has_field};
 
 use crate::chains::Chains;
-use dj_classes::{ClassTable, TableError};
-use std::alloc::Global;
+use dj_classes::ClassTable;
+use std::alloc::{AllocError, Global};
 
 // The class comes to the row if it declares a field.
-fn put_with_fields(row: &mut Vec<u32>, table: &ClassTable, class: u32) -> Result<(), TableError>
+fn put_with_fields(row: &mut Vec<u32>, table: &ClassTable, class: u32) -> Result<(), AllocError>
     requires { class < length table.now }
     ensures { OnOk result (row.new.items ≡ row.old.items ++ filter (has_field table.now) (class ∷ [])) }
 {
@@ -24,7 +24,7 @@ fn row_of(
     table: &ClassTable,
     above: &[u32],
     class: u32,
-) -> Result<Vec<u32>, TableError>
+) -> Result<Vec<u32>, AllocError>
     requires there { class < length table.now }
     requires above { AreBelow (length table.now) above.now }
     ensures { IfOk result (λ row. row.items ≡ filter (has_field table.now) (class ∷ above.now)) }
@@ -42,7 +42,7 @@ fn field_rows(
     alloc: Global,
     table: &ClassTable,
     above: &[Vec<u32>],
-) -> Result<Vec<Vec<u32>>, TableError>
+) -> Result<Vec<Vec<u32>>, AllocError>
     requires { AreAbove table.now (lists_of above.now) }
     ensures { IfOk result (λ rows. AreRows table.now (field_row table.now) (lists_of rows.items)) }
 {
@@ -59,7 +59,7 @@ pub fn field_chains(
     table: &ClassTable,
     order: &[u32],
     above: &[Vec<u32>],
-) -> Result<Chains, TableError>
+) -> Result<Chains, AllocError>
     requires order { AreBelow (length table.now) order.now }
     requires above { AreAbove table.now (lists_of above.now) }
     ensures { IfOk result (AreFieldChains table.now) }

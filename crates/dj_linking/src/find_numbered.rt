@@ -23,7 +23,7 @@ use crate::words::may_have_bit;
 use dj_classes::Place;
 use dj_directory::Directory;
 
-// This many classes are looked at one by one before all that declare a member are.
+// A search among at most this many classes looks at them one by one; a longer one first marks all classes that declare the member.
 const SHORT_WALK: u32 = 8;
 
 // Words with a bit for each class, where there are as few as have rows.
@@ -93,7 +93,7 @@ fn may_be_in(marks: Option<&[u64]>, class: u32) -> bool
     }
 }
 
-// Whether classes are marked before each of these is looked at: few are looked at as they are.
+// Whether the classes that declare a member are marked before these are looked at, as they are where there are many of these.
 fn is_worth_marking(directory: &Directory<'_>, classes: &[u32]) -> bool
     ensures { result ≡ true → length directory.now.program ≤ 8192 }
 {

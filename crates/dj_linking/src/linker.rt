@@ -27,14 +27,13 @@ use crate::shared::Shared;
 use crate::special::{instance_method_above, is_own_or_superclass, is_superclass};
 use dj_classes::{ClassTable, Place, TableError};
 use dj_directory::{CallTable, Directory};
-use dj_names::NoMemory;
-use std::alloc::Global;
+use std::alloc::{AllocError, Global};
 use std::marker::Model;
 
 /// Under which names Object, String and the library's other classes stand.
 #[derive(Clone, Copy, Debug, PartialEq, Eq)]
 pub enum BaseNames {
-    /// Their own.
+    /// Their own names, as `java/lang/String`.
     Plain,
     /// Those of rewritten classes, within the package `sandbox`.
     Sandbox,
@@ -117,7 +116,7 @@ impl Linker {
     }
 
     /// The members by the numbers of their texts, where a search by the texts themselves could take long.
-    pub fn directory(&self, alloc: Global) -> Result<Option<Directory<'_>>, NoMemory>
+    pub fn directory(&self, alloc: Global) -> Result<Option<Directory<'_>>, AllocError>
         ensures { IfOk result (λ directory. IfSome directory (λ d. d.program ≡ self.now.program)) }
     {
         if are_costly(&self.table, &self.methods) {

@@ -3,8 +3,8 @@ ghost use Rattle.dj_linking.specs.Numbers.{AreAbove, AreBelow, lists_of};
 ghost use Rattle.dj_linking.specs.Chained.{AreMethodChains};
 
 use crate::chains::Chains;
-use dj_classes::{ClassTable, TableError};
-use std::alloc::Global;
+use dj_classes::ClassTable;
+use std::alloc::{AllocError, Global};
 
 /// For each class, by its number, the interfaces above it and its superclasses, where the classes come in this order.
 pub fn method_chains(
@@ -12,7 +12,7 @@ pub fn method_chains(
     table: &ClassTable,
     order: &[u32],
     above: &[Vec<u32>],
-) -> Result<Chains, TableError>
+) -> Result<Chains, AllocError>
     requires order { AreBelow (length table.now) order.now }
     requires above { AreAbove table.now (lists_of above.now) }
     ensures { IfOk result (AreMethodChains table.now) }

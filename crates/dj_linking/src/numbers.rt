@@ -3,8 +3,7 @@ ghost use Rattle.dj_linking.specs.Bits.{AreBits, in_bits, words_for};
 ghost use Rattle.dj_linking.specs.Numbers.{has, with_new, with_all, AreBelow};
 
 use crate::words::{has_bit, has_bits, put_bit};
-use dj_classes::TableError;
-use std::alloc::Global;
+use std::alloc::{AllocError, Global};
 
 /// Whether the number is one of these.
 pub fn is_among(numbers: &[u32], number: u32) -> bool
@@ -28,7 +27,7 @@ pub struct Numbers {
 
 impl Numbers {
     /// No numbers, and room for those below the bound.
-    pub fn below(alloc: Global, bound: usize) -> Result<Numbers, TableError>
+    pub fn below(alloc: Global, bound: usize) -> Result<Numbers, AllocError>
         ensures none { IfOk result (λ numbers. numbers.list.items ≡ []) }
         ensures bound { IfOk result (λ numbers. length numbers.bits.items ≡ words_for bound) }
     {
@@ -56,7 +55,7 @@ impl Numbers {
     }
 
     /// Puts a number at the end, unless it is there.
-    pub fn add(&mut self, number: u32) -> Result<(), TableError>
+    pub fn add(&mut self, number: u32) -> Result<(), AllocError>
         requires { number < length self.old.bits.items * 64 }
         ensures list { OnOk result (self.new.list.items ≡ with_new self.old.list.items number) }
         ensures bound { OnOk result (length self.new.bits.items ≡ length self.old.bits.items) }
@@ -69,7 +68,7 @@ impl Numbers {
     }
 
     /// Puts those of the numbers at the end that aren't there.
-    pub fn add_all(&mut self, numbers: &[u32]) -> Result<(), TableError>
+    pub fn add_all(&mut self, numbers: &[u32]) -> Result<(), AllocError>
         requires { AreBelow (length self.old.bits.items * 64) numbers.now }
         ensures list { OnOk result (self.new.list.items ≡ with_all self.old.list.items numbers.now) }
         ensures bound { OnOk result (length self.new.bits.items ≡ length self.old.bits.items) }

@@ -2,11 +2,11 @@ ghost use Rattle.std.specs.Prelude.{◌≡◌, ◌<◌, ◌^◌, length, IfOk, O
 ghost use Rattle.dj_linking.specs.Numbers.{AreBelow, AreInside, lists_of};
 
 use crate::empty::empty_lists;
-use dj_classes::{ClassTable, TableError};
-use std::alloc::Global;
+use dj_classes::ClassTable;
+use std::alloc::{AllocError, Global};
 
 // The class stands below each of these interfaces.
-fn put_below(below: &mut [Vec<u32>], listed: &[u32], class: u32) -> Result<(), TableError>
+fn put_below(below: &mut [Vec<u32>], listed: &[u32], class: u32) -> Result<(), AllocError>
     requires listed { AreBelow (length below.old) listed.now }
     requires there { class < length below.old }
     requires inside { AreInside (length below.old) (lists_of below.old) }
@@ -19,7 +19,7 @@ fn put_below(below: &mut [Vec<u32>], listed: &[u32], class: u32) -> Result<(), T
 }
 
 // For each interface, by its number, the classes that list it.
-fn classes_below(alloc: Global, table: &ClassTable) -> Result<Vec<Vec<u32>>, TableError>
+fn classes_below(alloc: Global, table: &ClassTable) -> Result<Vec<Vec<u32>>, AllocError>
     ensures { IfOk result (λ below. AreInside (length table.now) (lists_of below.items)) }
 {
     let count = table.class_count();
@@ -31,7 +31,7 @@ fn classes_below(alloc: Global, table: &ClassTable) -> Result<Vec<Vec<u32>>, Tab
 }
 
 // How many interfaces each class lists.
-fn listed_counts(alloc: Global, table: &ClassTable) -> Result<Vec<usize>, TableError>
+fn listed_counts(alloc: Global, table: &ClassTable) -> Result<Vec<usize>, AllocError>
     ensures { IfOk result (λ counts. length counts.items ≡ length table.now) }
 {
     let mut counts = Vec::new(alloc);
@@ -42,7 +42,7 @@ fn listed_counts(alloc: Global, table: &ClassTable) -> Result<Vec<usize>, TableE
 }
 
 // The classes that list no interface.
-fn without_interfaces(alloc: Global, counts: &[usize]) -> Result<Vec<u32>, TableError>
+fn without_interfaces(alloc: Global, counts: &[usize]) -> Result<Vec<u32>, AllocError>
     requires { length counts.now < 2 ^ 31 }
     ensures { IfOk result (λ order. AreBelow (length counts.now) order.items) }
 {
@@ -56,7 +56,7 @@ fn without_interfaces(alloc: Global, counts: &[usize]) -> Result<Vec<u32>, Table
 }
 
 // One interface less is before each of the classes, and those come that have none left.
-fn release(order: &mut Vec<u32>, left: &mut [usize], classes: &[u32]) -> Result<(), TableError>
+fn release(order: &mut Vec<u32>, left: &mut [usize], classes: &[u32]) -> Result<(), AllocError>
     requires classes { AreBelow (length left.old) classes.now }
     requires order { AreBelow (length left.old) order.old.items }
     ensures { OnOk result (AreBelow (length left.old) order.new.items) }
@@ -72,7 +72,7 @@ fn release(order: &mut Vec<u32>, left: &mut [usize], classes: &[u32]) -> Result<
 }
 
 /// Classes so that each comes after the interfaces that it lists; those in a ring are left out.
-pub fn order_of(alloc: Global, table: &ClassTable) -> Result<Vec<u32>, TableError>
+pub fn order_of(alloc: Global, table: &ClassTable) -> Result<Vec<u32>, AllocError>
     ensures { IfOk result (λ order. AreBelow (length table.now) order.items) }
 {
     let count = table.class_count() as usize;

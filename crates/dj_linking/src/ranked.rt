@@ -7,8 +7,8 @@ ghost use Rattle.dj_linking.specs.Ranked.{AreRanked, AreRanks, AreRanksOf, HasRo
 
 use crate::empty::empty_rows;
 use crate::words::{has_bit, highest_common, put_bit};
-use dj_classes::{ClassTable, TableError};
-use std::alloc::Global;
+use dj_classes::ClassTable;
+use std::alloc::{AllocError, Global};
 
 /// Bits for each class take as many as there are pairs of classes. Where there are more classes there are none.
 pub const MOST_ROWS: u32 = 8192;
@@ -25,7 +25,7 @@ pub struct Ranks {
 }
 
 // By the numbers of classes, their places in the order.
-fn ranks_in(alloc: Global, count: u32, order: &[u32]) -> Result<Vec<u32>, TableError>
+fn ranks_in(alloc: Global, count: u32, order: &[u32]) -> Result<Vec<u32>, AllocError>
     requires { AreBelow count order.now }
     ensures { IfOk result (λ ranks. length ranks.items ≡ count) }
 {
@@ -39,7 +39,7 @@ fn ranks_in(alloc: Global, count: u32, order: &[u32]) -> Result<Vec<u32>, TableE
     Ok(ranks)
 }
 
-fn copied(alloc: Global, row: &[u64]) -> Result<Vec<u64>, TableError>
+fn copied(alloc: Global, row: &[u64]) -> Result<Vec<u64>, AllocError>
     ensures { IfOk result (λ copy. copy.items ≡ row.now) }
 {
     let mut copy = Vec::with_capacity(alloc, row.len())?;
@@ -55,7 +55,7 @@ fn row_above(
     rows: &[Vec<u64>],
     class: u32,
     rank: u32,
-) -> Result<Option<Vec<u64>>, TableError>
+) -> Result<Option<Vec<u64>>, AllocError>
     requires few { length table.now < 2 ^ 31 }
     requires there { class < length table.now }
     requires rank { rank < length table.now }
@@ -82,7 +82,7 @@ fn learn(
     ranks: &[u32],
     rows: &mut [Vec<u64>],
     rank: u32,
-) -> Result<(), TableError>
+) -> Result<(), AllocError>
     requires few { length table.now < 2 ^ 31 }
     requires below { AreBelow (length table.now) order.now }
     requires there { rank < length order.now }
@@ -108,7 +108,7 @@ fn rows_of(
     table: &ClassTable,
     order: &[u32],
     ranks: &[u32],
-) -> Result<Vec<Vec<u64>>, TableError>
+) -> Result<Vec<Vec<u64>>, AllocError>
     requires below { AreBelow (length table.now) order.now }
     requires count { length ranks.now ≡ length table.now }
     ensures { IfOk result (λ rows. AreRanks table.now order.now ranks.now (lists_of rows.items)) }
@@ -129,7 +129,7 @@ fn rows_of(
 
 impl Ranks {
     /// The ranks of the classes are their places in this order: one that comes before its superclass has none.
-    pub fn of(alloc: Global, table: &ClassTable, order: Vec<u32>) -> Result<Ranks, TableError>
+    pub fn of(alloc: Global, table: &ClassTable, order: Vec<u32>) -> Result<Ranks, AllocError>
         requires { AreBelow (length table.now) order.items }
         ensures { IfOk result (AreRanksOf table.now) }
     {

@@ -16,9 +16,9 @@ use crate::costly::are_costly;
 use crate::long::are_long;
 use crate::ranked::{MOST_ROWS, Ranks};
 use crate::sharing::{fields_of, methods_of, plain_methods_of};
-use dj_classes::{ClassTable, TableError};
+use dj_classes::ClassTable;
 use dj_directory::Directory;
-use std::alloc::Global;
+use std::alloc::{AllocError, Global};
 
 /// This many classes that declare a member are looked at one by one.
 pub const FEW_ROWS: usize = 64;
@@ -123,7 +123,7 @@ impl Shared {
         methods: &Chains,
         fields: &Chains,
         ranks: &Ranks,
-    ) -> Result<Shared, TableError>
+    ) -> Result<Shared, AllocError>
         requires methods { AreMethodChains table.now methods.now }
         requires ranks { AreRanksOf table.now ranks.now }
         ensures { IfOk result (AreShared table.now ranks.now.ranks.items) }

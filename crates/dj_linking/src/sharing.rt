@@ -7,9 +7,8 @@ ghost use Rattle.dj_linking.specs.Shared.{HaveFieldMarks, HavePlainMarks, HaveRa
 use crate::declarers::{mark_all, mark_plain, mark_ranks};
 use crate::ranked::Ranks;
 use crate::shared::{FEW_ROWS, MarkedMember};
-use dj_classes::TableError;
 use dj_directory::{Directory, MemberRow};
-use std::alloc::Global;
+use std::alloc::{AllocError, Global};
 
 // ---- rows
 
@@ -34,19 +33,19 @@ fn begin_many(rows: &[MemberRow], at: usize) -> bool
 // ---- marks of one member
 
 // A bit of each class, none of which is set.
-fn no_marks(alloc: Global, count: u32) -> Result<Vec<u64>, TableError>
+fn no_marks(alloc: Global, count: u32) -> Result<Vec<u64>, AllocError>
     ensures count { IfOk result (λ marks. length marks.items ≡ words_for count) }
     ensures clear { IfOk result (λ marks. AreBits [] marks.items) }
 {
     Ok(vec![in alloc; 0; count as usize / 64 + 1]?)
 }
 
-// The classes that declare a method like that of a row that is neither private nor static.
+// The classes that declare a method with the name and the descriptor of a row's, and where it is neither private nor static.
 fn plain_method_of(
     alloc: Global,
     directory: &Directory<'_>,
     row: MemberRow,
-) -> Result<MarkedMember, TableError>
+) -> Result<MarkedMember, AllocError>
     requires { IsMethodNumbered directory.now row.class row.place row.name row.desc }
     ensures { IfOk result (IsPlainMarked directory.now.program) }
 {
@@ -65,13 +64,13 @@ fn plain_method_of(
     })
 }
 
-// The ranks of the classes that declare a method like that of a row.
+// The ranks of the classes that declare a method with the name and the descriptor of a row's.
 fn method_of(
     alloc: Global,
     directory: &Directory<'_>,
     ranks: &Ranks,
     row: MemberRow,
-) -> Result<MarkedMember, TableError>
+) -> Result<MarkedMember, AllocError>
     requires ranks { AreRanksOf directory.now.program ranks.now }
     requires row { IsMethodNumbered directory.now row.class row.place row.name row.desc }
     ensures { IfOk result (IsRankMarked directory.now.program ranks.now.ranks.items) }
@@ -96,7 +95,7 @@ fn field_of(
     alloc: Global,
     directory: &Directory<'_>,
     row: MemberRow,
-) -> Result<MarkedMember, TableError>
+) -> Result<MarkedMember, AllocError>
     requires { IsFieldNumbered directory.now row.class row.place row.name row.desc }
     ensures { IfOk result (IsFieldMarked directory.now.program) }
 {
@@ -118,7 +117,7 @@ fn put_plain(
     marked: &mut Vec<MarkedMember>,
     directory: &Directory<'_>,
     member: MarkedMember,
-) -> Result<(), TableError>
+) -> Result<(), AllocError>
     requires marked { HavePlainMarks directory.now.program marked.old.items }
     requires member { IsPlainMarked directory.now.program member }
     ensures { OnOk result (HavePlainMarks directory.now.program marked.new.items) }
@@ -134,7 +133,7 @@ fn put_ranked(
     directory: &Directory<'_>,
     ranks: &Ranks,
     member: MarkedMember,
-) -> Result<(), TableError>
+) -> Result<(), AllocError>
     requires marked { HaveRankMarks directory.now.program ranks.now.ranks.items marked.old.items }
     requires member { IsRankMarked directory.now.program ranks.now.ranks.items member }
     ensures { OnOk result (HaveRankMarks directory.now.program ranks.now.ranks.items marked.new.items) }
@@ -150,7 +149,7 @@ fn put_field(
     marked: &mut Vec<MarkedMember>,
     directory: &Directory<'_>,
     member: MarkedMember,
-) -> Result<(), TableError>
+) -> Result<(), AllocError>
     requires marked { HaveFieldMarks directory.now.program marked.old.items }
     requires member { IsFieldMarked directory.now.program member }
     ensures { OnOk result (HaveFieldMarks directory.now.program marked.new.items) }
@@ -164,7 +163,7 @@ fn put_field(
 pub fn plain_methods_of(
     alloc: Global,
     directory: &Directory<'_>,
-) -> Result<Vec<MarkedMember>, TableError>
+) -> Result<Vec<MarkedMember>, AllocError>
     ensures { IfOk result (λ marked. HavePlainMarks directory.now.program marked.items) }
 {
     let mut marked = Vec::new(alloc);
@@ -183,7 +182,7 @@ pub fn methods_of(
     alloc: Global,
     directory: &Directory<'_>,
     ranks: &Ranks,
-) -> Result<Vec<MarkedMember>, TableError>
+) -> Result<Vec<MarkedMember>, AllocError>
     requires { AreRanksOf directory.now.program ranks.now }
     ensures { IfOk result (λ marked. HaveRankMarks directory.now.program ranks.now.ranks.items marked.items) }
 {
@@ -199,7 +198,7 @@ pub fn methods_of(
 }
 
 /// The classes that declare each field that many classes declare.
-pub fn fields_of(alloc: Global, directory: &Directory<'_>) -> Result<Vec<MarkedMember>, TableError>
+pub fn fields_of(alloc: Global, directory: &Directory<'_>) -> Result<Vec<MarkedMember>, AllocError>
     ensures { IfOk result (λ marked. HaveFieldMarks directory.now.program marked.items) }
 {
     let mut marked = Vec::new(alloc);

@@ -3,8 +3,7 @@ ghost use Rattle.std.specs.Prelude.{◌≡◌};
 use dj_declared::DeclareError;
 use dj_graph::GraphError;
 use dj_image::ImageError;
-use dj_names::{Name, NoMemory};
-use dj_rules::RulesError;
+use dj_names::Name;
 use dj_shape::ShapeError;
 use std::alloc::{AllocError, AllocFailed};
 use thiserror::Error;
@@ -24,16 +23,6 @@ pub enum LoadError {
     /// There was no memory.
     #[error("there was no memory")]
     Memory,
-}
-
-impl From<NoMemory> for LoadError {
-    ghost use Rattle.dj_loader.specs.declared.error.LoadError.TheVariants.{Memory};
-
-    ghost from_gives = { λ _ e. e ≡ Memory };
-
-    fn from(_error: NoMemory) -> LoadError {
-        LoadError::Memory
-    }
 }
 
 impl From<AllocError> for LoadError {
@@ -82,16 +71,6 @@ impl From<ImageError> for LoadError {
     ghost from_gives = { λ _ e. e ≡ Memory };
 
     fn from(_error: ImageError) -> LoadError {
-        LoadError::Memory
-    }
-}
-
-impl From<RulesError> for LoadError {
-    ghost use Rattle.dj_loader.specs.declared.error.LoadError.TheVariants.{Memory};
-
-    ghost from_gives = { λ _ e. e ≡ Memory };
-
-    fn from(_error: RulesError) -> LoadError {
         LoadError::Memory
     }
 }

@@ -15,7 +15,7 @@ use crate::programs::{
     SECOND_LOCAL, UNLISTED,
 };
 use crate::set::{file_of, has_faulty_method, plain_image};
-use dj_check::{RulesError, has_faulty_field};
+use dj_check::has_faulty_field;
 use dj_class::{ClassView, read_class};
 use dj_image::{Image, MethodId};
 use dj_image_rules::{links, shape};
@@ -24,9 +24,9 @@ use dj_report::{PathFile, Violation, Violations};
 use std::alloc::{AllocError, Global};
 
 // The text of a class, its name, and what is reported of its method verify, or of its file.
-type Row = (&'static [u8], &'static str, &'static str);
+type JudgedRow = (&'static [u8], &'static str, &'static str);
 
-const SHAPES: [Row; 8] = [
+const SHAPES: [JudgedRow; 8] = [
     (RETURNING, "A", "None"),
     (NOTHING_RETURNED, "A", "A.class verify([B)[B 0 19"),
     (INT_RETURNED, "A", "A.class verify([B)[B 0 19"),
@@ -37,7 +37,7 @@ const SHAPES: [Row; 8] = [
     (CALLING, "A", "None"),
 ];
 
-const LINKS: [Row; 5] = [
+const LINKS: [JudgedRow; 5] = [
     (RETURNING, "A", "-"),
     (NOTHING_RETURNED, "A", "-"),
     (PACKAGED, "p/B", "-"),
@@ -95,7 +95,7 @@ fn shape_of(alloc: Global, image: &Image, method: MethodId) -> Option<Option<Vio
     }
 }
 
-fn reported_shape(alloc: Global, row: &Row) -> Option<String> {
+fn reported_shape(alloc: Global, row: &JudgedRow) -> Option<String> {
     let image = plain_image(alloc, &[row.0])?;
     let method = own_method(&image, (row.1, "verify", "([B)[B"))?;
     match shape_of(alloc, &image, method)? {
@@ -106,7 +106,7 @@ fn reported_shape(alloc: Global, row: &Row) -> Option<String> {
 
 // ---- rules 17 and 18
 
-fn is_faulty(alloc: Global, view: &ClassView<'_>) -> Result<bool, RulesError>
+fn is_faulty(alloc: Global, view: &ClassView<'_>) -> Result<bool, AllocError>
     requires { IsValid (class_of view.now) }
     ensures { IfOk result (λ faulty. IsTrue faulty ↔ IsFaulty (class_of view.now)) }
 {
@@ -159,14 +159,14 @@ fn reported_lines(alloc: Global, lines: &[Violation]) -> Result<String, AllocErr
     Ok(all)
 }
 
-fn reported_links(alloc: Global, row: &Row) -> Option<String> {
+fn reported_links(alloc: Global, row: &JudgedRow) -> Option<String> {
     let file = file_of(alloc, row.0)?;
     let image = plain_image(alloc, &[row.0])?;
     let lines = links_of_bytes(alloc, &image, file.as_slice())?;
     reported_lines(alloc, lines.as_slice()).ok()
 }
 
-fn is_reported(reported: &Option<String>, row: &Row) -> bool {
+fn is_reported(reported: &Option<String>, row: &JudgedRow) -> bool {
     match reported {
         Some(reported) => reported.as_str() == row.2,
         None => false,

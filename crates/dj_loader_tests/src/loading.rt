@@ -8,9 +8,9 @@ use dj_loader::{Image, LoadError};
 use std::alloc::{AllocError, Global};
 
 // A library, the texts of classes, and what loading them answers: the number of classes and arrays, or a refusal.
-type Row = (Which, &'static [&'static [u8]], &'static str);
+type LoadRow = (Which, &'static [&'static [u8]], &'static str);
 
-const ROWS: [Row; 32] = [
+const ROWS: [LoadRow; 32] = [
     (Which::Deterministic, &[], "Ok 27"),
     (Which::Raw, &[], "Ok 27"),
     (Which::Deterministic, &[LONE_A], "Ok 28"),
@@ -67,12 +67,12 @@ fn reported(alloc: Global, loaded: &Result<Image, LoadError>) -> Result<String, 
     }
 }
 
-fn answer(alloc: Global, row: &Row) -> Option<String> {
+fn answer(alloc: Global, row: &LoadRow) -> Option<String> {
     let loaded = load_texts(alloc, row.0, row.1)?;
     reported(alloc, &loaded).ok()
 }
 
-fn is_answered(alloc: Global, row: &Row) -> bool {
+fn is_answered(alloc: Global, row: &LoadRow) -> bool {
     match answer(alloc, row) {
         Some(reported) => reported.as_str() == row.2,
         None => false,

@@ -356,7 +356,7 @@ pub const PACKAGED: &[u8] = b".class 21 p/B\n\
     ireturn\n\
     .end\n";
 
-// It calls a method that its class hasn't, and one of a class that isn't there.
+// It calls a method that its class doesn't have, and one of a class that isn't there.
 pub const CALLING: &[u8] = b".class 21 A\n\
     .super java/lang/Object\n\
     .method 9 verify ([B)[B\n\
@@ -368,7 +368,7 @@ pub const CALLING: &[u8] = b".class 21 A\n\
     areturn\n\
     .end\n";
 
-// It calls a method of Java that the library hasn't.
+// It calls a method of Java that isn't in the library.
 pub const UNLISTED: &[u8] = b".class 21 A\n\
     .super java/lang/Object\n\
     .method 9 verify ([B)[B\n\

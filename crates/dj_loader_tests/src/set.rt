@@ -7,14 +7,14 @@ ghost use Rattle.dj_loader_tests.specs.Sets.{IsSmallLibrary, IsSound};
 
 use crate::programs::{IMAGE, LONG_NAMED};
 use dj_asm::assemble;
-use dj_check::{MethodBody, RulesError, code_of_method};
+use dj_check::{MethodBody, code_of_method};
 use dj_class::{ClassView, MemberView, read_class};
 use dj_library::{deterministic, raw};
 use dj_loader::{BaseNames, Image, LoadError, load};
 use dj_names::Bytes;
 use dj_natives::Library;
 use dj_pool::Pool;
-use std::alloc::Global;
+use std::alloc::{AllocError, Global};
 
 /// A library.
 #[derive(Clone, Copy, Debug)]
@@ -71,7 +71,7 @@ fn is_faulty_method(
     alloc: Global,
     pool: &Pool<'_>,
     method: &MemberView<'_>,
-) -> Result<bool, RulesError>
+) -> Result<bool, AllocError>
     requires { IsMethod pool.now (member_of method.now) }
     ensures { IfOk result (λ faulty. IsTrue faulty ↔ IsFaultyMethod pool.now (member_of method.now)) }
 {
@@ -83,7 +83,7 @@ fn is_faulty_method(
 }
 
 /// Whether one of the methods of the class file is faulty.
-pub fn has_faulty_method(alloc: Global, view: &ClassView<'_>) -> Result<bool, RulesError>
+pub fn has_faulty_method(alloc: Global, view: &ClassView<'_>) -> Result<bool, AllocError>
     requires { IsValid (class_of view.now) }
     ensures { IfOk result (λ faulty. IsTrue faulty ↔ HasFaultyMethod (class_of view.now)) }
 {
@@ -121,7 +121,7 @@ fn view_of(alloc: Global, bytes: &[u8]) -> Option<ClassView<'_>>
 
 // The class files, or nothing where one is none, or has a faulty method.
 #[tactic(auto, using(crate::proofs::Sound::one_more))]
-fn views_of(alloc: Global, files: &[Bytes]) -> Result<Option<Vec<ClassView<'_>>>, RulesError>
+fn views_of(alloc: Global, files: &[Bytes]) -> Result<Option<Vec<ClassView<'_>>>, AllocError>
     ensures { IfOk result (λ views. IfSome views (λ views. All IsSound views.items)) }
 {
     let mut views = Vec::new(alloc);

@@ -8,7 +8,7 @@ use Rattle.dj_edge.specs.declared.host.HostAnswer.{HostAnswer}
 use Rattle.dj_host.specs.trusted.Hosted.{given_since}
 use Rattle.dj_model.specs.trusted.Types.{Declared}
 use Rattle.dj_model.specs.trusted.State.{State, Account, Counting, Terms}
-use Rattle.dj_model.specs.trusted.Step.{Answer, Went, Ended, IllFormed}
+use Rattle.dj_model.specs.trusted.Step.{StepAnswer, Went, Ended, IllFormed}
 use Rattle.dj_model.specs.trusted.Charging.{new_account}
 use Rattle.dj_model.specs.trusted.Runs.{Ran, Going, Finished, NoStep, Report, begin, from_start, plain_run, report_of, steps}
 use Rattle.dj_image.specs.Imaged.{Imaged, program_of}
@@ -91,7 +91,7 @@ begun_at : (imaged : Imaged) (entry : Declared) (input : List ℕ) (most : Thres
     ≡ report_of answers fuel (steps (program_of imaged) imaged.prefix (terms_of m) fuel (state_with answers m))
 unfolding plain_run
 begun_at imaged entry input most limit fuel m answers begins =
-    ap (λ (a : Answer). report_of answers fuel (from_start (steps (program_of imaged) imaged.prefix (terms_of m) fuel) a)) (begins.state answers)
+    ap (λ (a : StepAnswer). report_of answers fuel (from_start (steps (program_of imaged) imaged.prefix (terms_of m) fuel) a)) (begins.state answers)
 
 same_terms : (imaged : Imaged) (entry : Declared) (input : List ℕ) (most : Thresholds) (limit : ℕ) (m : Machined) → Begins imaged entry input most limit m
     → terms_for imaged most limit ≡ terms_of m
@@ -118,7 +118,7 @@ on_at_start imaged entry input most limit m begins = let e = begins.failed in le
 
 -- ---- a run that ends at its start
 
-end_reported : (answer : Answer) (more : State → Ran) (all : List HostAnswer) (fuel : ℕ) (outcome : Outcome) → one.reported_of answer ≡ one.Over outcome new_account all
+end_reported : (answer : StepAnswer) (more : State → Ran) (all : List HostAnswer) (fuel : ℕ) (outcome : Outcome) → one.reported_of answer ≡ one.Over outcome new_account all
     → report_of all fuel (from_start more answer) ≡ Some (report outcome new_account.costs 0 (length all - length all))
 end_reported (Went s) more all fuel outcome e = absurd cc
 end_reported (Ended o s) more all fuel outcome e =

@@ -7,11 +7,10 @@ use Rattle.dj_model.specs.trusted.Types.{Prefix}
 use Rattle.dj_model.specs.trusted.Program.{Program}
 use Rattle.dj_model.specs.Standing.{AsksNothing}
 use Rattle.dj_model.specs.trusted.State.{State, Terms, Account, Counting}
-use Rattle.dj_model.specs.trusted.Step.{Answer, Went, Ended, IllFormed, step}
+use Rattle.dj_model.specs.trusted.Step.{StepAnswer, Went, Ended, IllFormed, step}
 use Rattle.dj_model.specs.trusted.Runs.{Ran, Going, Finished, NoStep, one_more, steps, then_steps}
 use Rattle.dj_image.specs.Imaged.{Imaged, program_of}
 use Rattle.dj_step.specs.Answers as one
-use Rattle.dj_step.specs.declared.answers.StepAnswer.{StepAnswer}
 use Rattle.dj_step.specs.declared.answers.StepAnswer.TheVariants as answers
 use Rattle.dj_step.specs.Machines.{IsSameRun, Machined, Stays, Steps, is_over, machine_reported, on_or_over, state_with, step_answer, terms_of}
 use Rattle.dj_machine.specs.declared.answer.RunAnswer.{RunAnswer}
@@ -75,12 +74,12 @@ begins old before fuel on = record {
 
 -- ---- one step more
 
-is_went : (answer : Answer) (s : State) → one.reported_of answer ≡ one.On s → answer ≡ Went s
+is_went : (answer : StepAnswer) (s : State) → one.reported_of answer ≡ one.On s → answer ≡ Went s
 is_went (Went t) s e = let f : t ≡ s = cc in ap Went f
 is_went (Ended outcome t) s e = absurd cc
 is_went IllFormed s e = absurd cc
 
-is_ended : (answer : Answer) (outcome : Outcome) (account : Account) (left : List HostAnswer) → one.reported_of answer ≡ one.Over outcome account left
+is_ended : (answer : StepAnswer) (outcome : Outcome) (account : Account) (left : List HostAnswer) → one.reported_of answer ≡ one.Over outcome account left
     → reported_of (then_steps (λ s. NoStep) answer) ≡ Over outcome 1 account left
 is_ended (Went t) outcome account left e = absurd cc
 is_ended (Ended other t) outcome account left e =
@@ -88,7 +87,7 @@ is_ended (Ended other t) outcome account left e =
     ap (λ (o : Outcome). Over o 1 t.account t.answers) f ∙ ap (λ (a : Account). Over outcome 1 a t.answers) g ∙ ap (λ (l : List HostAnswer). Over outcome 1 account l) h
 is_ended IllFormed outcome account left e = absurd cc
 
-ended_alike : (other : State → Ran) (answer : Answer) (outcome : Outcome) (account : Account) (left : List HostAnswer) → one.reported_of answer ≡ one.Over outcome account left
+ended_alike : (other : State → Ran) (answer : StepAnswer) (outcome : Outcome) (account : Account) (left : List HostAnswer) → one.reported_of answer ≡ one.Over outcome account left
     → reported_of (then_steps other answer) ≡ Over outcome 1 account left
 ended_alike other (Went t) outcome account left e = absurd cc
 ended_alike other (Ended o t) outcome account left e = is_ended (Ended o t) outcome account left e
@@ -97,7 +96,7 @@ ended_alike other IllFormed outcome account left e = absurd cc
 module _ (program : Program) (prefix : Prefix) (terms : Terms) where
   steps_on : (n : ℕ) (s t : State) → step program prefix terms s ≡ Went t → reported_of (steps program prefix terms (suc n) s) ≡ more 1 (reported_of (steps program prefix terms n t))
   unfolding steps
-  steps_on n s t e = ap (λ (a : Answer). reported_of (then_steps (steps program prefix terms n) a)) e ∙ one_more_reported (steps program prefix terms n t)
+  steps_on n s t e = ap (λ (a : StepAnswer). reported_of (then_steps (steps program prefix terms n) a)) e ∙ one_more_reported (steps program prefix terms n t)
 
   steps_end : (n : ℕ) (s : State) (outcome : Outcome) (account : Account) (left : List HostAnswer) → one.reported_of (step program prefix terms s) ≡ one.Over outcome account left
       → reported_of (steps program prefix terms (suc n) s) ≡ Over outcome 1 account left

@@ -23,7 +23,7 @@ terms_for imaged most limit = terms_by imaged.prefix most limit
 abbrev pub report_for : Ending → ℕ → Report
 report_for ending taken = record { outcome = ending.outcome; costs = ending.costs; steps = ending.steps; taken = taken }
 
--- within fuel steps the model's plain run of the entry on the input ends like this, and it takes exactly the host's answers in gave, whatever answers follow them
+-- within `fuel` steps the model's plain run of the entry on the input ends like this, and it takes exactly the host's answers `gave`, whatever answers follow them
 abbrev pub RunsPlainly : Imaged → Declared → List ℕ → Thresholds → ℕ → ℕ → List HostAnswer → Ending → Type 0
 RunsPlainly imaged entry input most limit fuel gave ending = (rest : List HostAnswer)
     → plain_run (program_of imaged) imaged.prefix (terms_for imaged most limit) entry input (gave ++ rest) fuel ≡ Some (report_for ending (length gave))
@@ -34,7 +34,7 @@ RunsPlainly imaged entry input most limit fuel gave ending = (rest : List HostAn
 abbrev pub IsAtStart : Machined → Type 0
 IsAtStart m = is_over m ≡ false
 
--- fuel steps of the model from the machine's state end like this, where the answers in gave come first
+-- `fuel` steps of the model from the machine's state end like this, where the answers `gave` come first
 abbrev pub RunsOn : Machined → ℕ → List HostAnswer → Ending → Type 0
 RunsOn m fuel gave ending = (rest : List HostAnswer)
     → report_of (gave ++ rest) fuel (steps (program_of m.image) m.image.prefix (terms_of m) fuel (state_with (gave ++ rest) m)) ≡ Some (report_for ending (length gave))

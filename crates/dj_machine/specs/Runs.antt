@@ -37,7 +37,7 @@ abbrev pub steps_made : RunAnswer → ℕ
 steps_made (runs.Ended n) = n
 steps_made answer = 0
 
--- where the answers in gave come first, the machine goes where the model's steps go. Nothing is said of a machine that had no memory
+-- where the answers `gave` come first, the machine goes where the model's steps go. Nothing is said of a machine that had no memory
 abbrev pub Goes : Machined → Machined → List HostAnswer → ℕ → RunAnswer → Type 0
 Goes old new gave fuel answer = new.failed ≡ false → (rest : List HostAnswer)
     → reported_of (steps (program_of old.image) old.image.prefix (terms_of old) fuel (state_with (gave ++ rest) old)) ≡ goes_or_over new.outcome (steps_made answer) (state_with rest new)

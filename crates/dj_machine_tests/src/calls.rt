@@ -4,7 +4,7 @@ use dj_names::Value;
 /// and an operand of it likewise.
 #[derive(Clone, Copy)]
 pub enum Call {
-    /// So many local variables, and room for so many operands.
+    /// This many local variables, and room for this many operands.
     Push(u16, u16),
     Pop,
     Depth(u32),
@@ -275,7 +275,7 @@ pub const OPERANDS: [&[Call]; 8] = [
         Call::Pop,
         Call::TakeEach(0, 1300),
     ],
-    // A frame goes while it has operands.
+    // A frame is popped while it has operands.
     &[
         Call::Push(0, 2),
         Call::Give(Value::Int(1)),

@@ -20,7 +20,7 @@ pub trait Holders {
         ensures { result ≡ has self.now declaring class };
 }
 
-// How many fields the instance of a reference has, where its class has the fields of the declaring one; or how the run goes on in its place.
+/// How many fields the instance of a reference has, where its class has the fields of the declaring one; else how the run goes on.
 #[tactic(auto, using(crate::proofs::HolderFacts::null_holder, crate::proofs::HolderFacts::past_holder, crate::proofs::HolderFacts::array_holder, crate::proofs::HolderFacts::text_holder, crate::proofs::HolderFacts::instance_holder, crate::proofs::HolderFacts::other_holder, crate::proofs::HolderFacts::has_fields, crate::proofs::HolderFacts::class_numbered))]
 pub fn holder<H: Holders>(holders: &H, heap: &Heap, declaring: u32, r: u32) -> Result<u32, Flow>
     requires { AreNumbered (H.count holders.now) heap.now.heap }

@@ -4,9 +4,9 @@ ghost use Rattle.dj_members.specs.Literals.{DoesOnLiterals, Keeps, object_of, ob
 
 use dj_effects::{Flow, Way};
 use dj_heap::{Heap, HeapError};
-use dj_names::{NoMemory, Value};
+use dj_names::Value;
 use dj_stack::Frames;
-use std::alloc::Global;
+use std::alloc::{AllocError, Global};
 use std::marker::Model;
 
 /// The text objects of the literals, by the numbers of their texts and in the order in which they were made.
@@ -19,7 +19,7 @@ pub struct Literals {
     ghost reported: { (text : ℕ) → object_reported (slice_index objects.items text) ≡ object_of made.items text },
 }
 
-/// What a text that has to have an object has.
+/// What came of giving a text an object.
 #[derive(Clone, Copy, Debug)]
 pub enum Kept {
     /// Its object.
@@ -39,7 +39,7 @@ impl Model for Literals {
 
 impl Literals {
     /// No literal of this many texts.
-    pub fn new(alloc: Global, count: u32) -> Result<Literals, NoMemory>
+    pub fn new(alloc: Global, count: u32) -> Result<Literals, AllocError>
         ensures { IfOk result (λ literals. literals ≡ record { count = count; made = [] }) }
     {
         Ok(Literals {
@@ -60,7 +60,7 @@ impl Literals {
     }
 
     // One literal more, of a text that has none.
-    fn keep(&mut self, text: u32, object: u32) -> Result<(), NoMemory>
+    fn keep(&mut self, text: u32, object: u32) -> Result<(), AllocError>
         requires known { text < self.old.count }
         requires some { 0 < object }
         requires first { object_of self.old.made text ≡ None }
@@ -81,7 +81,7 @@ pub fn push_text(
     string: u32,
     text: u32,
     units: &[u16],
-) -> Result<Flow, NoMemory>
+) -> Result<Flow, AllocError>
     requires room { length (top_operands frames.old) < top_room frames.old }
     requires known { text < literals.old.count }
     ensures { IfOk result (λ flow. DoesOnLiterals (push_text_by (Some heap.old.limit) string text units.now)
@@ -98,7 +98,7 @@ pub fn push_text(
             Ok(Flow::Goes(Way::Next))
         }
         Err(HeapError::Full { used, size }) => Ok(Flow::HeapFull { used, size }),
-        Err(HeapError::Memory) => Err(NoMemory::Memory),
+        Err(HeapError::Memory) => Err(AllocError),
     }
 }
 
@@ -110,7 +110,7 @@ pub fn keep_text(
     string: u32,
     text: u32,
     units: &[u16],
-) -> Result<Kept, NoMemory>
+) -> Result<Kept, AllocError>
     requires { text < literals.old.count }
     ensures { IfOk result (λ kept. Keeps string text units.now heap.old heap.new literals.old literals.new kept) }
 {
@@ -123,6 +123,6 @@ pub fn keep_text(
             Ok(Kept::Object(r))
         }
         Err(HeapError::Full { used, size }) => Ok(Kept::HeapFull { used, size }),
-        Err(HeapError::Memory) => Err(NoMemory::Memory),
+        Err(HeapError::Memory) => Err(AllocError),
     }
 }

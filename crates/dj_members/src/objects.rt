@@ -7,9 +7,10 @@ ghost use Rattle.dj_members.specs.Objects.{check_cast_by, instance_of_by, instan
 
 use dj_effects::{Flow, Way, pop};
 use dj_heap::{Heap, HeapError};
-use dj_names::{NoMemory, Raised, Value};
+use dj_names::{Raised, Value};
 use dj_natives::Classes;
 use dj_stack::Frames;
+use std::alloc::AllocError;
 
 /// How the run goes on after an object is thrown.
 #[derive(Clone, Copy)]
@@ -28,7 +29,7 @@ pub fn new_object(
     heap: &mut Heap,
     class: u32,
     fields: u32,
-) -> Result<Flow, NoMemory>
+) -> Result<Flow, AllocError>
     requires { FitsOnHeap (new_by (Some heap.old.limit) class fields) frames.old heap.old }
     ensures { IfOk result (λ flow. DoesOnHeap (new_by (Some heap.old.limit) class fields) frames.old frames.new heap.old heap.new (Some flow)) }
 {
@@ -38,7 +39,7 @@ pub fn new_object(
             Ok(Flow::Goes(Way::Next))
         }
         Err(HeapError::Full { used, size }) => Ok(Flow::HeapFull { used, size }),
-        Err(HeapError::Memory) => Err(NoMemory::Memory),
+        Err(HeapError::Memory) => Err(AllocError),
     }
 }
 

@@ -4,9 +4,9 @@ ghost use Rattle.dj_members.specs.Statics.{DoesOnStatics, get_static_by, put_sta
 
 use crate::values::{field_bits, field_value};
 use dj_effects::{Way, is_of_kind, pop};
-use dj_names::{Kind, NoMemory};
+use dj_names::Kind;
 use dj_stack::Frames;
-use std::alloc::Global;
+use std::alloc::{AllocError, Global};
 use std::marker::Model;
 
 /// The 64 bits of each static field, by their places.
@@ -25,7 +25,7 @@ impl Model for Statics {
 
 impl Statics {
     /// This many static fields, all zero.
-    pub fn new(alloc: Global, count: u32) -> Result<Statics, NoMemory>
+    pub fn new(alloc: Global, count: u32) -> Result<Statics, AllocError>
         ensures { IfOk result (λ statics. statics ≡ replicate count 0) }
     {
         Ok(Statics {

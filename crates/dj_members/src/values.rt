@@ -14,7 +14,7 @@ pub fn field_bits(value: Value) -> u64
     }
 }
 
-// The value of a kind that these 64 bits are.
+/// The value of a kind that these 64 bits are.
 #[tactic(auto, using(crate::proofs::LowHalves::low_half))]
 pub fn field_value(kind: Kind, bits: u64) -> Value
     ensures { result ≡ field_value kind bits }

@@ -33,13 +33,13 @@ use Rattle.dj_model.specs.Effects.{pays}
 use Rattle.dj_model.specs.trusted.Initialisation.{is_initialised, mark, with_constants, constants_of, initialise}
 use Rattle.dj_model.specs.trusted.Step.{unwound, settle, step}
 use Rattle.dj_model.specs.trusted.Runs.{begin, steps, plain_run}
-use Rattle.dj_model.specs.Runs.{Run, Ends, Stuck, metered_terms, amounts, turn, turns, metered_run}
+use Rattle.dj_model.specs.Runs.{Run, RunEnds, Stuck, metered_terms, amounts, turn, turns, metered_run}
 use Rattle.dj_names.specs.Types.{sandbox_prefix, in_sandbox}
 use Rattle.dj_edge.specs.declared.host.HostAnswer.{HostAnswer}
 use Rattle.dj_edge.specs.declared.host.HostAnswer.TheVariants as host
 use Rattle.dj_model.specs.trusted.State.{Uncounted, Accounted}
 use Rattle.dj_model.specs.trusted.Runs.{Report}
-use Rattle.dj_model.specs.SmallRuns.{entry_of, op, push, ldc, jump, newarray, class, field, method, invokeinterface, construct, bytes, a_type, entry, code, method_with, verify_with, initialiser_with, plain_constructor, class_with, a_with, field_with, catch_all, catch, costs, at_most, usual, lang_name, throws_plainly}
+use Rattle.dj_model.specs.SmallRuns.{verify_of, op, push, ldc, jump, newarray, class, field, method, invokeinterface, construct, byte_array, a_type, entry, code, method_with, verify_with, initialiser_with, plain_constructor, class_with, a_with, field_with, catch_all, catch, costs, at_most, usual, lang_name, throws_plainly}
 
 -- how the run of A's verify ends, after a hundred turns at most
 abbrev runs : List Class → List ℕ → Run
@@ -57,7 +57,7 @@ abbrev byte_of : List Instruction → List Instruction
 byte_of instructions = op 4 ∷ newarray 8 ∷ op 89 ∷ op 3 ∷ instructions ++ op 84 ∷ op 176 ∷ []
 
 abbrev free : Outcome → Run
-free outcome = Ends outcome (costs 0 0 0 0)
+free outcome = RunEnds outcome (costs 0 0 0 0)
 
 abbrev raised : Name → Run
 raised name = free (throws_plainly name)
@@ -100,31 +100,31 @@ on_family instructions = with_methods [] family instructions
 
 -- a private method is its own selection; invokespecial takes the superclass's; an array has the methods of Object
 selected_methods : on_family (byte_of (class 187 c_type ∷ method 182 c_type (codes "m") ([]) (Some int) ∷ [])) ∷ on_family (byte_of (class 187 d_type ∷ method 182 c_type (codes "m") ([]) (Some int) ∷ [])) ∷ on_family (byte_of (class 187 d_type ∷ method 182 d_type (codes "n") ([]) (Some int) ∷ [])) ∷ on_family (byte_of (class 187 d_type ∷ invokeinterface 1 i_type (codes "m") [] (Some int) ∷ [])) ∷ on_family (byte_of (class 187 d_type ∷ invokeinterface 1 j_type (codes "n") [] (Some int) ∷ [])) ∷ on_family (byte_of (class 187 c_type ∷ invokeinterface 1 i_type (codes "m") [] (Some int) ∷ [])) ∷ on_family (byte_of (class 187 d_type ∷ method 182 c_type (codes "p") ([]) (Some int) ∷ [])) ∷ on_family (byte_of (class 187 d_type ∷ method 182 d_type (codes "p") ([]) (Some int) ∷ [])) ∷ on_family (byte_of (class 187 d_type ∷ method 182 d_type (codes "q") ([]) (Some int) ∷ [])) ∷ on_family (byte_of (class 187 d_type ∷ method 182 d_type (codes "r") ([]) (Some int) ∷ [])) ∷ on_family (byte_of (method 184 d_type (codes "t") ([]) (Some int) ∷ [])) ∷ on_family (byte_of (op 42 ∷ method 182 object (codes "hashCode") ([]) (Some int) ∷ [])) ∷ on_family (byte_of (class 187 c_type ∷ method 183 c_type (codes "m") ([]) (Some int) ∷ [])) ∷ []
-    ≡ Ends (outcomes.OkBytes (5 ∷ [])) (costs 40 1 0 0) ∷ Ends (outcomes.OkBytes (4 ∷ [])) (costs 40 1 0 0) ∷ Ends (outcomes.OkBytes (2 ∷ [])) (costs 40 1 0 0) ∷ Ends (outcomes.OkBytes (4 ∷ [])) (costs 40 1 0 0) ∷ Ends (outcomes.OkBytes (2 ∷ [])) (costs 40 1 0 0) ∷ Ends (outcomes.OkBytes (5 ∷ [])) (costs 40 1 0 0) ∷ Ends (outcomes.OkBytes (1 ∷ [])) (costs 40 1 0 0) ∷ Ends (outcomes.OkBytes (2 ∷ [])) (costs 40 1 0 0) ∷ Ends (outcomes.OkBytes (5 ∷ [])) (costs 40 2 0 0) ∷ Ends (outcomes.OkBytes (4 ∷ [])) (costs 40 2 0 0) ∷ Ends (outcomes.OkBytes (3 ∷ [])) (costs 24 1 0 0) ∷ Ends (outcomes.OkBytes (1 ∷ [])) (costs 24 1 0 0) ∷ Ends (outcomes.OkBytes (5 ∷ [])) (costs 40 1 0 0) ∷ []
+    ≡ RunEnds (outcomes.OkBytes (5 ∷ [])) (costs 40 1 0 0) ∷ RunEnds (outcomes.OkBytes (4 ∷ [])) (costs 40 1 0 0) ∷ RunEnds (outcomes.OkBytes (2 ∷ [])) (costs 40 1 0 0) ∷ RunEnds (outcomes.OkBytes (4 ∷ [])) (costs 40 1 0 0) ∷ RunEnds (outcomes.OkBytes (2 ∷ [])) (costs 40 1 0 0) ∷ RunEnds (outcomes.OkBytes (5 ∷ [])) (costs 40 1 0 0) ∷ RunEnds (outcomes.OkBytes (1 ∷ [])) (costs 40 1 0 0) ∷ RunEnds (outcomes.OkBytes (2 ∷ [])) (costs 40 1 0 0) ∷ RunEnds (outcomes.OkBytes (5 ∷ [])) (costs 40 2 0 0) ∷ RunEnds (outcomes.OkBytes (4 ∷ [])) (costs 40 2 0 0) ∷ RunEnds (outcomes.OkBytes (3 ∷ [])) (costs 24 1 0 0) ∷ RunEnds (outcomes.OkBytes (1 ∷ [])) (costs 24 1 0 0) ∷ RunEnds (outcomes.OkBytes (5 ∷ [])) (costs 40 1 0 0) ∷ []
 unfolding int_wrap digits instruction_of simple code_of has_initialiser most_classes chain_of interfaces_from interfaces_above is_subclass is_subtype field_order resolve_method resolve_field select special_method field_count place_of static_place metered_program raw_program sandbox_program compute convert moved on_values load_element store_element array_length make_array charge_one charge_all answer host_answer perform native with_literal invoke effect pays used_class is_initialised mark with_constants constants_of initialise unwound settle step begin amounts turn turns metered_run steps plain_run
 selected_methods = refl
 
 -- a private method of the receiver's class hides nothing of the class above it
 hidden_methods : on_family (byte_of (class 187 d_type ∷ method 182 c_type (codes "w") ([]) (Some int) ∷ [])) ∷ on_family (byte_of (class 187 d_type ∷ method 182 d_type (codes "w") ([]) (Some int) ∷ [])) ∷ []
-    ≡ Ends (outcomes.OkBytes (5 ∷ [])) (costs 40 1 0 0) ∷ Ends (outcomes.OkBytes (2 ∷ [])) (costs 40 1 0 0) ∷ []
+    ≡ RunEnds (outcomes.OkBytes (5 ∷ [])) (costs 40 1 0 0) ∷ RunEnds (outcomes.OkBytes (2 ∷ [])) (costs 40 1 0 0) ∷ []
 unfolding int_wrap digits instruction_of simple code_of has_initialiser most_classes chain_of interfaces_from interfaces_above is_subclass is_subtype field_order resolve_method resolve_field select special_method field_count place_of static_place metered_program raw_program sandbox_program compute convert moved on_values load_element store_element array_length make_array charge_one charge_all answer host_answer perform native with_literal invoke effect pays used_class is_initialised mark with_constants constants_of initialise unwound settle step begin amounts turn turns metered_run steps plain_run
 hidden_methods = refl
 
 -- selection finds no code, or what is called is abstract
 no_code : on_family (class 187 e_type ∷ invokeinterface 1 i_type (codes "m") [] (Some int) ∷ op 87 ∷ op 42 ∷ op 176 ∷ []) ∷ on_family (class 187 e_type ∷ method 182 e_type (codes "a") ([]) (Some int) ∷ op 87 ∷ op 42 ∷ op 176 ∷ []) ∷ on_family (class 187 e_type ∷ method 183 e_type (codes "a") ([]) (Some int) ∷ op 87 ∷ op 42 ∷ op 176 ∷ []) ∷ on_family (method 184 e_type (codes "b") ([]) (Some int) ∷ op 87 ∷ op 42 ∷ op 176 ∷ []) ∷ []
-    ≡ Ends outcomes.Link (costs 16 1 0 0) ∷ Ends outcomes.Link (costs 16 1 0 0) ∷ Ends outcomes.Link (costs 16 1 0 0) ∷ Ends outcomes.Link (costs 0 1 0 0) ∷ []
+    ≡ RunEnds outcomes.Link (costs 16 1 0 0) ∷ RunEnds outcomes.Link (costs 16 1 0 0) ∷ RunEnds outcomes.Link (costs 16 1 0 0) ∷ RunEnds outcomes.Link (costs 0 1 0 0) ∷ []
 unfolding int_wrap digits instruction_of simple code_of has_initialiser most_classes chain_of interfaces_from interfaces_above is_subclass is_subtype field_order resolve_method resolve_field select special_method field_count place_of static_place metered_program raw_program sandbox_program compute convert moved on_values load_element store_element array_length make_array charge_one charge_all answer host_answer perform native with_literal invoke effect pays used_class is_initialised mark with_constants constants_of initialise unwound settle step begin amounts turn turns metered_run steps plain_run
 no_code = refl
 
 -- a receiver of another class, and an argument of a native method of another class
 wrong_receivers : on_family (class 187 object ∷ method 182 c_type (codes "m") ([]) (Some int) ∷ op 87 ∷ op 42 ∷ op 176 ∷ []) ∷ on_family (class 187 c_type ∷ method 182 d_type (codes "m") ([]) (Some int) ∷ op 87 ∷ op 42 ∷ op 176 ∷ []) ∷ on_family (class 187 object ∷ invokeinterface 1 i_type (codes "m") [] (Some int) ∷ op 87 ∷ op 42 ∷ op 176 ∷ []) ∷ on_family (class 187 object ∷ construct c_type [] ∷ op 42 ∷ op 176 ∷ []) ∷ on_family (class 187 object ∷ method 183 c_type (codes "m") ([]) (Some int) ∷ op 87 ∷ op 42 ∷ op 176 ∷ []) ∷ on_family (ldc (AText (codes "ab")) ∷ op 42 ∷ method 182 string (codes "concat") (string ∷ []) (Some string) ∷ op 87 ∷ op 42 ∷ op 176 ∷ []) ∷ on_family (ldc (AText (codes "ab")) ∷ op 1 ∷ method 182 string (codes "concat") (string ∷ []) (Some string) ∷ op 87 ∷ op 42 ∷ op 176 ∷ []) ∷ []
-    ≡ Ends outcomes.Link (costs 16 1 0 0) ∷ Ends outcomes.Link (costs 16 1 0 0) ∷ Ends outcomes.Link (costs 16 1 0 0) ∷ Ends outcomes.Link (costs 16 1 0 0) ∷ Ends outcomes.Link (costs 16 1 0 0) ∷ Ends outcomes.Link (costs 0 1 0 0) ∷ Ends (throws_plainly null_pointer) (costs 0 1 0 0) ∷ []
+    ≡ RunEnds outcomes.Link (costs 16 1 0 0) ∷ RunEnds outcomes.Link (costs 16 1 0 0) ∷ RunEnds outcomes.Link (costs 16 1 0 0) ∷ RunEnds outcomes.Link (costs 16 1 0 0) ∷ RunEnds outcomes.Link (costs 16 1 0 0) ∷ RunEnds outcomes.Link (costs 0 1 0 0) ∷ RunEnds (throws_plainly null_pointer) (costs 0 1 0 0) ∷ []
 unfolding int_wrap digits instruction_of simple code_of has_initialiser most_classes chain_of interfaces_from interfaces_above is_subclass is_subtype field_order resolve_method resolve_field select special_method field_count place_of static_place metered_program raw_program sandbox_program compute convert moved on_values load_element store_element array_length make_array charge_one charge_all answer host_answer perform native with_literal invoke effect pays used_class is_initialised mark with_constants constants_of initialise unwound settle step begin amounts turn turns metered_run steps plain_run
 wrong_receivers = refl
 
 -- a long takes two slots; what stands below the arguments stays
-arguments : with_methods (method_with 9 (codes "f") (long ∷ int ∷ object ∷ []) (Some int) (code (op 28 ∷ op 172 ∷ []) []) ∷ []) [] (byte_of (op 10 ∷ op 7 ∷ op 42 ∷ method 184 a_type (codes "f") (long ∷ int ∷ object ∷ []) (Some int) ∷ [])) ∷ with_methods (method_with 9 (codes "f") (long ∷ int ∷ object ∷ []) (Some int) (code (op 30 ∷ op 136 ∷ op 172 ∷ []) []) ∷ []) [] (byte_of (op 10 ∷ op 7 ∷ op 42 ∷ method 184 a_type (codes "f") (long ∷ int ∷ object ∷ []) (Some int) ∷ [])) ∷ with_methods (method_with 9 (codes "f") (int ∷ long ∷ []) (Some bytes) (code (op 31 ∷ op 136 ∷ newarray 8 ∷ op 176 ∷ []) []) ∷ []) [] (op 7 ∷ op 10 ∷ method 184 a_type (codes "f") (int ∷ long ∷ []) (Some bytes) ∷ op 176 ∷ []) ∷ with_methods (method_with 9 (codes "f") (int ∷ []) None (code (op 177 ∷ []) []) ∷ []) [] (op 42 ∷ op 7 ∷ method 184 a_type (codes "f") (int ∷ []) None ∷ op 176 ∷ []) ∷ []
-    ≡ Ends (outcomes.OkBytes (4 ∷ [])) (costs 24 1 0 0) ∷ Ends (outcomes.OkBytes (1 ∷ [])) (costs 24 1 0 0) ∷ Ends (outcomes.OkBytes (0 ∷ [])) (costs 24 1 0 0) ∷ Ends (outcomes.OkBytes (1 ∷ 2 ∷ [])) (costs 0 1 0 0) ∷ []
+arguments : with_methods (method_with 9 (codes "f") (long ∷ int ∷ object ∷ []) (Some int) (code (op 28 ∷ op 172 ∷ []) []) ∷ []) [] (byte_of (op 10 ∷ op 7 ∷ op 42 ∷ method 184 a_type (codes "f") (long ∷ int ∷ object ∷ []) (Some int) ∷ [])) ∷ with_methods (method_with 9 (codes "f") (long ∷ int ∷ object ∷ []) (Some int) (code (op 30 ∷ op 136 ∷ op 172 ∷ []) []) ∷ []) [] (byte_of (op 10 ∷ op 7 ∷ op 42 ∷ method 184 a_type (codes "f") (long ∷ int ∷ object ∷ []) (Some int) ∷ [])) ∷ with_methods (method_with 9 (codes "f") (int ∷ long ∷ []) (Some byte_array) (code (op 31 ∷ op 136 ∷ newarray 8 ∷ op 176 ∷ []) []) ∷ []) [] (op 7 ∷ op 10 ∷ method 184 a_type (codes "f") (int ∷ long ∷ []) (Some byte_array) ∷ op 176 ∷ []) ∷ with_methods (method_with 9 (codes "f") (int ∷ []) None (code (op 177 ∷ []) []) ∷ []) [] (op 42 ∷ op 7 ∷ method 184 a_type (codes "f") (int ∷ []) None ∷ op 176 ∷ []) ∷ []
+    ≡ RunEnds (outcomes.OkBytes (4 ∷ [])) (costs 24 1 0 0) ∷ RunEnds (outcomes.OkBytes (1 ∷ [])) (costs 24 1 0 0) ∷ RunEnds (outcomes.OkBytes (0 ∷ [])) (costs 24 1 0 0) ∷ RunEnds (outcomes.OkBytes (1 ∷ 2 ∷ [])) (costs 0 1 0 0) ∷ []
 unfolding int_wrap digits instruction_of simple code_of has_initialiser most_classes chain_of interfaces_from interfaces_above is_subclass is_subtype field_order resolve_method resolve_field select special_method field_count place_of static_place metered_program raw_program sandbox_program compute convert moved on_values load_element store_element array_length make_array charge_one charge_all answer host_answer perform native with_literal invoke effect pays used_class is_initialised mark with_constants constants_of initialise unwound settle step begin amounts turn turns metered_run steps plain_run
 arguments = refl
 
@@ -147,23 +147,23 @@ init_of name = outcomes.Init name (lang_name null_pointer) messages.Null
 
 -- the highest superclass first; a static member uses the class that declares it; an array uses none; an initialiser runs once
 initialised : with_methods [] (statics_of (op 8 ∷ field 179 b_type (codes "y") int ∷ op 177 ∷ []) (op 7 ∷ field 179 b_type (codes "y") int ∷ op 177 ∷ [])) (byte_of (class 187 c_type ∷ op 87 ∷ field 178 b_type (codes "y") int ∷ [])) ∷ with_methods [] (statics_of (op 8 ∷ field 179 b_type (codes "y") int ∷ op 177 ∷ []) (op 7 ∷ field 179 b_type (codes "y") int ∷ op 177 ∷ [])) (byte_of (field 178 c_type (codes "y") int ∷ [])) ∷ with_methods [] (statics_of (op 8 ∷ field 179 b_type (codes "y") int ∷ op 177 ∷ []) (op 7 ∷ field 179 b_type (codes "y") int ∷ op 177 ∷ [])) (byte_of (field 178 c_type (codes "z") int ∷ op 87 ∷ field 178 b_type (codes "y") int ∷ [])) ∷ with_methods [] (statics_of (op 8 ∷ field 179 b_type (codes "y") int ∷ op 177 ∷ []) (op 7 ∷ field 179 b_type (codes "y") int ∷ op 177 ∷ [])) (byte_of (method 184 c_type (codes "g") ([]) (Some int) ∷ [])) ∷ with_methods [] (statics_of (op 8 ∷ field 179 b_type (codes "y") int ∷ op 177 ∷ []) (op 7 ∷ field 179 b_type (codes "y") int ∷ op 177 ∷ [])) (byte_of (op 3 ∷ field 179 b_type (codes "y") int ∷ field 178 b_type (codes "y") int ∷ [])) ∷ with_methods [] (statics_of (op 8 ∷ field 179 b_type (codes "y") int ∷ op 177 ∷ []) (op 7 ∷ field 179 b_type (codes "y") int ∷ op 177 ∷ [])) (byte_of (op 3 ∷ class 189 c_type ∷ op 87 ∷ field 178 b_type (codes "y") int ∷ [])) ∷ with_methods [] (statics_of (op 177 ∷ []) (op 177 ∷ [])) (byte_of (field 178 b_type (codes "x") int ∷ [])) ∷ with_methods [] (statics_of (field 178 b_type (codes "y") int ∷ op 4 ∷ op 96 ∷ field 179 b_type (codes "y") int ∷ op 177 ∷ []) (op 177 ∷ [])) (byte_of (field 178 b_type (codes "y") int ∷ field 178 b_type (codes "y") int ∷ op 96 ∷ [])) ∷ with_methods [] (statics_of (op 8 ∷ field 179 b_type (codes "y") int ∷ op 177 ∷ []) (op 1 ∷ op 191 ∷ [])) (byte_of (field 178 b_type (codes "y") int ∷ [])) ∷ []
-    ≡ Ends (outcomes.OkBytes (4 ∷ [])) (costs 40 0 0 0) ∷ Ends (outcomes.OkBytes (5 ∷ [])) (costs 24 0 0 0) ∷ Ends (outcomes.OkBytes (4 ∷ [])) (costs 24 0 0 0) ∷ Ends (outcomes.OkBytes (5 ∷ [])) (costs 24 1 0 0) ∷ Ends (outcomes.OkBytes (0 ∷ [])) (costs 24 0 0 0) ∷ Ends (outcomes.OkBytes (5 ∷ [])) (costs 40 0 0 0) ∷ Ends (outcomes.OkBytes (7 ∷ [])) (costs 24 0 0 0) ∷ Ends (outcomes.OkBytes (2 ∷ [])) (costs 24 0 0 0) ∷ Ends (outcomes.OkBytes (5 ∷ [])) (costs 24 0 0 0) ∷ []
+    ≡ RunEnds (outcomes.OkBytes (4 ∷ [])) (costs 40 0 0 0) ∷ RunEnds (outcomes.OkBytes (5 ∷ [])) (costs 24 0 0 0) ∷ RunEnds (outcomes.OkBytes (4 ∷ [])) (costs 24 0 0 0) ∷ RunEnds (outcomes.OkBytes (5 ∷ [])) (costs 24 1 0 0) ∷ RunEnds (outcomes.OkBytes (0 ∷ [])) (costs 24 0 0 0) ∷ RunEnds (outcomes.OkBytes (5 ∷ [])) (costs 40 0 0 0) ∷ RunEnds (outcomes.OkBytes (7 ∷ [])) (costs 24 0 0 0) ∷ RunEnds (outcomes.OkBytes (2 ∷ [])) (costs 24 0 0 0) ∷ RunEnds (outcomes.OkBytes (5 ∷ [])) (costs 24 0 0 0) ∷ []
 unfolding int_wrap digits instruction_of simple code_of has_initialiser most_classes chain_of interfaces_from interfaces_above is_subclass is_subtype field_order resolve_method resolve_field select special_method field_count place_of static_place metered_program raw_program sandbox_program compute convert moved on_values load_element store_element array_length make_array charge_one charge_all answer host_answer perform native with_literal invoke effect pays used_class is_initialised mark with_constants constants_of initialise unwound settle step begin amounts turn turns metered_run steps plain_run
 initialised = refl
 
 failing_initialisers : with_methods [] (statics_of (op 1 ∷ op 191 ∷ []) (op 7 ∷ field 179 b_type (codes "y") int ∷ op 177 ∷ [])) (byte_of (class 187 c_type ∷ op 87 ∷ op 3 ∷ [])) ∷ with_methods [] (statics_of (op 8 ∷ field 179 b_type (codes "y") int ∷ op 177 ∷ []) (op 1 ∷ op 191 ∷ [])) (byte_of (class 187 c_type ∷ op 87 ∷ op 3 ∷ [])) ∷ with_methods [] (statics_of (op 1 ∷ op 190 ∷ op 87 ∷ op 177 ∷ []) (op 177 ∷ [])) (byte_of (field 178 b_type (codes "y") int ∷ [])) ∷ []
-    ≡ Ends (init_of (codes "B")) (costs 40 0 0 1) ∷ Ends (init_of (codes "C")) (costs 40 0 0 1) ∷ Ends (init_of (codes "B")) (costs 24 0 0 0) ∷ []
+    ≡ RunEnds (init_of (codes "B")) (costs 40 0 0 1) ∷ RunEnds (init_of (codes "C")) (costs 40 0 0 1) ∷ RunEnds (init_of (codes "B")) (costs 24 0 0 0) ∷ []
 unfolding int_wrap digits instruction_of simple code_of has_initialiser most_classes chain_of interfaces_from interfaces_above is_subclass is_subtype field_order resolve_method resolve_field select special_method field_count place_of static_place metered_program raw_program sandbox_program compute convert moved on_values load_element store_element array_length make_array charge_one charge_all answer host_answer perform native with_literal invoke effect pays used_class is_initialised mark with_constants constants_of initialise unwound settle step begin amounts turn turns metered_run steps plain_run
 failing_initialisers = refl
 
 -- an initialiser is static, has no parameters and has code
 not_initialisers : with_methods (method_with 8 (codes "<clinit>") (int ∷ []) None (code (op 1 ∷ op 191 ∷ []) []) ∷ []) [] (op 42 ∷ op 176 ∷ []) ∷ with_methods (method_with 0 (codes "<clinit>") [] None (code (op 1 ∷ op 191 ∷ []) []) ∷ []) [] (op 42 ∷ op 176 ∷ []) ∷ with_methods (method_with 1032 (codes "<clinit>") [] None Abstract ∷ []) [] (op 42 ∷ op 176 ∷ []) ∷ with_methods (method_with 8 (codes "clinit") [] None (code (op 1 ∷ op 191 ∷ []) []) ∷ []) [] (op 42 ∷ op 176 ∷ []) ∷ with_methods (initialiser_with (op 1 ∷ op 191 ∷ []) ∷ []) [] (op 42 ∷ op 176 ∷ []) ∷ []
-    ≡ free (outcomes.OkBytes (1 ∷ 2 ∷ [])) ∷ free (outcomes.OkBytes (1 ∷ 2 ∷ [])) ∷ free (outcomes.OkBytes (1 ∷ 2 ∷ [])) ∷ free (outcomes.OkBytes (1 ∷ 2 ∷ [])) ∷ Ends (init_of (codes "A")) (costs 0 0 0 1) ∷ []
+    ≡ free (outcomes.OkBytes (1 ∷ 2 ∷ [])) ∷ free (outcomes.OkBytes (1 ∷ 2 ∷ [])) ∷ free (outcomes.OkBytes (1 ∷ 2 ∷ [])) ∷ free (outcomes.OkBytes (1 ∷ 2 ∷ [])) ∷ RunEnds (init_of (codes "A")) (costs 0 0 0 1) ∷ []
 unfolding int_wrap digits instruction_of simple code_of has_initialiser most_classes chain_of interfaces_from interfaces_above is_subclass is_subtype field_order resolve_method resolve_field select special_method field_count place_of static_place metered_program raw_program sandbox_program compute convert moved on_values load_element store_element array_length make_array charge_one charge_all answer host_answer perform native with_literal invoke effect pays used_class is_initialised mark with_constants constants_of initialise unwound settle step begin amounts turn turns metered_run steps plain_run
 not_initialisers = refl
 
 handler_in_initialiser : with_methods (method_with 8 (codes "<clinit>") [] None (code (op 1 ∷ op 190 ∷ op 87 ∷ op 177 ∷ op 87 ∷ op 177 ∷ []) (catch_all 0 2 4 ∷ [])) ∷ []) [] (op 42 ∷ op 176 ∷ []) ∷ []
-    ≡ Ends (outcomes.OkBytes (1 ∷ 2 ∷ [])) (costs 0 0 0 1) ∷ []
+    ≡ RunEnds (outcomes.OkBytes (1 ∷ 2 ∷ [])) (costs 0 0 0 1) ∷ []
 unfolding int_wrap digits instruction_of simple code_of has_initialiser most_classes chain_of interfaces_from interfaces_above is_subclass is_subtype field_order resolve_method resolve_field select special_method field_count place_of static_place metered_program raw_program sandbox_program compute convert moved on_values load_element store_element array_length make_array charge_one charge_all answer host_answer perform native with_literal invoke effect pays used_class is_initialised mark with_constants constants_of initialise unwound settle step begin amounts turn turns metered_run steps plain_run
 handler_in_initialiser = refl
 
@@ -180,19 +180,19 @@ on_constants instructions = with_methods [] (constants_class ∷ []) instruction
 
 -- one object for each text; two texts of one length are two; a float has a place and no value
 constants : on_constants (byte_of (field 178 k_type (codes "i") int ∷ [])) ∷ on_constants (byte_of (field 178 k_type (codes "j") long ∷ op 136 ∷ [])) ∷ on_constants (byte_of (field 178 k_type (codes "last") int ∷ [])) ∷ on_constants (byte_of (field 178 k_type (codes "w") int ∷ [])) ∷ on_constants (field 178 k_type (codes "f") (record { dims = 0; of = ofs.Base bases.Float }) ∷ op 42 ∷ op 176 ∷ []) ∷ on_constants (byte_of (field 178 k_type (codes "s") string ∷ field 178 k_type (codes "t") string ∷ jump 165 9 ∷ op 3 ∷ jump 167 10 ∷ op 4 ∷ [])) ∷ on_constants (byte_of (field 178 k_type (codes "s") string ∷ field 178 k_type (codes "u") string ∷ jump 165 9 ∷ op 3 ∷ jump 167 10 ∷ op 4 ∷ [])) ∷ on_constants (byte_of (field 178 k_type (codes "s") string ∷ ldc (AText (codes "ab")) ∷ jump 165 9 ∷ op 3 ∷ jump 167 10 ∷ op 4 ∷ [])) ∷ on_constants (byte_of (ldc (AText (codes "xy")) ∷ ldc (AText (codes "xz")) ∷ jump 165 9 ∷ op 3 ∷ jump 167 10 ∷ op 4 ∷ [])) ∷ on_constants (byte_of (ldc (AText (codes "xy")) ∷ ldc (AText (codes "xy")) ∷ jump 165 9 ∷ op 3 ∷ jump 167 10 ∷ op 4 ∷ [])) ∷ []
-    ≡ Ends (outcomes.OkBytes (251 ∷ [])) (costs 24 0 0 0) ∷ Ends (outcomes.OkBytes (9 ∷ [])) (costs 24 0 0 0) ∷ Ends (outcomes.OkBytes (6 ∷ [])) (costs 24 0 0 0) ∷ Ends (outcomes.OkBytes (0 ∷ [])) (costs 24 0 0 0) ∷ Stuck ∷ Ends (outcomes.OkBytes (1 ∷ [])) (costs 24 0 1 0) ∷ Ends (outcomes.OkBytes (0 ∷ [])) (costs 24 0 2 0) ∷ Ends (outcomes.OkBytes (1 ∷ [])) (costs 24 0 1 0) ∷ Ends (outcomes.OkBytes (0 ∷ [])) (costs 24 0 2 0) ∷ Ends (outcomes.OkBytes (1 ∷ [])) (costs 24 0 1 0) ∷ []
+    ≡ RunEnds (outcomes.OkBytes (251 ∷ [])) (costs 24 0 0 0) ∷ RunEnds (outcomes.OkBytes (9 ∷ [])) (costs 24 0 0 0) ∷ RunEnds (outcomes.OkBytes (6 ∷ [])) (costs 24 0 0 0) ∷ RunEnds (outcomes.OkBytes (0 ∷ [])) (costs 24 0 0 0) ∷ Stuck ∷ RunEnds (outcomes.OkBytes (1 ∷ [])) (costs 24 0 1 0) ∷ RunEnds (outcomes.OkBytes (0 ∷ [])) (costs 24 0 2 0) ∷ RunEnds (outcomes.OkBytes (1 ∷ [])) (costs 24 0 1 0) ∷ RunEnds (outcomes.OkBytes (0 ∷ [])) (costs 24 0 2 0) ∷ RunEnds (outcomes.OkBytes (1 ∷ [])) (costs 24 0 1 0) ∷ []
 unfolding int_wrap digits instruction_of simple code_of has_initialiser most_classes chain_of interfaces_from interfaces_above is_subclass is_subtype field_order resolve_method resolve_field select special_method field_count place_of static_place metered_program raw_program sandbox_program compute convert moved on_values load_element store_element array_length make_array charge_one charge_all answer host_answer perform native with_literal invoke effect pays used_class is_initialised mark with_constants constants_of initialise unwound settle step begin amounts turn turns metered_run steps plain_run
 constants = refl
 
 -- by place, by class and in order; the stack is the exception alone; each arrival pays
 caught : runs (a_with (verify_with (op 1 ∷ op 190 ∷ op 87 ∷ op 42 ∷ op 176 ∷ op 87 ∷ op 1 ∷ op 176 ∷ []) (catch_all 1 2 5 ∷ []) ∷ []) ∷ []) (1 ∷ 2 ∷ []) ∷ runs (a_with (verify_with (op 1 ∷ op 190 ∷ op 87 ∷ op 42 ∷ op 176 ∷ op 87 ∷ op 1 ∷ op 176 ∷ []) (catch_all 0 1 5 ∷ []) ∷ []) ∷ []) (1 ∷ 2 ∷ []) ∷ runs (a_with (verify_with (op 1 ∷ op 190 ∷ op 87 ∷ op 42 ∷ op 176 ∷ op 87 ∷ op 1 ∷ op 176 ∷ []) (catch_all 2 5 5 ∷ []) ∷ []) ∷ []) (1 ∷ 2 ∷ []) ∷ runs (a_with (verify_with (op 1 ∷ op 190 ∷ op 87 ∷ op 42 ∷ op 176 ∷ op 87 ∷ op 1 ∷ op 176 ∷ []) (catch_all 0 2 5 ∷ []) ∷ []) ∷ []) (1 ∷ 2 ∷ []) ∷ runs (a_with (verify_with (op 1 ∷ op 190 ∷ op 87 ∷ op 42 ∷ op 176 ∷ op 87 ∷ op 1 ∷ op 176 ∷ []) (catch (lang_name null_pointer) 1 2 5 ∷ []) ∷ []) ∷ []) (1 ∷ 2 ∷ []) ∷ runs (a_with (verify_with (op 1 ∷ op 190 ∷ op 87 ∷ op 42 ∷ op 176 ∷ op 87 ∷ op 1 ∷ op 176 ∷ []) (catch (lang_name (codes "RuntimeException")) 1 2 5 ∷ []) ∷ []) ∷ []) (1 ∷ 2 ∷ []) ∷ runs (a_with (verify_with (op 1 ∷ op 190 ∷ op 87 ∷ op 42 ∷ op 176 ∷ op 87 ∷ op 1 ∷ op 176 ∷ []) (catch (lang_name (codes "Object")) 1 2 5 ∷ []) ∷ []) ∷ []) (1 ∷ 2 ∷ []) ∷ runs (a_with (verify_with (op 1 ∷ op 190 ∷ op 87 ∷ op 42 ∷ op 176 ∷ op 87 ∷ op 1 ∷ op 176 ∷ []) (catch (codes "java/io/Serializable") 1 2 5 ∷ []) ∷ []) ∷ []) (1 ∷ 2 ∷ []) ∷ runs (a_with (verify_with (op 1 ∷ op 190 ∷ op 87 ∷ op 42 ∷ op 176 ∷ op 87 ∷ op 1 ∷ op 176 ∷ []) (catch (lang_name (codes "Error")) 1 2 5 ∷ []) ∷ []) ∷ []) (1 ∷ 2 ∷ []) ∷ runs (a_with (verify_with (op 1 ∷ op 190 ∷ op 87 ∷ op 42 ∷ op 176 ∷ op 87 ∷ op 1 ∷ op 176 ∷ []) (catch (lang_name (codes "ArithmeticException")) 1 2 5 ∷ catch_all 1 2 5 ∷ []) ∷ []) ∷ []) (1 ∷ 2 ∷ []) ∷ runs (a_with (verify_with (op 1 ∷ op 190 ∷ op 87 ∷ op 42 ∷ op 176 ∷ op 87 ∷ op 1 ∷ op 176 ∷ []) (record (catch_all 1 2 5) { catches = Some (AText (codes "a")) } ∷ []) ∷ []) ∷ []) (1 ∷ 2 ∷ []) ∷ runs (a_with (verify_with (op 1 ∷ op 190 ∷ op 87 ∷ op 42 ∷ op 176 ∷ op 87 ∷ op 1 ∷ op 176 ∷ []) (catch_all 1 2 2 ∷ catch_all 1 2 5 ∷ []) ∷ []) ∷ []) (1 ∷ 2 ∷ []) ∷ runs (a_with (verify_with (op 3 ∷ op 1 ∷ op 190 ∷ op 87 ∷ op 87 ∷ op 42 ∷ op 176 ∷ []) (catch_all 1 3 3 ∷ []) ∷ []) ∷ []) (1 ∷ 2 ∷ []) ∷ runs (a_with (verify_with (op 0 ∷ op 0 ∷ op 42 ∷ op 176 ∷ []) (catch_all 0 1 1 ∷ []) ∷ []) ∷ []) (1 ∷ 2 ∷ []) ∷ runs (a_with (verify_with (jump 167 2 ∷ op 0 ∷ op 42 ∷ op 176 ∷ []) (catch_all 0 1 2 ∷ []) ∷ []) ∷ []) (1 ∷ 2 ∷ []) ∷ []
-    ≡ Ends outcomes.OkNull (costs 0 0 0 1) ∷ raised null_pointer ∷ raised null_pointer ∷ Ends outcomes.OkNull (costs 0 0 0 1) ∷ Ends outcomes.OkNull (costs 0 0 0 1) ∷ Ends outcomes.OkNull (costs 0 0 0 1) ∷ Ends outcomes.OkNull (costs 0 0 0 1) ∷ Ends outcomes.OkNull (costs 0 0 0 1) ∷ raised null_pointer ∷ Ends outcomes.OkNull (costs 0 0 0 1) ∷ raised null_pointer ∷ Ends (outcomes.OkBytes (1 ∷ 2 ∷ [])) (costs 0 0 0 1) ∷ Stuck ∷ Ends (outcomes.OkBytes (1 ∷ 2 ∷ [])) (costs 0 0 0 1) ∷ Ends (outcomes.OkBytes (1 ∷ 2 ∷ [])) (costs 0 0 1 1) ∷ []
+    ≡ RunEnds outcomes.OkNull (costs 0 0 0 1) ∷ raised null_pointer ∷ raised null_pointer ∷ RunEnds outcomes.OkNull (costs 0 0 0 1) ∷ RunEnds outcomes.OkNull (costs 0 0 0 1) ∷ RunEnds outcomes.OkNull (costs 0 0 0 1) ∷ RunEnds outcomes.OkNull (costs 0 0 0 1) ∷ RunEnds outcomes.OkNull (costs 0 0 0 1) ∷ raised null_pointer ∷ RunEnds outcomes.OkNull (costs 0 0 0 1) ∷ raised null_pointer ∷ RunEnds (outcomes.OkBytes (1 ∷ 2 ∷ [])) (costs 0 0 0 1) ∷ Stuck ∷ RunEnds (outcomes.OkBytes (1 ∷ 2 ∷ [])) (costs 0 0 0 1) ∷ RunEnds (outcomes.OkBytes (1 ∷ 2 ∷ [])) (costs 0 0 1 1) ∷ []
 unfolding int_wrap digits instruction_of simple code_of has_initialiser most_classes chain_of interfaces_from interfaces_above is_subclass is_subtype field_order resolve_method resolve_field select special_method field_count place_of static_place metered_program raw_program sandbox_program compute convert moved on_values load_element store_element array_length make_array charge_one charge_all answer host_answer perform native with_literal invoke effect pays used_class is_initialised mark with_constants constants_of initialise unwound settle step begin amounts turn turns metered_run steps plain_run
 caught = refl
 
 -- at the invoke of the caller
 caught_below : runs (a_with (method_with 9 (codes "f") ([]) None (code (op 3 ∷ op 1 ∷ op 190 ∷ op 177 ∷ []) []) ∷ verify_with (op 8 ∷ method 184 a_type (codes "f") ([]) None ∷ op 42 ∷ op 176 ∷ op 87 ∷ op 1 ∷ op 176 ∷ []) (catch_all 1 2 4 ∷ []) ∷ []) ∷ []) [] ∷ runs (a_with (method_with 9 (codes "f") ([]) None (code (op 1 ∷ op 190 ∷ op 177 ∷ []) []) ∷ verify_with (op 8 ∷ method 184 a_type (codes "f") ([]) None ∷ op 42 ∷ op 176 ∷ op 87 ∷ op 1 ∷ op 176 ∷ []) (catch_all 2 3 4 ∷ []) ∷ []) ∷ []) [] ∷ []
-    ≡ Ends outcomes.OkNull (costs 0 1 0 1) ∷ Ends (throws_plainly null_pointer) (costs 0 1 0 0) ∷ []
+    ≡ RunEnds outcomes.OkNull (costs 0 1 0 1) ∷ RunEnds (throws_plainly null_pointer) (costs 0 1 0 0) ∷ []
 unfolding int_wrap digits instruction_of simple code_of has_initialiser most_classes chain_of interfaces_from interfaces_above is_subclass is_subtype field_order resolve_method resolve_field select special_method field_count place_of static_place metered_program raw_program sandbox_program compute convert moved on_values load_element store_element array_length make_array charge_one charge_all answer host_answer perform native with_literal invoke effect pays used_class is_initialised mark with_constants constants_of initialise unwound settle step begin amounts turn turns metered_run steps plain_run
 caught_below = refl
 
@@ -235,7 +235,7 @@ sandboxed c = record c { superclass = Some (in_sandbox (lang_name (codes "Object
 -- rewritten code under these thresholds and this limit
 abbrev accounted : Thresholds → Option ℕ → List Method → Option Report
 accounted most limit methods =
-    plain_run (sandbox_program (sandboxed (class_with (in_sandbox (codes "A")) [] methods) ∷ [])) sandbox_prefix (record { limit = limit; counting = Accounted most }) (entry_of (in_sandbox (codes "A"))) (1 ∷ 2 ∷ []) [] 100
+    plain_run (sandbox_program (sandboxed (class_with (in_sandbox (codes "A")) [] methods) ∷ [])) sandbox_prefix (record { limit = limit; counting = Accounted most }) (verify_of (in_sandbox (codes "A"))) (1 ∷ 2 ∷ []) [] 100
 
 abbrev counted : Outcome → Costs → ℕ → Option Report
 counted outcome charged n = Some (record { outcome = outcome; costs = charged; steps = n; taken = 0 })
@@ -260,7 +260,7 @@ abbrev bounded : Thresholds → Run
 bounded most = metered_run (metered_program (a_with (verify_with (op 1 ∷ op 190 ∷ jump 167 3 ∷ op 42 ∷ op 176 ∷ []) (catch_all 0 2 2 ∷ []) ∷ []) ∷ [])) entry (1 ∷ []) most 100
 
 first_charge : bounded (at_most 9 9 1 1) ∷ bounded (at_most 9 9 0 1) ∷ bounded (at_most 9 9 1 0) ∷ bounded (at_most 9 9 0 0) ∷ []
-    ≡ Ends (outcomes.OkBytes (1 ∷ [])) (costs 0 0 1 1) ∷ Ends (outcomes.Stopped charges.Jump) (costs 0 0 1 1) ∷ Ends (outcomes.Stopped charges.Throw) (costs 0 0 0 1) ∷ Ends (outcomes.Stopped charges.Throw) (costs 0 0 0 1) ∷ []
+    ≡ RunEnds (outcomes.OkBytes (1 ∷ [])) (costs 0 0 1 1) ∷ RunEnds (outcomes.Stopped charges.Jump) (costs 0 0 1 1) ∷ RunEnds (outcomes.Stopped charges.Throw) (costs 0 0 0 1) ∷ RunEnds (outcomes.Stopped charges.Throw) (costs 0 0 0 1) ∷ []
 unfolding int_wrap digits instruction_of simple code_of has_initialiser most_classes chain_of interfaces_from interfaces_above is_subclass is_subtype field_order resolve_method resolve_field select special_method field_count place_of static_place metered_program raw_program sandbox_program compute convert moved on_values load_element store_element array_length make_array charge_one charge_all answer host_answer perform native with_literal invoke effect pays used_class is_initialised mark with_constants constants_of initialise unwound settle step begin amounts turn turns metered_run steps plain_run
 first_charge = refl
 
@@ -275,7 +275,7 @@ far_family = class_with (codes "C") [] (plain_constructor ∷ method_with 1 (cod
     ∷ record (class_with (codes "E") [] (method_with 9 (codes "s") (object ∷ []) (Some int) (code (op 42 ∷ method 183 c_type (codes "m") [] (Some int) ∷ op 172 ∷ []) []) ∷ [])) { superclass = Some (codes "D") } ∷ []
 
 special_receivers : with_methods [] far_family (byte_of (class 187 c_type ∷ method 184 e_type (codes "s") (object ∷ []) (Some int) ∷ [])) ∷ with_methods [] far_family (byte_of (class 187 d_type ∷ method 184 e_type (codes "s") (object ∷ []) (Some int) ∷ [])) ∷ []
-    ≡ Ends outcomes.Link (costs 40 2 0 0) ∷ Ends (outcomes.OkBytes (4 ∷ [])) (costs 40 2 0 0) ∷ []
+    ≡ RunEnds outcomes.Link (costs 40 2 0 0) ∷ RunEnds (outcomes.OkBytes (4 ∷ [])) (costs 40 2 0 0) ∷ []
 unfolding int_wrap digits instruction_of simple code_of has_initialiser most_classes chain_of interfaces_from interfaces_above is_subclass is_subtype field_order resolve_method resolve_field select special_method field_count place_of static_place metered_program raw_program sandbox_program compute convert moved on_values load_element store_element array_length make_array charge_one charge_all answer host_answer perform native with_literal invoke effect pays used_class is_initialised mark with_constants constants_of initialise unwound settle step begin amounts turn turns metered_run steps plain_run
 special_receivers = refl
 
@@ -290,7 +290,7 @@ other_kinds = refl
 abbrev text_made : ℕ → Run
 text_made alloc = metered_run (metered_program (a_with (verify_with (op 7 ∷ method 184 string (codes "valueOf") (int ∷ []) (Some string) ∷ op 87 ∷ op 42 ∷ op 176 ∷ []) [] ∷ []) ∷ [])) entry (1 ∷ []) (at_most alloc 9 9 9) 100
 
-text_charged : text_made 24 ∷ text_made 23 ∷ [] ≡ Ends (outcomes.OkBytes (1 ∷ [])) (costs 24 1 0 0) ∷ Ends (outcomes.Stopped charges.Alloc) (costs 24 1 0 0) ∷ []
+text_charged : text_made 24 ∷ text_made 23 ∷ [] ≡ RunEnds (outcomes.OkBytes (1 ∷ [])) (costs 24 1 0 0) ∷ RunEnds (outcomes.Stopped charges.Alloc) (costs 24 1 0 0) ∷ []
 unfolding int_wrap digits instruction_of simple code_of has_initialiser most_classes chain_of interfaces_from interfaces_above is_subclass is_subtype field_order resolve_method resolve_field select special_method field_count place_of static_place metered_program raw_program sandbox_program compute convert moved on_values load_element store_element array_length make_array charge_one charge_all answer host_answer perform native with_literal invoke effect pays used_class is_initialised mark with_constants constants_of initialise unwound settle step begin amounts turn turns metered_run steps plain_run
 text_charged = refl
 
@@ -301,6 +301,6 @@ copying = op 5 ∷ class 189 object ∷ op 76 ∷ op 43 ∷ op 3 ∷ ldc (AText 
     ∷ op 87 ∷ op 44 ∷ op 3 ∷ op 50 ∷ op 176 ∷ []
 
 copied_before : of_code copying ∷ runs (a_with (verify_with copying (catch_all 19 20 22 ∷ []) ∷ []) ∷ []) (1 ∷ 2 ∷ []) ∷ []
-    ≡ Ends (throws_plainly (codes "ArrayStoreException")) (costs 48 1 0 0) ∷ Ends outcomes.Link (costs 48 1 0 1) ∷ []
+    ≡ RunEnds (throws_plainly (codes "ArrayStoreException")) (costs 48 1 0 0) ∷ RunEnds outcomes.Link (costs 48 1 0 1) ∷ []
 unfolding int_wrap digits instruction_of simple code_of has_initialiser most_classes chain_of interfaces_from interfaces_above is_subclass is_subtype field_order resolve_method resolve_field select special_method field_count place_of static_place metered_program raw_program sandbox_program compute convert moved on_values load_element store_element array_length make_array charge_one charge_all answer host_answer perform native with_literal invoke effect pays used_class is_initialised mark with_constants constants_of initialise unwound settle step begin amounts turn turns metered_run steps plain_run
 copied_before = refl

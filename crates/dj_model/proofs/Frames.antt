@@ -17,7 +17,7 @@ use Rattle.dj_model.specs.trusted.Arrays.{passes_limit}
 use Rattle.dj_model.specs.trusted.Members.{Kept, with_literal}
 use Rattle.dj_model.specs.trusted.Effects.{effect, used_class}
 use Rattle.dj_model.specs.trusted.Initialisation.{most_frames, is_initialised, mark, mark_all, not_initialised, Initialised, Ready, Waits, Fails, then_ready, with_text, with_constant, with_constants, constants_of, initialiser_frames, with_frames, initialise}
-use Rattle.dj_model.specs.trusted.Step.{Answer, handler_of, leaves_frame, at_handler, unwound, throw_new, new_exception, new_stop, stop_from, throw_stop_or, called, returned, settle_way, settle, with_part, frame_with, part_of, settled, prepared, done, act, step_of, step}
+use Rattle.dj_model.specs.trusted.Step.{StepAnswer, handler_of, leaves_frame, at_handler, unwound, throw_new, new_exception, new_stop, stop_from, throw_stop_or, called, returned, settle_way, settle, with_part, frame_with, part_of, settled, prepared, done, act, step_of, step}
 use Rattle.dj_model.specs.trusted.Runs.{input_array, input_heap, start_state, begun, begin}
 use Rattle.dj_model.specs.Laws.{AnswerFew}
 use Rattle.dj_model.proofs.MappedNames.{either}
@@ -107,11 +107,11 @@ initialise_few program prefix terms class s few =
       go (Waits t) k = absurd k
       go (Fails outcome t) k = tt
 
-leaves_few : (prefix : Prefix) (s : State) (class : Ty) (exception : ℕ) (f : Frame Declared) (below : Answer) → AnswerFew below
+leaves_few : (prefix : Prefix) (s : State) (class : Ty) (exception : ℕ) (f : Frame Declared) (below : StepAnswer) → AnswerFew below
     → AnswerFew (leaves_frame prefix s class exception f below)
 leaves_few prefix s class exception f below k = elim (either (is_initialiser f.method)) [ inl e ↦ rw e tt | inr e ↦ rw e k ]
 
-handled_few : (prefix : Prefix) (s : State) (class : Ty) (exception : ℕ) (f : Frame Declared) (below : List (Frame Declared)) (handler : Option ℕ) (otherwise : Answer)
+handled_few : (prefix : Prefix) (s : State) (class : Ty) (exception : ℕ) (f : Frame Declared) (below : List (Frame Declared)) (handler : Option ℕ) (otherwise : StepAnswer)
     → length (f ∷ below) ≤ most_frames → AnswerFew otherwise → AnswerFew (at_handler prefix s class exception f below handler otherwise)
 handled_few prefix s class exception f below None otherwise few k = leaves_few prefix s class exception f otherwise k
 handled_few prefix s class exception f below (Some handler) otherwise few k = few

@@ -26,7 +26,7 @@ use Rattle.dj_model.specs.Effects.{pays}
 use Rattle.dj_model.specs.trusted.Initialisation.{is_initialised, mark, with_constants, constants_of, initialise}
 use Rattle.dj_model.specs.trusted.Step.{unwound, settle, step}
 use Rattle.dj_model.specs.trusted.Runs.{begin, steps, plain_run}
-use Rattle.dj_model.specs.Runs.{Run, Ends, amounts, turn, turns, metered_run}
+use Rattle.dj_model.specs.Runs.{Run, RunEnds, amounts, turn, turns, metered_run}
 use Rattle.dj_model.specs.SmallRuns.{op, newarray, class, field, method, entry, code, method_with, verify_with, initialiser_with, plain_constructor, class_with, a_with, field_with, costs, usual, lang_name}
 
 -- how the run of A's verify ends, after a hundred turns at most
@@ -63,10 +63,10 @@ abbrev throwing : List Instruction
 throwing = op 1 ∷ op 191 ∷ []
 
 abbrev ok_byte : ℕ → ℕ → Run
-ok_byte byte alloc = Ends (outcomes.OkBytes (byte ∷ [])) (costs alloc 0 0 0)
+ok_byte byte alloc = RunEnds (outcomes.OkBytes (byte ∷ [])) (costs alloc 0 0 0)
 
 abbrev failed : Name → Costs → Run
-failed name charged = Ends (outcomes.Init name (lang_name (codes "NullPointerException")) messages.Null) charged
+failed name charged = RunEnds (outcomes.Init name (lang_name (codes "NullPointerException")) messages.Null) charged
 
 -- the superclass's initialiser runs first, whichever instruction asks
 superclass_first : runs (family (doubled_and 4) (doubled_and 5)) (byte_of (class 187 c_type ∷ op 87 ∷ q_of 178 ∷ []))
@@ -105,6 +105,6 @@ number_of class name = field 178 class name string ∷ method 184 (class_type (l
 
 constants_in_order : runs texts (byte_of (number_of c_type (codes "u"))) ∷ runs texts (byte_of (field 178 c_type (codes "u") string ∷ op 87 ∷ number_of b_type (codes "s")))
     ∷ runs texts (byte_of (field 178 c_type (codes "u") string ∷ op 87 ∷ number_of b_type (codes "t"))) ∷ runs texts (byte_of (number_of b_type (codes "s"))) ∷ []
-    ≡ Ends (outcomes.OkBytes (5 ∷ [])) (costs 24 1 0 0) ∷ Ends (outcomes.OkBytes (3 ∷ [])) (costs 24 1 0 0) ∷ Ends (outcomes.OkBytes (4 ∷ [])) (costs 24 1 0 0) ∷ Ends (outcomes.OkBytes (3 ∷ [])) (costs 24 1 0 0) ∷ []
+    ≡ RunEnds (outcomes.OkBytes (5 ∷ [])) (costs 24 1 0 0) ∷ RunEnds (outcomes.OkBytes (3 ∷ [])) (costs 24 1 0 0) ∷ RunEnds (outcomes.OkBytes (4 ∷ [])) (costs 24 1 0 0) ∷ RunEnds (outcomes.OkBytes (3 ∷ [])) (costs 24 1 0 0) ∷ []
 unfolding int_wrap digits instruction_of simple code_of has_initialiser most_classes chain_of interfaces_from interfaces_above is_subclass is_subtype field_order resolve_method resolve_field select special_method field_count place_of static_place metered_program raw_program sandbox_program compute convert moved on_values load_element store_element array_length make_array charge_one charge_all answer host_answer perform native with_literal invoke effect pays used_class is_initialised mark with_constants constants_of initialise unwound settle step begin amounts turn turns metered_run steps plain_run
 constants_in_order = refl

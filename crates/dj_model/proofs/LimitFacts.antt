@@ -10,7 +10,7 @@ use Rattle.dj_names.specs.trusted.Library.{string, builder, char, int}
 use Rattle.dj_model.specs.trusted.Instructions.{Instruction, AText}
 use Rattle.dj_model.specs.trusted.Program.{Program, Class, Method, Text, code_of, has_initialiser}
 use Rattle.dj_model.specs.trusted.State.{State, Uncounted, Accounted}
-use Rattle.dj_model.specs.SmallRuns.{op, ldc, jump, class, field, method, construct, entry, entry_of, verify_with, initialiser_with, class_with, a_with, field_with, catch_all, catch, costs, at_most, usual, lang_name}
+use Rattle.dj_model.specs.SmallRuns.{op, ldc, jump, class, field, method, construct, entry, verify_of, verify_with, initialiser_with, class_with, a_with, field_with, catch_all, catch, costs, at_most, usual, lang_name}
 use Rattle.std.specs.Int.{int_wrap}
 use Rattle.std.specs.Fmt.{digits}
 use Rattle.dj_model.specs.trusted.Opcodes.{instruction_of, simple}
@@ -29,7 +29,7 @@ use Rattle.dj_model.specs.Effects.{pays}
 use Rattle.dj_model.specs.trusted.Initialisation.{Initialised, Ready, Waits, Fails, is_initialised, mark, with_constants, constants_of, initialise}
 use Rattle.dj_model.specs.trusted.Step.{unwound, settle, step}
 use Rattle.dj_model.specs.trusted.Runs.{Report, empty_heap, start_state, begin, steps, plain_run}
-use Rattle.dj_model.specs.Runs.{Run, Ends, metered_terms, amounts, turn, turns, metered_run}
+use Rattle.dj_model.specs.Runs.{Run, RunEnds, metered_terms, amounts, turn, turns, metered_run}
 
 -- a plain run of verify with this many bytes of heap, of which the input takes 24
 abbrev limited : ℕ → List Class → Option Report
@@ -94,7 +94,7 @@ s_class = record (class_with (in_sandbox (codes "A")) [] (verify_with (op 7 ∷ 
 
 abbrev accounted : ℕ → ℕ → Option Report
 accounted alloc limit =
-    plain_run (sandbox_program (s_class ∷ [])) sandbox_prefix (record { limit = Some limit; counting = Accounted (at_most alloc 9 9 9) }) (entry_of (in_sandbox (codes "A"))) (1 ∷ 2 ∷ []) [] 100
+    plain_run (sandbox_program (s_class ∷ [])) sandbox_prefix (record { limit = Some limit; counting = Accounted (at_most alloc 9 9 9) }) (verify_of (in_sandbox (codes "A"))) (1 ∷ 2 ∷ []) [] 100
 
 abbrev charged : Outcome → ℕ → Option Report
 charged outcome n = Some (record { outcome = outcome; costs = costs 24 0 0 0; steps = n; taken = 0 })
@@ -139,6 +139,6 @@ two_handlers first = metered_run (metered_program (a_with (verify_with
     (first ++ op 87 ∷ op 42 ∷ op 176 ∷ op 87 ∷ op 1 ∷ op 176 ∷ op 87 ∷ op 42 ∷ op 176 ∷ []) (catch (lang_name (codes "Error")) 0 2 5 ∷ catch_all 0 2 8 ∷ []) ∷ []) ∷ [])) entry (1 ∷ 2 ∷ []) usual 100
 
 arrivals : two_handlers (op 1 ∷ op 190 ∷ []) ∷ two_handlers (op 1 ∷ jump 167 8 ∷ []) ∷ two_handlers (op 1 ∷ jump 167 5 ∷ []) ∷ two_handlers (op 1 ∷ jump 167 6 ∷ []) ∷ two_handlers (op 1 ∷ jump 167 9 ∷ []) ∷ two_handlers (op 1 ∷ op 0 ∷ []) ∷ []
-    ≡ Ends both_bytes (costs 0 0 0 1) ∷ Ends both_bytes (costs 0 0 1 1) ∷ Ends outcomes.OkNull (costs 0 0 1 1) ∷ Ends outcomes.OkNull (costs 0 0 1 0) ∷ Ends both_bytes (costs 0 0 1 0) ∷ Ends both_bytes (costs 0 0 0 0) ∷ []
+    ≡ RunEnds both_bytes (costs 0 0 0 1) ∷ RunEnds both_bytes (costs 0 0 1 1) ∷ RunEnds outcomes.OkNull (costs 0 0 1 1) ∷ RunEnds outcomes.OkNull (costs 0 0 1 0) ∷ RunEnds both_bytes (costs 0 0 1 0) ∷ RunEnds both_bytes (costs 0 0 0 0) ∷ []
 unfolding int_wrap digits instruction_of simple code_of has_initialiser most_classes chain_of interfaces_from interfaces_above is_subclass is_subtype field_order resolve_method resolve_field select special_method field_count place_of static_place metered_program raw_program sandbox_program compute convert moved on_values load_element store_element array_length make_array charge_one charge_all answer host_answer perform native with_literal invoke effect pays used_class is_initialised mark with_constants constants_of initialise unwound settle step begin amounts turn turns metered_run steps plain_run
 arrivals = refl

@@ -31,7 +31,7 @@ use Rattle.dj_model.specs.State.{part_map, effect_map}
 use Rattle.dj_model.specs.trusted.Arrays.{passes_limit}
 use Rattle.dj_model.specs.trusted.Charging.{Charged, Fine, Over, charge_one}
 use Rattle.dj_model.specs.trusted.Natives.{Answer, Returns, Raises, MakesText, KeepsText, MakesChars, SetsFields, SetsElements, Adds, Rethrows, Question, asks, answered, answer, host_answer, plain_class, class_text, with_dots}
-use Rattle.dj_model.specs.trusted.Performing.{class_in, class_at_number, is_instance, takes, units_in, is_text_in, field_in, elements_in, shown_in, seen, Counted, Within, Halts, ended_by, thrown_by, counted, Making, Made, NotMade, making, making_then, made_charged, text_object, chars_object, with_fields_in, with_elements_in, set_object, set_fields, set_elements, returns, raises_after, returns_made, keeps_made, goes_on, perform, with_answer, host_asked, native_asked, native}
+use Rattle.dj_model.specs.trusted.Performing.{class_in, class_at_number, is_instance, takes, units_in, is_text_in, object_field, elements_in, shown_in, seen, Counted, Within, Halts, ended_by, thrown_by, counted, Making, Made, NotMade, making, making_then, made_charged, text_object, chars_object, with_fields_in, with_elements_in, set_object, set_fields, set_elements, returns, raises_after, returns_made, keeps_made, goes_on, perform, with_answer, host_asked, native_asked, native}
 use Rattle.dj_model.specs.trusted.Members.{broken, get_static, put_static, Holder, NullHolder, NoHolder, Holds, holder_in, holder_at, get_from, put_in, get_field, put_field, literal_in, Kept, kept_or_made, with_literal, push_kept, check_cast, instance_of, throw_top, kinds_of, Arguments, arguments_of, are_instances, run_body, run_method, received, call_special, call_virtual, call, call_with, invoke}
 use Rattle.dj_model.specs.Mapping.{IsNameMap}
 use Rattle.dj_model.proofs.MappedNames as names
@@ -74,7 +74,7 @@ module _ (f : Name → Name) (g : Code → Code) (p q : Prefix) (is : IsNameMap 
   is_text_alike (Some (Array class element contents)) = refl
   is_text_alike (Some (Text class units)) = refl
 
-  pub field_alike : (o : Option (Object Ty)) (place : ℕ) → field_in (option_map (object_map (type_map f)) o) place ≡ field_in o place
+  pub field_alike : (o : Option (Object Ty)) (place : ℕ) → object_field (option_map (object_map (type_map f)) o) place ≡ object_field o place
   field_alike None place = refl
   field_alike (Some (Instance class fields)) place = refl
   field_alike (Some (Array class element contents)) place = refl
@@ -100,7 +100,7 @@ module _ (f : Name → Name) (g : Code → Code) (p q : Prefix) (is : IsNameMap 
   seen_alike heap = λ i. record {
     units = λ r. (ap units_in (object_at_mapped (type_map f) heap.objects r) ∙ units_alike (object_at heap.objects r)) i;
     is_text = λ r. (ap is_text_in (object_at_mapped (type_map f) heap.objects r) ∙ is_text_alike (object_at heap.objects r)) i;
-    field = λ r place. (ap (λ o. field_in o place) (object_at_mapped (type_map f) heap.objects r) ∙ field_alike (object_at heap.objects r) place) i;
+    field = λ r place. (ap (λ o. object_field o place) (object_at_mapped (type_map f) heap.objects r) ∙ field_alike (object_at heap.objects r) place) i;
     elements = λ r. (ap elements_in (object_at_mapped (type_map f) heap.objects r) ∙ elements_alike (object_at heap.objects r)) i;
     takes = λ array r. takes_alike heap array r i;
     class_text = λ r. (ap (shown_in q) (object_at_mapped (type_map f) heap.objects r) ∙ shown_alike (object_at heap.objects r)) i;

@@ -18,7 +18,7 @@ use Rattle.dj_model.specs.trusted.State.{Terms, State}
 use Rattle.dj_model.specs.State.{state_map}
 use Rattle.dj_model.specs.trusted.Arrays.{passes_limit}
 use Rattle.dj_model.specs.trusted.Initialisation.{Initialised, Ready, Waits, Fails, initialise}
-use Rattle.dj_model.specs.trusted.Step.{Answer, Went, Ended, IllFormed, step}
+use Rattle.dj_model.specs.trusted.Step.{StepAnswer, Went, Ended, IllFormed, step}
 use Rattle.dj_model.specs.trusted.Runs.{input_array, empty_heap, input_heap, start_state, begun, begin, Ran, Going, Finished, NoStep, one_more, then_steps, steps, from_start, report_of, plain_run}
 use Rattle.dj_model.specs.Mapping.{IsNameMap, KeepsStop, outcome_map, initialised_map, answer_map, report_map}
 use Rattle.dj_model.proofs.MappedNames as names
@@ -59,7 +59,7 @@ module _ (f : Name → Name) (p q : Prefix) (is : IsNameMap f p q) (program : Pr
   one_more_mapped (Finished outcome s n) = refl
   one_more_mapped NoStep = refl
 
-  then_mapped : (n : ℕ) → ((s : State) → steps other q terms n (state_map f s) ≡ ran_map f (steps program p terms n s)) → (a : Answer)
+  then_mapped : (n : ℕ) → ((s : State) → steps other q terms n (state_map f s) ≡ ran_map f (steps program p terms n s)) → (a : StepAnswer)
       → then_steps (steps other q terms n) (answer_map f a) ≡ ran_map f (then_steps (steps program p terms n) a)
   then_mapped n each (Went s) = ap one_more (each s) ∙ one_more_mapped (steps program p terms n s)
   then_mapped n each (Ended outcome s) = refl
@@ -70,7 +70,7 @@ module _ (f : Name → Name) (p q : Prefix) (is : IsNameMap f p q) (program : Pr
   steps_mapped zero s = refl
   steps_mapped (suc n) s = ap (then_steps (steps other q terms n)) (stepping.step_mapped f p q is program terms keeps s) ∙ then_mapped n (steps_mapped n) (step program p terms s)
 
-  start_ran : (n : ℕ) (a : Answer) → from_start (steps other q terms n) (answer_map f a) ≡ ran_map f (from_start (steps program p terms n) a)
+  start_ran : (n : ℕ) (a : StepAnswer) → from_start (steps other q terms n) (answer_map f a) ≡ ran_map f (from_start (steps program p terms n) a)
   start_ran n (Went s) = steps_mapped n s
   start_ran n (Ended outcome s) = refl
   start_ran n IllFormed = refl
@@ -84,6 +84,6 @@ module _ (f : Name → Name) (p q : Prefix) (is : IsNameMap f p q) (program : Pr
       → plain_run other q terms (declared_map f entry) input answers most ≡ option_map (report_map f) (plain_run program p terms entry input answers most)
   unfolding plain_run
   run_mapped entry input answers most =
-      ap (λ (a : Answer). report_of answers most (from_start (steps other q terms most) a)) (begin_mapped entry input answers)
+      ap (λ (a : StepAnswer). report_of answers most (from_start (steps other q terms most) a)) (begin_mapped entry input answers)
       ∙ (ap (report_of answers most) (start_ran most (begin program p terms entry input answers))
       ∙ reported answers most (from_start (steps program p terms most) (begin program p terms entry input answers)))

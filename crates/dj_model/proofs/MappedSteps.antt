@@ -30,11 +30,11 @@ use Rattle.dj_model.specs.trusted.Linking.{member_class, chain, static_place}
 use Rattle.dj_model.specs.trusted.State.{Terms, Frame, State, instruction_in, instruction_at, Way, Next, To, Raise, Back, Flow, Goes, Catch, Stop, Call, End, Effect}
 use Rattle.dj_model.specs.State.{frame_map, state_map, flow_map, effect_map}
 use Rattle.dj_model.specs.trusted.Arrays.{Found, Null, NoArray, IsArray, array_at, passes_limit}
-use Rattle.dj_model.specs.trusted.Performing.{class_at_number, field_in}
+use Rattle.dj_model.specs.trusted.Performing.{class_at_number, object_field}
 use Rattle.dj_model.specs.trusted.Members.{Kept, with_literal}
 use Rattle.dj_model.specs.trusted.Effects.{effect, used_class}
 use Rattle.dj_model.specs.trusted.Initialisation.{locals_for, new_frame, most_frames, is_initialised, mark, mark_all, not_initialised, Initialised, Ready, Waits, Fails, then_ready, with_text, with_constant, with_constants, constants_of, initialiser_frames, with_frames, initialise_all, initialise}
-use Rattle.dj_model.specs.trusted.Step.{Answer, Went, Ended, text_in, message_of, catches_named, catches, handler_in, handler_of, caught, stopped_by, ends_with, leaves_frame, at_handler, unwound, throw, throw_new, new_exception, new_stop, stop_from, throw_stop_or, called, bytes_in, result_outcome, resumed, returned, settle_way, settle, part_of, with_part, frame_with, settled, prepared, done, act, step_of, step}
+use Rattle.dj_model.specs.trusted.Step.{StepAnswer, Went, Ended, text_in, message_of, catches_named, catches, handler_in, handler_of, caught, stopped_by, ends_with, leaves_frame, at_handler, unwound, throw, throw_new, new_exception, new_stop, stop_from, throw_stop_or, called, bytes_in, result_outcome, resumed, returned, settle_way, settle, part_of, with_part, frame_with, settled, prepared, done, act, step_of, step}
 use Rattle.dj_model.specs.Mapping.{IsNameMap, KeepsStop, outcome_map, initialised_map, answer_map}
 use Rattle.dj_model.proofs.MappedNames as names
 use Rattle.dj_model.proofs.MappedNames.{either}
@@ -192,8 +192,8 @@ module _ (f : Name → Name) (p q : Prefix) (is : IsNameMap f p q) (program : Pr
   message_alike : (heap : Heap Ty) (exception : ℕ) → message_of (heap_map (type_map f) heap) exception ≡ message_of heap exception
   message_alike heap exception =
       ap (λ r. text_in (object_at (map (object_map (type_map f)) heap.objects) r))
-      (ap (λ o. field_in o 0) (object_at_mapped (type_map f) heap.objects exception) ∙ members.field_alike f (code_map f) p q is program other at statics (object_at heap.objects exception) 0)
-      ∙ (ap text_in (object_at_mapped (type_map f) heap.objects (field_in (object_at heap.objects exception) 0)) ∙ text_alike (object_at heap.objects (field_in (object_at heap.objects exception) 0)))
+      (ap (λ o. object_field o 0) (object_at_mapped (type_map f) heap.objects exception) ∙ members.field_alike f (code_map f) p q is program other at statics (object_at heap.objects exception) 0)
+      ∙ (ap text_in (object_at_mapped (type_map f) heap.objects (object_field (object_at heap.objects exception) 0)) ∙ text_alike (object_at heap.objects (object_field (object_at heap.objects exception) 0)))
 
   catches_named_alike : (class : Ty) (named : Named) → catches_named other q (type_map f class) (named_map f named) ≡ catches_named program p class named
   catches_named_alike class (AClass caught) = names.subtype_alike f (code_map f) p q is program other at class caught
@@ -229,7 +229,7 @@ module _ (f : Name → Name) (p q : Prefix) (is : IsNameMap f p q) (program : Pr
   ends_mapped s class outcome =
       rw (is.stop class, stopped_alike s.account.exceeded outcome) (elim (either (is_stop p class)) [ inl e ↦ rw e refl | inr e ↦ rw e refl ])
 
-  leaves_mapped : (s : State) (class : Ty) (exception : ℕ) (x : Frame Declared) (below other_below : Answer) → other_below ≡ answer_map f below
+  leaves_mapped : (s : State) (class : Ty) (exception : ℕ) (x : Frame Declared) (below other_below : StepAnswer) → other_below ≡ answer_map f below
       → leaves_frame q (state_map f s) (type_map f class) exception (frame_map (declared_map f) x) other_below
       ≡ answer_map f (leaves_frame p s class exception x below)
   leaves_mapped s class exception x below other_below e =
@@ -239,7 +239,7 @@ module _ (f : Name → Name) (p q : Prefix) (is : IsNameMap f p q) (program : Pr
         | inr i ↦ rw i refl
       ])
 
-  handled_mapped : (s : State) (class : Ty) (exception : ℕ) (x : Frame Declared) (below : List (Frame Declared)) (handler : Option ℕ) (a b : Answer) → b ≡ answer_map f a
+  handled_mapped : (s : State) (class : Ty) (exception : ℕ) (x : Frame Declared) (below : List (Frame Declared)) (handler : Option ℕ) (a b : StepAnswer) → b ≡ answer_map f a
       → at_handler q (state_map f s) (type_map f class) exception (frame_map (declared_map f) x) (map (frame_map (declared_map f)) below) handler b
       ≡ answer_map f (at_handler p s class exception x below handler a)
   handled_mapped s class exception x below (Some handler) a b e = refl

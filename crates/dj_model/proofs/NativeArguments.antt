@@ -29,7 +29,7 @@ use Rattle.dj_model.specs.Effects.{pays}
 use Rattle.dj_model.specs.trusted.Initialisation.{is_initialised, mark, with_constants, constants_of, initialise}
 use Rattle.dj_model.specs.trusted.Step.{unwound, settle, step}
 use Rattle.dj_model.specs.trusted.Runs.{begin, steps, plain_run}
-use Rattle.dj_model.specs.Runs.{Run, Ends, amounts, turn, turns, metered_run}
+use Rattle.dj_model.specs.Runs.{Run, RunEnds, amounts, turn, turns, metered_run}
 use Rattle.dj_model.specs.SmallRuns.{op, push, ldc, newarray, class, method, construct, entry, verify_with, a_with, costs, usual, lang_name}
 
 -- a builder of the text z, the text, and one of the units 0061 ffff
@@ -112,7 +112,7 @@ abbrev byte_of : List Instruction → Run
 byte_of instructions = of_code (op 4 ∷ newarray 8 ∷ op 89 ∷ op 3 ∷ instructions ++ op 84 ∷ op 176 ∷ [])
 
 abbrev gives : ℕ → ℕ → ℕ → Run
-gives byte alloc invoke = Ends (outcomes.OkBytes (byte ∷ [])) (costs (24 + alloc) invoke 0 0)
+gives byte alloc invoke = RunEnds (outcomes.OkBytes (byte ∷ [])) (costs (24 + alloc) invoke 0 0)
 
 abbrev chars_of : List ℕ → List Instruction
 chars_of units = ldc (AText units) ∷ method 182 string (codes "toCharArray") [] (Some (array_type char)) ∷ []
@@ -133,10 +133,10 @@ abbrev with_cause : List Instruction → Run
 with_cause arguments = of_code (class 187 error ∷ op 89 ∷ arguments ++ construct error (string ∷ throwable ∷ []) ∷ op 87 ∷ op 42 ∷ op 176 ∷ [])
 
 abbrev made_error : Run
-made_error = Ends (outcomes.OkBytes (1 ∷ 2 ∷ [])) (costs 32 1 0 0)
+made_error = RunEnds (outcomes.OkBytes (1 ∷ 2 ∷ [])) (costs 32 1 0 0)
 
 abbrev no_error : Run
-no_error = Ends outcomes.Link (costs 32 1 0 0)
+no_error = RunEnds outcomes.Link (costs 32 1 0 0)
 
 later_arguments : with_cause (ldc (AText (codes "m")) ∷ op 1 ∷ []) ∷ with_cause (op 1 ∷ op 1 ∷ []) ∷ with_cause (ldc (AText (codes "m")) ∷ ldc (AText (codes "m")) ∷ []) ∷ with_cause (ldc (AText (codes "m")) ∷ op 42 ∷ [])
     ∷ with_cause (op 1 ∷ op 42 ∷ []) ∷ with_cause (op 42 ∷ op 1 ∷ []) ∷ with_cause (op 42 ∷ op 42 ∷ []) ∷ []

@@ -26,7 +26,7 @@ use Rattle.dj_model.specs.Effects.{pays}
 use Rattle.dj_model.specs.trusted.Initialisation.{is_initialised, mark, with_constants, constants_of, initialise}
 use Rattle.dj_model.specs.trusted.Step.{unwound, settle, step}
 use Rattle.dj_model.specs.trusted.Runs.{begin, steps, plain_run}
-use Rattle.dj_model.specs.Runs.{Run, Ends, amounts, turn, turns, metered_run}
+use Rattle.dj_model.specs.Runs.{Run, RunEnds, amounts, turn, turns, metered_run}
 use Rattle.dj_model.specs.SmallRuns.{op, push, ldc, newarray, class, method, invokeinterface, construct, entry, verify_with, a_with, costs, usual, lang_name, throws_plainly}
 
 -- how the run of A's verify ends, after a hundred turns at most
@@ -39,10 +39,10 @@ byte_of instructions = of_code (op 4 ∷ newarray 8 ∷ op 89 ∷ op 3 ∷ instr
 
 -- it does, beside the array's bytes at this cost
 abbrev gives : ℕ → ℕ → ℕ → Run
-gives byte alloc invoke = Ends (outcomes.OkBytes (byte ∷ [])) (costs (24 + alloc) invoke 0 0)
+gives byte alloc invoke = RunEnds (outcomes.OkBytes (byte ∷ [])) (costs (24 + alloc) invoke 0 0)
 
 abbrev throws : Name → ℕ → ℕ → Run
-throws name alloc invoke = Ends (throws_plainly name) (costs alloc invoke 0 0)
+throws name alloc invoke = RunEnds (throws_plainly name) (costs alloc invoke 0 0)
 
 abbrev error : Ty
 error = class_type (lang_name (codes "Error"))

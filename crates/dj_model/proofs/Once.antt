@@ -17,7 +17,7 @@ use Rattle.dj_model.specs.trusted.State.{Terms, Frame, State, Way, Next, To, Rai
 use Rattle.dj_model.specs.trusted.Arrays.{passes_limit}
 use Rattle.dj_model.specs.trusted.Effects.{effect, used_class}
 use Rattle.dj_model.specs.trusted.Initialisation.{most_frames, is_initialised, mark, mark_all, not_initialised, Initialised, Ready, Waits, Fails, then_ready, constants_of, initialiser_frames, with_frames, initialise}
-use Rattle.dj_model.specs.trusted.Step.{Answer, Went, Ended, IllFormed, handler_of, leaves_frame, at_handler, unwound, throw_new, new_exception, new_stop, stop_from, throw_stop_or, returned, settle_way, settle, with_part, frame_with, part_of, settled, prepared, done, act, step_of, step}
+use Rattle.dj_model.specs.trusted.Step.{StepAnswer, Went, Ended, IllFormed, handler_of, leaves_frame, at_handler, unwound, throw_new, new_exception, new_stop, stop_from, throw_stop_or, returned, settle_way, settle, with_part, frame_with, part_of, settled, prepared, done, act, step_of, step}
 use Rattle.dj_model.specs.trusted.Runs as runs
 use Rattle.dj_model.specs.trusted.Runs.{input_array, input_heap, start_state, begin}
 use Rattle.dj_model.specs.Laws.{DifferFrom, AllDiffer}
@@ -139,7 +139,7 @@ all_of P Q each (class ∷ classes) k = (each class k.0, all_of P Q each classes
 -- ---- what is initialised stays so
 
 module _ (program : Program) (prefix : Prefix) (terms : Terms) (class : Name) where
-  abbrev pub Stays : Answer → Type 0
+  abbrev pub Stays : StepAnswer → Type 0
   Stays (Went t) = IsTrue (is_initialised program t.initialised class)
   Stays (Ended outcome t) = ⊤
   Stays IllFormed = ⊤
@@ -174,11 +174,11 @@ module _ (program : Program) (prefix : Prefix) (terms : Terms) (class : Name) wh
   initialise_stays used s k =
       initialise_marks used s (all_stay_marked program (reverse (not_initialised program s.initialised (chain program used))) class s.initialised k)
 
-  leaves_stays : (s : State) (thrown : Ty) (exception : ℕ) (f : Frame Declared) (below : Answer) → Stays below
+  leaves_stays : (s : State) (thrown : Ty) (exception : ℕ) (f : Frame Declared) (below : StepAnswer) → Stays below
       → Stays (leaves_frame prefix s thrown exception f below)
   leaves_stays s thrown exception f below k = either_way Stays (is_initialiser f.method) _ _ tt k
 
-  handled_stays : (s : State) (thrown : Ty) (exception : ℕ) (f : Frame Declared) (below : List (Frame Declared)) (handler : Option ℕ) (otherwise : Answer)
+  handled_stays : (s : State) (thrown : Ty) (exception : ℕ) (f : Frame Declared) (below : List (Frame Declared)) (handler : Option ℕ) (otherwise : StepAnswer)
       → IsTrue (is_initialised program s.initialised class) → Stays otherwise → Stays (at_handler prefix s thrown exception f below handler otherwise)
   handled_stays s thrown exception f below None otherwise k o = leaves_stays s thrown exception f otherwise o
   handled_stays s thrown exception f below (Some handler) otherwise k o = k
@@ -279,7 +279,7 @@ module _ (program : Program) (prefix : Prefix) (terms : Terms) (s : State) (f : 
   PushesReady (Waits t) = t.frames ≡ (f ∷ frames) ++ s.frames
   PushesReady (Fails outcome t) = ⊤
 
-  abbrev Pushes : Answer → Type 0
+  abbrev Pushes : StepAnswer → Type 0
   Pushes (Went t) = t.frames ≡ (f ∷ frames) ++ s.frames
   Pushes (Ended outcome t) = ⊤
   Pushes IllFormed = ⊤
@@ -316,7 +316,7 @@ module _ (program : Program) (prefix : Prefix) (terms : Terms) (s : State) (f : 
       (done_pushes top below i (prepared program prefix terms (used_class program prefix i) s)
       (subst (λ (o : Option Name). PushesReady (prepared program prefix terms o s)) (sym uses) (initialise_pushes used e)))))
 
-went_stays : (program : Program) (prefix : Prefix) (terms : Terms) (class : Name) (answer : Answer) (t : State) → answer ≡ Went t
+went_stays : (program : Program) (prefix : Prefix) (terms : Terms) (class : Name) (answer : StepAnswer) (t : State) → answer ≡ Went t
     → Stays program prefix terms class answer → IsTrue (is_initialised program t.initialised class)
 went_stays program prefix terms class answer t e k = subst (Stays program prefix terms class) e k
 

@@ -16,7 +16,7 @@ use Rattle.dj_model.specs.trusted.Effects.{effect, used_class}
 use Rattle.dj_model.specs.trusted.Charging.{Charged, Fine, Over}
 use Rattle.dj_model.specs.Charging.{charge_all}
 use Rattle.dj_model.specs.trusted.Initialisation.{most_frames, Initialised, Ready, Waits, Fails, then_ready, constants_of, mark_all, not_initialised, initialiser_frames, with_frames, initialise, new_frame}
-use Rattle.dj_model.specs.trusted.Step.{Answer, handler_of, at_handler, unwound, throw_new, new_exception, new_stop, stop_from, throw_stop_or, returned, settle, part_of, with_part, frame_with, settled, prepared, done, act, step_of, step}
+use Rattle.dj_model.specs.trusted.Step.{StepAnswer, handler_of, at_handler, unwound, throw_new, new_exception, new_stop, stop_from, throw_stop_or, returned, settle, part_of, with_part, frame_with, settled, prepared, done, act, step_of, step}
 use Rattle.dj_model.specs.Runs.{top_is_paid, amounts, paid_run, answer_run, metered_terms, turn}
 use Rattle.dj_model.specs.Laws.{AnswerClears, RunPays}
 use Rattle.dj_model.proofs.MappedNames.{either}
@@ -24,7 +24,7 @@ use Rattle.dj_model.proofs.Flows.{either_way}
 use Rattle.dj_model.proofs.Frames.{KeepsMore, all_constants_keep}
 
 module _ (program : Program) (prefix : Prefix) (terms : Terms) (f : Frame Declared) (below : List (Frame Declared)) where
-  abbrev Clears : Answer → Type 0
+  abbrev Clears : StepAnswer → Type 0
   Clears a = AnswerClears f below a
 
   unwound_clears : (t : State) (class : Ty) (exception : ℕ) (frames : List (Frame Declared)) → Clears (unwound program prefix t class exception frames)

@@ -27,7 +27,7 @@ use Rattle.dj_model.specs.Effects.{pays}
 use Rattle.dj_model.specs.trusted.Initialisation.{is_initialised, mark, with_constants, constants_of, initialise}
 use Rattle.dj_model.specs.trusted.Step.{unwound, settle, step}
 use Rattle.dj_model.specs.trusted.Runs.{begin, steps, plain_run}
-use Rattle.dj_model.specs.Runs.{Run, Ends, amounts, turn, turns, metered_run}
+use Rattle.dj_model.specs.Runs.{Run, RunEnds, amounts, turn, turns, metered_run}
 
 abbrev c_type : Ty
 c_type = class_type (codes "C")
@@ -48,7 +48,7 @@ on_object flags instructions = metered_run (metered_program (a_with (verify_with
     (op 4 ∷ newarray 8 ∷ op 89 ∷ op 3 ∷ class 187 e_type ∷ method 184 e_type (codes "s") (object ∷ []) (Some int) ∷ op 84 ∷ op 176 ∷ []) [] ∷ []) ∷ family flags instructions)) entry (1 ∷ []) usual 100
 
 abbrev gives : ℕ → ℕ → Run
-gives byte invoke = Ends (outcomes.OkBytes (byte ∷ [])) (costs 40 invoke 0 0)
+gives byte invoke = RunEnds (outcomes.OkBytes (byte ∷ [])) (costs 40 invoke 0 0)
 
 -- a method of a class between is taken, a private one too, and a static one isn't
 abbrev calls_m : ℕ → Run
@@ -61,7 +61,7 @@ taken_between = refl
 
 -- a constructor is taken from the class that is named
 taken_constructor : on_object 1 (op 42 ∷ construct c_type [] ∷ op 8 ∷ op 172 ∷ []) ∷ on_object 1 (op 42 ∷ construct (class_type (codes "D")) [] ∷ op 8 ∷ op 172 ∷ []) ∷ []
-    ≡ gives 5 3 ∷ Ends (outcomes.Threw (lang_name (codes "NullPointerException")) messages.Null) (costs 40 2 0 1) ∷ []
+    ≡ gives 5 3 ∷ RunEnds (outcomes.Threw (lang_name (codes "NullPointerException")) messages.Null) (costs 40 2 0 1) ∷ []
 unfolding int_wrap digits instruction_of simple code_of has_initialiser most_classes chain_of interfaces_from interfaces_above is_subclass is_subtype field_order resolve_method resolve_field select special_method field_count place_of static_place metered_program raw_program sandbox_program compute convert moved on_values load_element store_element array_length make_array charge_one charge_all answer host_answer perform native with_literal invoke effect pays used_class is_initialised mark with_constants constants_of initialise unwound settle step begin amounts turn turns metered_run steps plain_run
 taken_constructor = refl
 

@@ -10,7 +10,7 @@ use Rattle.dj_model.specs.trusted.Instructions.{Instruction, ends, targets}
 use Rattle.dj_model.specs.trusted.Numbers.{is_wide}
 use Rattle.dj_model.specs.trusted.Values.{in_slots}
 use Rattle.dj_model.specs.trusted.Kinds.{Signature, Kinds, Entries, stack_of, form_entries, fitting, Placed, Map, Read, Faulty, NoMap, with_fitting, with_frame, parameter_entries, frames_after, frames_in, map_of, placed_at}
-use Rattle.dj_model.specs.trusted.Shape.{first_kinds, after, flows_to, flows_to_frame, locals_flow_to, is_handler_frame, covers, state_before, Holds, IsFirstFault, IsFrameOrFault, IsNumberedFault, IsShapeFault}
+use Rattle.dj_model.specs.trusted.Shape.{first_kinds, after, flows_to, flows_to_frame, locals_flow_to, is_handler_frame, covers, state_before, HoldsAt, IsFirstFault, IsFrameOrFault, IsNumberedFault, IsShapeFault}
 use Rattle.dj_model.specs.Shape.{HasShape, AllHold}
 use Rattle.dj_model.proofs.MappedNames.{either}
 
@@ -97,7 +97,7 @@ module _ (signature : Signature) (code : Code) (placed : List Placed) (number : 
   conditions before left i = last_of i && (begins_of && (goes_on_of left i && (jumps_of left i && (handles_of && handled_of before))))
 
   from_conditions : (before left : Kinds) (i : Instruction) → state_before signature code placed number ≡ Some before → slice_get code.instructions number ≡ Some i
-      → after signature code i before ≡ Some left → IsTrue (conditions before left i) → Holds signature code placed number
+      → after signature code i before ≡ Some left → IsTrue (conditions before left i) → HoldsAt signature code placed number
   from_conditions before left i state at found c =
       let c1 = second_of_both (last_of i) (begins_of && (goes_on_of left i && (jumps_of left i && (handles_of && handled_of before)))) c in
       let c2 = second_of_both begins_of (goes_on_of left i && (jumps_of left i && (handles_of && handled_of before))) c1 in
@@ -118,14 +118,14 @@ module _ (signature : Signature) (code : Code) (placed : List Placed) (number : 
         handled = second_of_both handles_of (handled_of before) c4;
       }
 
-  to_conditions : (h : Holds signature code placed number) → IsTrue (conditions h.before h.left h.instruction)
+  to_conditions : (h : HoldsAt signature code placed number) → IsTrue (conditions h.before h.left h.instruction)
   to_conditions h =
       both (last_of h.instruction) _ h.last (both begins_of _ h.begins (both (goes_on_of h.left h.instruction) _ h.goes_on
       (both (jumps_of h.left h.instruction) _ h.jumps (both handles_of (handled_of h.before) h.handles h.handled))))
 
   decide_left : (before : Kinds) (i : Instruction) (left : Option Kinds) → state_before signature code placed number ≡ Some before
       → slice_get code.instructions number ≡ Some i → after signature code i before ≡ left
-      → Holds signature code placed number ⊎ (Holds signature code placed number → ⊥)
+      → HoldsAt signature code placed number ⊎ (HoldsAt signature code placed number → ⊥)
   decide_left before i None state at found = inr (λ h.
       let b : Some h.before ≡ Some before = sym h.state ∙ state in
       let j : Some h.instruction ≡ Some i = sym h.at ∙ at in
@@ -150,16 +150,16 @@ module _ (signature : Signature) (code : Code) (placed : List Placed) (number : 
   ]
 
   decide_at : (before : Kinds) (i : Option Instruction) → state_before signature code placed number ≡ Some before → slice_get code.instructions number ≡ i
-      → Holds signature code placed number ⊎ (Holds signature code placed number → ⊥)
+      → HoldsAt signature code placed number ⊎ (HoldsAt signature code placed number → ⊥)
   decide_at before None state at = inr (λ h. let none : None ≡ Some h.instruction = sym at ∙ h.at in absurd cc)
   decide_at before (Some i) state at = decide_left before i (after signature code i before) state at refl
 
   decide_state : (before : Option Kinds) → state_before signature code placed number ≡ before
-      → Holds signature code placed number ⊎ (Holds signature code placed number → ⊥)
+      → HoldsAt signature code placed number ⊎ (HoldsAt signature code placed number → ⊥)
   decide_state None state = inr (λ h. let none : None ≡ Some h.before = sym state ∙ h.state in absurd cc)
   decide_state (Some before) state = decide_at before (slice_get code.instructions number) state refl
 
-  pub decide : Holds signature code placed number ⊎ (Holds signature code placed number → ⊥)
+  pub decide : HoldsAt signature code placed number ⊎ (HoldsAt signature code placed number → ⊥)
   decide = decide_state (state_before signature code placed number) refl
 
 -- ---- the same as a test
@@ -176,25 +176,25 @@ abbrev pub holds_test : Signature → Code → List Placed → ℕ → Bool
 holds_test signature code placed number = holds_of signature code placed number (state_before signature code placed number) (slice_get code.instructions number)
 
 -- what holds passes the test, and what passes it holds
-pub test_from_holds : (signature : Signature) (code : Code) (placed : List Placed) (number : ℕ) → Holds signature code placed number
+pub test_from_holds : (signature : Signature) (code : Code) (placed : List Placed) (number : ℕ) → HoldsAt signature code placed number
     → IsTrue (holds_test signature code placed number)
 test_from_holds signature code placed number h = rw (h.state, h.at, h.found) (to_conditions signature code placed number h)
 
 pub holds_from_test : (signature : Signature) (code : Code) (placed : List Placed) (number : ℕ) → IsTrue (holds_test signature code placed number)
-    → Holds signature code placed number
+    → HoldsAt signature code placed number
 holds_from_test signature code placed number t = at_state (state_before signature code placed number) refl where
   at_left : (before : Kinds) (i : Instruction) (left : Option Kinds) → state_before signature code placed number ≡ Some before
       → slice_get code.instructions number ≡ Some i → after signature code i before ≡ left → IsTrue (holds_of_left signature code placed number before i left)
-      → Holds signature code placed number
+      → HoldsAt signature code placed number
   at_left before i None state at found u = absurd cc
   at_left before i (Some left) state at found u = from_conditions signature code placed number before left i state at found u
 
   at_instruction : (before : Kinds) (i : Option Instruction) → state_before signature code placed number ≡ Some before → slice_get code.instructions number ≡ i
-      → IsTrue (holds_of signature code placed number (Some before) i) → Holds signature code placed number
+      → IsTrue (holds_of signature code placed number (Some before) i) → HoldsAt signature code placed number
   at_instruction before None state at u = absurd cc
   at_instruction before (Some i) state at u = at_left before i (after signature code i before) state at refl u
 
-  at_state : (before : Option Kinds) → state_before signature code placed number ≡ before → Holds signature code placed number
+  at_state : (before : Option Kinds) → state_before signature code placed number ≡ before → HoldsAt signature code placed number
   at_state None state = absurd (let none : IsTrue false = subst (λ k. IsTrue (holds_of signature code placed number k (slice_get code.instructions number))) state t in cc)
   at_state (Some before) state = at_instruction before (slice_get code.instructions number) state refl
       (subst (λ k. IsTrue (holds_of signature code placed number k (slice_get code.instructions number))) state t)
@@ -222,8 +222,8 @@ has_map code before (f ∷ rest) e =
 -- this many instructions hold, or one of them is the first that doesn't
 abbrev AllOrFirst : Signature → Code → List Placed → ℕ → Type 0
 AllOrFirst signature code placed count =
-    ((number : ℕ) → number < count → Holds signature code placed number)
-    ⊎ ((n : ℕ) × (n < count) × ((other : ℕ) → other < n → Holds signature code placed other) × (Holds signature code placed n → ⊥))
+    ((number : ℕ) → number < count → HoldsAt signature code placed number)
+    ⊎ ((n : ℕ) × (n < count) × ((other : ℕ) → other < n → HoldsAt signature code placed other) × (HoldsAt signature code placed n → ⊥))
 
 one_more : (P : ℕ → Type 0) (count : ℕ) → ((number : ℕ) → number < count → P number) → P count → (number : ℕ) → number < suc count → P number
 one_more P count all last number lt = elim (cases_lt number count) [
@@ -235,7 +235,7 @@ all_or_first : (signature : Signature) (code : Code) (placed : List Placed) (cou
 all_or_first signature code placed zero = inl (λ number lt. absurd (omega arith))
 all_or_first signature code placed (suc count) = elim (all_or_first signature code placed count) [
   | inl all ↦ elim (decide signature code placed count) [
-    | inl holds ↦ inl (one_more (Holds signature code placed) count all holds)
+    | inl holds ↦ inl (one_more (HoldsAt signature code placed) count all holds)
     | inr fault ↦ inr (count, omega arith, all, fault)
   ]
   | inr (n, lt, before, fault) ↦ inr (n, omega arith, before, fault)

@@ -27,7 +27,7 @@ use Rattle.dj_model.specs.NativeKinds.{native_signature}
 use Rattle.dj_model.specs.trusted.Performing.{is_instance, seen, class_at_number, perform, with_answer, host_asked, native_asked, native}
 use Rattle.dj_model.specs.trusted.Members.{broken, kinds_of, Arguments, with_last, taken_from, arguments_of, are_instances, run_body, run_method, received, asked_class, call_special, call_virtual, call, invoke}
 use Rattle.dj_model.specs.trusted.Effects.{effect}
-use Rattle.dj_model.specs.trusted.Kinds.{Signature, Kinds, signature_with, with_result, call_signature, with_receiver, signature_of}
+use Rattle.dj_model.specs.trusted.Kinds.{Signature, Kinds, signature_with, signature_result, call_signature, with_receiver, signature_of}
 use Rattle.dj_model.specs.trusted.Shape.{is_static_mode, counts, call_kinds, gives, after}
 use Rattle.dj_model.specs.Sound.{is_class_of, is_method_found, is_method_linked, is_linked, IsNative, IsSoundBody, IsSound}
 use Rattle.dj_model.specs.Standing.{LocalsHave, HasKinds, with_given, IsSoundFlow, HasSoundEffect, IsUnanswered, IsStarved, AnswerKind}
@@ -282,7 +282,7 @@ call_parameters : (desc : Desc) (sig : Signature) → call_signature desc ≡ So
 call_parameters (descs.Field ty) sig e = absurd cc
 call_parameters (descs.Method params None) sig e = signature_parts None (kinds_of params) sig e
 call_parameters (descs.Method params (Some ret)) sig e = go (type_kind ret) e where
-  go : (kind : Option Kind) → with_result kind (kinds_of params) ≡ Some sig → kinds_of params ≡ Some sig.parameters
+  go : (kind : Option Kind) → signature_result kind (kinds_of params) ≡ Some sig → kinds_of params ≡ Some sig.parameters
   go None e = absurd cc
   go (Some kind) e = signature_parts (Some kind) (kinds_of params) sig e
 

@@ -41,8 +41,8 @@ use Rattle.dj_model.specs.Sound.{IsSound, is_linked}
 use Rattle.dj_model.specs.Standing.{RunStands, IsEntry, Starves}
 use Rattle.dj_model.specs.trusted.State.{Terms, Uncounted}
 use Rattle.dj_model.specs.trusted.Runs.{Report, begin, steps, plain_run}
-use Rattle.dj_model.specs.Runs.{Ends, amounts, turn, turns, metered_run}
-use Rattle.dj_model.specs.SmallRuns.{op, ldc, jump, newarray, class, field, method, invokeinterface, construct, a_class, a_type, method_with, plain_constructor, class_with, field_with, catch, bytes, entry, costs, usual, lang_name}
+use Rattle.dj_model.specs.Runs.{RunEnds, amounts, turn, turns, metered_run}
+use Rattle.dj_model.specs.SmallRuns.{op, ldc, jump, newarray, class, field, method, invokeinterface, construct, a_class, a_type, method_with, plain_constructor, class_with, field_with, catch, byte_array, entry, costs, usual, lang_name}
 use Rattle.dj_model.proofs.SoundPrograms.{sound_test, sound_from}
 use Rattle.dj_model.proofs.SoundRuns.{metered_stands, plain_stands}
 use Rattle.dj_model.proofs.QuietLibraries.{quiet_all, to_asks, metered_asks_nothing}
@@ -96,7 +96,7 @@ k_method = method_with 9 (codes "k") (int ∷ []) (Some int) (body
     [] (frame 2 forms.Same ∷ frame 4 forms.Same ∷ []))
 
 abbrev verify_method : Method
-verify_method = method_with 9 (codes "verify") (bytes ∷ []) (Some bytes) (body verify_code (catch (lang_name (codes "Error")) 28 37 37 ∷ []) verify_frames)
+verify_method = method_with 9 (codes "verify") (byte_array ∷ []) (Some byte_array) (body verify_code (catch (lang_name (codes "Error")) 28 37 37 ∷ []) verify_frames)
 
 abbrev files : List Class
 files =
@@ -130,14 +130,14 @@ runs_on : (input : List ℕ) (most : Thresholds) (n : ℕ) → RunStands (metere
 runs_on input most n =
     metered_stands (metered_program files) sound_program (metered_asks_nothing files (to_asks files (quiet_all files refl))) entry input most n entry_is
 
-runs_once : metered_run (metered_program files) entry (1 ∷ []) usual 200 ≡ Ends (outcomes.OkBytes (0 ∷ 0 ∷ [])) (costs 48 7 3 0)
+runs_once : metered_run (metered_program files) entry (1 ∷ []) usual 200 ≡ RunEnds (outcomes.OkBytes (0 ∷ 0 ∷ [])) (costs 48 7 3 0)
 unfolding int_wrap digits instruction_of simple code_of has_initialiser most_classes chain_of interfaces_from interfaces_above is_subclass is_subtype field_order resolve_method resolve_field select special_method field_count place_of static_place metered_program raw_program sandbox_program compute convert moved on_values load_element store_element array_length make_array charge_one charge_all answer host_answer perform native with_literal invoke effect pays used_class is_initialised mark with_constants constants_of initialise unwound settle step begin amounts turn turns metered_run steps plain_run
 runs_once = refl
 
 -- ---- a sound program that asks the host for a word and for the time
 
 abbrev asking_method : Method
-asking_method = method_with 9 (codes "verify") (bytes ∷ []) (Some bytes) (body
+asking_method = method_with 9 (codes "verify") (byte_array ∷ []) (Some byte_array) (body
     (op 42 ∷ method 182 object (codes "hashCode") [] (Some int) ∷ op 87 ∷ method 184 (class_type (lang_name (codes "System"))) (codes "nanoTime") [] (Some long) ∷ op 88 ∷ op 42 ∷ op 176 ∷ []) [] [])
 
 abbrev asking : List Class

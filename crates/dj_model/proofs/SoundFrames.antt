@@ -23,7 +23,7 @@ use Rattle.dj_model.specs.trusted.Numbers.{same_kind, is_wide, is_long}
 use Rattle.dj_model.specs.trusted.Values.{in_slots}
 use Rattle.dj_model.specs.trusted.Initialisation.{padded, locals_for, new_frame}
 use Rattle.dj_model.specs.trusted.Kinds.{Signature, Kinds, signature_of, depth, entry_slots, fitting, Entries, form_entries, stack_of, Placed, Map, Read, Faulty, NoMap, and_then, with_fitting, with_frame, frames_after, frames_in, parameter_entries, map_of, placed_at}
-use Rattle.dj_model.specs.trusted.Shape.{locals_flow, locals_flow_to, flows_into, flows_to, flows_to_frame, is_handler_frame, state_before, after, first_kinds, covers, Holds}
+use Rattle.dj_model.specs.trusted.Shape.{locals_flow, locals_flow_to, flows_into, flows_to, flows_to_frame, is_handler_frame, state_before, after, first_kinds, covers, HoldsAt}
 use Rattle.dj_model.specs.Shape.{AllHold, HasShape}
 use Rattle.dj_model.specs.Sound.{is_linked, IsCode, IsBody, IsSoundCode, IsSoundBody, IsSound}
 use Rattle.dj_model.specs.Standing.{LocalsHave, HasKinds, IsAmong, IsAt, IsReady}
@@ -187,7 +187,7 @@ code_is program m method code there body =
 
 -- the code of a sound program: each instruction holds
 pub record IsHeld (program : Program) (prefix : Prefix) (signature : Signature) (code : Code) (placed : List Placed) : Type 0 where
-  pub holds : (number : ℕ) → number < length code.instructions → Holds signature code placed number
+  pub holds : (number : ℕ) → number < length code.instructions → HoldsAt signature code placed number
   pub formed : IsCode code
   pub linked : IsTrue (list_all (is_linked program prefix) code.instructions)
 
@@ -392,7 +392,7 @@ begins_ready program prefix is m method code signature placed there body describ
       k : IsHeld program prefix signature code placed
       k = held program prefix is m method code signature placed there body described map_is
 
-      h : Holds signature code placed 0
+      h : HoldsAt signature code placed 0
       h = k.holds 0 k.formed.some
 
       have : LocalsHave (padded code.max_locals (in_slots is_long args)) (padded code.max_locals (in_slots is_wide signature.parameters))

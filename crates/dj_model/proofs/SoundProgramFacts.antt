@@ -22,11 +22,11 @@ use Rattle.dj_model.specs.NativeKinds.{native_signature}
 use Rattle.dj_model.specs.trusted.Values.{moved}
 use Rattle.dj_model.specs.trusted.Kinds.{frames_after}
 use Rattle.dj_model.specs.trusted.Shape.{after, state_before}
-use Rattle.dj_model.specs.Sound.{Ends, top, below, IsCode, IsClass, IsSoundClass, IsSound, is_linked}
+use Rattle.dj_model.specs.Sound.{ReachesTop, top, below, IsCode, IsClass, IsSoundClass, IsSound, is_linked}
 use Rattle.dj_model.specs.trusted.Natives.{Word, Nanos, Millis}
 use Rattle.dj_model.specs.Runs.{metered_run}
 use Rattle.dj_model.specs.Standing.{result_of, IsUnanswered, AsksNothing, RunStands, IsEntry}
-use Rattle.dj_model.specs.SmallRuns.{op, jump, iinc, class, construct, method, a_class, a_type, method_with, plain_constructor, class_with, field_with, catch_all, catch, bytes, entry}
+use Rattle.dj_model.specs.SmallRuns.{op, jump, iinc, class, construct, method, a_class, a_type, method_with, plain_constructor, class_with, field_with, catch_all, catch, byte_array, entry}
 use Rattle.dj_model.proofs.SoundPrograms.{sound_test, sound_from, code_test}
 use Rattle.dj_model.proofs.SoundRuns.{metered_stands}
 use Rattle.dj_model.proofs.QuietLibraries.{quiet_all, to_asks, metered_asks_nothing}
@@ -45,7 +45,7 @@ abbrev loop_frames : List Frame
 loop_frames = frame 6 (forms.Append (types.Integer ∷ [])) ∷ frame 10 forms.Same ∷ frame 12 (forms.Full (types.Object 1 ∷ []) (types.Object 2 ∷ [])) ∷ []
 
 abbrev verify : Body → Method
-verify code = method_with 9 (codes "verify") (bytes ∷ []) (Some bytes) code
+verify code = method_with 9 (codes "verify") (byte_array ∷ []) (Some byte_array) code
 
 abbrev a_of : List Range → Class
 a_of ranges = record (class_with a_class [] (verify (body loop ranges loop_frames) ∷ [])) { interfaces = codes "I" ∷ [] }
@@ -145,7 +145,7 @@ two_methods program is = let no = is.methods in absurd cc
 abbrev circle : Program
 circle = record (empty (codes "C")) { superclass = Some (codes "C") } ∷ []
 
-never_ends : (name : Name) → name ≡ codes "C" → Ends circle name → ⊥
+never_ends : (name : Name) → name ≡ codes "C" → ReachesTop circle name → ⊥
 never_ends name is (top class c at none) =
     let there : Some (record (empty (codes "C")) { superclass = Some (codes "C") }) ≡ Some c = subst (λ (n : Name). class_at circle n ≡ Some c) is at in
     let same : Some (codes "C") ≡ c.superclass = cc in let no : Some (codes "C") ≡ None = same ∙ none in absurd cc
@@ -154,7 +154,7 @@ never_ends name is (below class above c at next more) =
     let same : Some (codes "C") ≡ c.superclass = cc in let up : Some (codes "C") ≡ Some above = same ∙ next in
     let name_is : above ≡ codes "C" = cc in never_ends above name_is more
 
-missing_above : Ends (record (empty (codes "C")) { superclass = Some (codes "D") } ∷ []) (codes "D") → ⊥
+missing_above : ReachesTop (record (empty (codes "C")) { superclass = Some (codes "D") } ∷ []) (codes "D") → ⊥
 missing_above (top class c at none) = absurd cc
 missing_above (below class above c at next more) = absurd cc
 

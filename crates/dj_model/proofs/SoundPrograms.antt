@@ -19,10 +19,10 @@ use Rattle.dj_model.specs.Laws.{LibrariesAreSound}
 use Rattle.dj_model.specs.trusted.Numbers.{same_kind, is_wide}
 use Rattle.dj_model.specs.trusted.Values.{in_slots}
 use Rattle.dj_model.specs.trusted.Kinds.{Signature, signature_of, Placed, Map, Read, Faulty, NoMap, map_of}
-use Rattle.dj_model.specs.trusted.Shape.{Holds}
+use Rattle.dj_model.specs.trusted.Shape.{HoldsAt}
 use Rattle.dj_model.specs.Shape.{HasShape, AllHold}
 use Rattle.dj_model.specs.NativeKinds.{native_signature}
-use Rattle.dj_model.specs.Sound.{names_rise, fields_differ, methods_differ, Ends, top as ends_top, below as ends_below, IsCode, IsBody, IsClass, is_linked, is_caught, IsSoundCode, IsSoundBody, is_sound_field, is_interface_name, is_object_or_none, IsSoundClass, IsSound}
+use Rattle.dj_model.specs.Sound.{names_rise, fields_differ, methods_differ, ReachesTop, top as ends_top, below as ends_below, IsCode, IsBody, IsClass, is_linked, is_caught, IsSoundCode, IsSoundBody, is_sound_field, is_interface_name, is_object_or_none, IsSoundClass, IsSound}
 use Rattle.dj_model.proofs.Shapes.{holds_test, holds_from_test}
 use Rattle.dj_model.proofs.SoundLinks.{both_parts}
 use Rattle.dj_model.proofs.SoundFrames.{all_at, flow_stack}
@@ -76,13 +76,13 @@ hold_test signature code placed zero = true
 hold_test signature code placed (suc n) = holds_test signature code placed n && hold_test signature code placed n
 
 hold_from : (signature : Signature) (code : Code) (placed : List Placed) (count : ℕ) → hold_test signature code placed count ≡ true
-    → (number : ℕ) → number < count → Holds signature code placed number
+    → (number : ℕ) → number < count → HoldsAt signature code placed number
 hold_from signature code placed zero e number lt = absurd (omega (arith, lt))
 hold_from signature code placed (suc n) e number lt =
     let p = both_parts (holds_test signature code placed n) (hold_test signature code placed n) e in
     elim (cases_lt number n) [
       | inl under ↦ hold_from signature code placed n p.1 number under
-      | inr last ↦ let same : n ≡ number = omega (arith, lt, last) in subst (Holds signature code placed) same (holds_from_test signature code placed n p.0)
+      | inr last ↦ let same : n ≡ number = omega (arith, lt, last) in subst (HoldsAt signature code placed) same (holds_from_test signature code placed n p.0)
     ]
 
 abbrev pub map_test : Signature → Code → Map → Bool
@@ -162,17 +162,17 @@ ends_in zero program class = false
 ends_in (suc n) program None = true
 ends_in (suc n) program (Some class) = is_some (class_at program class) && ends_in n program (superclass_of (class_at program class))
 
-ends_from : (n : ℕ) (program : Program) (class : Name) → ends_in n program (Some class) ≡ true → Ends program class
+ends_from : (n : ℕ) (program : Program) (class : Name) → ends_in n program (Some class) ≡ true → ReachesTop program class
 ends_from zero program class e = absurd cc
 ends_from (suc n) program class e =
     by (λ above. ends_from n program above) (class_at program class) refl (both_parts (is_some (class_at program class)) (ends_in n program (superclass_of (class_at program class))) e) where
-      at_super : ((above : Name) → ends_in n program (Some above) ≡ true → Ends program above) → (c : Class) → class_at program class ≡ Some c → (above : Option Name) → c.superclass ≡ above
-          → ends_in n program above ≡ true → Ends program class
+      at_super : ((above : Name) → ends_in n program (Some above) ≡ true → ReachesTop program above) → (c : Class) → class_at program class ≡ Some c → (above : Option Name) → c.superclass ≡ above
+          → ends_in n program above ≡ true → ReachesTop program class
       at_super more c is None top e = ends_top class c is top
       at_super more c is (Some above) next e = ends_below class above c is next (more above e)
 
-      by : ((above : Name) → ends_in n program (Some above) ≡ true → Ends program above) → (c : Option Class) → class_at program class ≡ c
-          → (is_some (class_at program class) ≡ true) × (ends_in n program (superclass_of (class_at program class)) ≡ true) → Ends program class
+      by : ((above : Name) → ends_in n program (Some above) ≡ true → ReachesTop program above) → (c : Option Class) → class_at program class ≡ c
+          → (is_some (class_at program class) ≡ true) × (ends_in n program (superclass_of (class_at program class)) ≡ true) → ReachesTop program class
       by more None none p = absurd (let no : is_some {T = Class} None ≡ true = subst (λ (c : Option Class). is_some c ≡ true) none p.0 in cc)
       by more (Some c) some p = at_super more c some c.superclass refl (subst (λ (k : Option Class). ends_in n program (superclass_of k) ≡ true) some p.1)
 

@@ -25,7 +25,7 @@ use Rattle.dj_model.specs.trusted.Effects.{used_class}
 use Rattle.dj_model.specs.trusted.Charging.{Charged, Fine, Over}
 use Rattle.dj_model.specs.Charging.{charge_all}
 use Rattle.dj_model.specs.trusted.Initialisation.{most_frames, Initialised, Ready, Waits, Fails, then_ready, constants_of, mark_all, not_initialised, initialiser_frames, with_frames, initialise, new_frame}
-use Rattle.dj_model.specs.trusted.Step.{Answer, Went, Ended, IllFormed, catches, handler_in, handler_of, caught, at_handler, unwound, throw_new, new_exception, new_stop, stop_from, throw_stop_or, called, returned, settle_way, settle, part_of, with_part, frame_with, prepared, done, act, step_of, step}
+use Rattle.dj_model.specs.trusted.Step.{StepAnswer, Went, Ended, IllFormed, catches, handler_in, handler_of, caught, at_handler, unwound, throw_new, new_exception, new_stop, stop_from, throw_stop_or, called, returned, settle_way, settle, part_of, with_part, frame_with, prepared, done, act, step_of, step}
 use Rattle.dj_model.specs.Runs as run
 use Rattle.dj_model.specs.trusted.Runs.{input_array, input_heap, start_state, begun, begin, Ran, Going, Finished, NoStep, one_more, then_steps, steps, from_start, report_of, plain_run}
 use Rattle.dj_model.specs.Runs.{Run, Stuck, amounts, with_paid, top_is_paid, paid_run, pay, answer_run, metered_terms, turn, then_turn, turns, metered_run}
@@ -103,7 +103,7 @@ module _ (program : Program) (prefix : Prefix) (is : IsSound program prefix) whe
   below_stand m [] callers = tt
   below_stand m (g ∷ more) callers = (caller_at m g callers.0, callers.1)
 
-  handler_stands : (t : State) (class : Ty) (exception : ℕ) (f : Frame Declared) (below : List (Frame Declared)) (otherwise : Answer) → Stand (f ∷ below) → AnswerStands program otherwise
+  handler_stands : (t : State) (class : Ty) (exception : ℕ) (f : Frame Declared) (below : List (Frame Declared)) (otherwise : StepAnswer) → Stand (f ∷ below) → AnswerStands program otherwise
       → (handler : Option ℕ) → handler_of program prefix class f.number (code_of program f.method) ≡ handler → AnswerStands program (at_handler prefix t class exception f below handler otherwise)
   handler_stands t class exception f below otherwise k o (Some handler) some = (handled f k.0 class exception handler some, k.1)
   handler_stands t class exception f below otherwise k o None none = either_way (AnswerStands program) (is_initialiser f.method) _ _ tt o
@@ -357,7 +357,7 @@ module _ (program : Program) (prefix : Prefix) (is : IsSound program prefix) whe
     one_more_stands (Finished outcome u m) s = tt
     one_more_stands NoStep s = s
 
-    further : (a : Answer) → step program prefix terms t ≡ a → AnswerStands program a
+    further : (a : StepAnswer) → step program prefix terms t ≡ a → AnswerStands program a
         → ((u : State) → AreStanding program u.frames → RanStands (steps program prefix terms n u) ⊎ StarvesFrom terms u n)
         → RanStands (then_steps (steps program prefix terms n) a) ⊎ StarvesFrom terms t (suc n)
     further IllFormed e s each = absurd s
@@ -382,7 +382,7 @@ module _ (program : Program) (prefix : Prefix) (is : IsSound program prefix) whe
     reported (Finished outcome t n) s = refl
     reported NoStep s = absurd s
 
-    by : (a : Answer) → begin program prefix terms entry input answers ≡ a → AnswerStands program a
+    by : (a : StepAnswer) → begin program prefix terms entry input answers ≡ a → AnswerStands program a
         → IsSome (report_of answers most (from_start (steps program prefix terms most) a)) ⊎ Starves program prefix terms entry input answers most
     by IllFormed is s = absurd s
     by (Ended outcome t) is s = inl refl
@@ -435,7 +435,7 @@ pay_stands : (program : Program) (t : State) (c : Charged) → AreStanding progr
 pay_stands program t (Fine account) k = paid_stand program t.frames k
 pay_stands program t (Over charge account) k = tt
 
-answer_stands : (program : Program) (a : Answer) → AnswerStands program a → RunStands program (answer_run a)
+answer_stands : (program : Program) (a : StepAnswer) → AnswerStands program a → RunStands program (answer_run a)
 answer_stands program (Went t) k = k
 answer_stands program (Ended outcome t) k = tt
 answer_stands program IllFormed k = k
@@ -453,8 +453,8 @@ turn_stands program is most t k =
 
 then_stands : (program : Program) (more : State → Run) → ((t : State) → AreStanding program t.frames → RunStands program (more t)) → (r : Run) → RunStands program r
     → RunStands program (then_turn more r)
-then_stands program more each (run.Goes t) k = each t k
-then_stands program more each (run.Ends outcome costs) k = tt
+then_stands program more each (run.Underway t) k = each t k
+then_stands program more each (run.RunEnds outcome costs) k = tt
 then_stands program more each Stuck k = k
 
 turns_stand : (program : Program) → IsSound program [] → AsksNothing program → (most : Thresholds) (n : ℕ) (t : State) → AreStanding program t.frames

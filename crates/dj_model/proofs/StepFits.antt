@@ -24,7 +24,7 @@ use Rattle.dj_model.specs.Charging.{Amount, then_charge, charge_all}
 use Rattle.dj_model.specs.trusted.Members.{Kept, with_literal}
 use Rattle.dj_model.specs.trusted.Effects.{effect, used_class}
 use Rattle.dj_model.specs.trusted.Initialisation.{most_frames, mark_all, not_initialised, Initialised, Ready, Waits, Fails, then_ready, with_text, with_constant, with_constants, constants_of, initialiser_frames, with_frames, initialise}
-use Rattle.dj_model.specs.trusted.Step.{Answer, Went, Ended, IllFormed, stopped_by, ends_with, handler_of, leaves_frame, at_handler, unwound, throw_new, new_exception, new_stop, stop_from, throw_stop_or, bytes_in, result_outcome, returned, settle_way, settle, with_part, frame_with, part_of, settled, prepared, done, act, step_of, step}
+use Rattle.dj_model.specs.trusted.Step.{StepAnswer, Went, Ended, IllFormed, stopped_by, ends_with, handler_of, leaves_frame, at_handler, unwound, throw_new, new_exception, new_stop, stop_from, throw_stop_or, bytes_in, result_outcome, returned, settle_way, settle, with_part, frame_with, part_of, settled, prepared, done, act, step_of, step}
 use Rattle.dj_model.specs.trusted.Runs as runs
 use Rattle.dj_model.specs.Runs as more_runs
 use Rattle.dj_model.specs.trusted.Runs.{input_array, empty_heap, input_heap, start_state, begun, begin, Ran}
@@ -60,7 +60,7 @@ module _ (program : Program) (prefix : Prefix) (terms : Terms) (b : State) where
   abbrev pub FromHere : State → Type 0
   FromHere t = Grows b.heap t.heap × StaysPaid terms.counting b.account t.account
 
-  abbrev pub AnswerFits : Answer → Type 0
+  abbrev pub AnswerFits : StepAnswer → Type 0
   AnswerFits (Went t) = FromHere t
   AnswerFits (Ended outcome t) = Grows b.heap t.heap × EndPaid terms.counting b.account t.account outcome
   AnswerFits IllFormed = ⊤
@@ -87,11 +87,11 @@ module _ (program : Program) (prefix : Prefix) (terms : Terms) (b : State) where
   ends_fit : (t : State) (class : Ty) (outcome : Outcome) → PlainOutcome outcome → FromHere t → AnswerFits (ends_with prefix t class outcome)
   ends_fit t class outcome plain k = (k.0, ends_paid terms.counting b.account t.account class outcome plain k.1)
 
-  leaves_fit : (t : State) (class : Ty) (exception : ℕ) (f : Frame Declared) (below : Answer) → FromHere t → AnswerFits below
+  leaves_fit : (t : State) (class : Ty) (exception : ℕ) (f : Frame Declared) (below : StepAnswer) → FromHere t → AnswerFits below
       → AnswerFits (leaves_frame prefix t class exception f below)
   leaves_fit t class exception f below k o = either_way AnswerFits (is_initialiser f.method) _ _ (ends_fit t class _ tt k) o
 
-  handled_fit : (t : State) (class : Ty) (exception : ℕ) (f : Frame Declared) (below : List (Frame Declared)) (handler : Option ℕ) (otherwise : Answer) → FromHere t
+  handled_fit : (t : State) (class : Ty) (exception : ℕ) (f : Frame Declared) (below : List (Frame Declared)) (handler : Option ℕ) (otherwise : StepAnswer) → FromHere t
       → AnswerFits otherwise → AnswerFits (at_handler prefix t class exception f below handler otherwise)
   handled_fit t class exception f below None otherwise k o = leaves_fit t class exception f otherwise k o
   handled_fit t class exception f below (Some handler) otherwise k o = k
@@ -262,7 +262,7 @@ module _ (program : Program) (prefix : Prefix) (terms : Terms) (b : State) where
   begun_fit (Waits t) k = k
   begun_fit (Fails outcome t) k = k
 
-  pub to_grows : (a : Answer) → AnswerFits a → AnswerGrows b.heap a
+  pub to_grows : (a : StepAnswer) → AnswerFits a → AnswerGrows b.heap a
   to_grows (Went t) k = k.0
   to_grows (Ended outcome t) k = k.0
   to_grows IllFormed k = tt
@@ -325,7 +325,7 @@ to_within most a outcomes.TooDeep k = k.within
 to_within most a (outcomes.HeapFull used size) k = k.within
 to_within most a (outcomes.OutOfSteps steps) k = k.within
 
-answer_within : (program : Program) (most : Thresholds) (b : State) (answer : Answer) → AnswerFits program [] (metered_terms most) b answer → IsPaid most b.account
+answer_within : (program : Program) (most : Thresholds) (b : State) (answer : StepAnswer) → AnswerFits program [] (metered_terms most) b answer → IsPaid most b.account
     → RunWithin most b.account.costs (answer_run answer)
 answer_within program most b (Went t) k paid = k.1 paid
 answer_within program most b (Ended outcome t) k paid = let now = k.1 paid in (to_within most t.account outcome now.0, now.1)
@@ -343,14 +343,14 @@ turn_within program most s paid = either_way (RunWithin most s.account.costs) (t
     (pay_within most s (charge_all most (amounts program [] s) s.account) (all_fit most (amounts program [] s) s.account paid))
 
 later_within : (most : Thresholds) (c d : Costs) (r : Run) → IsLess c d → RunWithin most d r → RunWithin most c r
-later_within most c d (more_runs.Goes s) less k = (k.0, less_then c d s.account.costs less k.1)
-later_within most c d (more_runs.Ends outcome e) less k = (k.0, less_then c d e less k.1)
+later_within most c d (more_runs.Underway s) less k = (k.0, less_then c d s.account.costs less k.1)
+later_within most c d (more_runs.RunEnds outcome e) less k = (k.0, less_then c d e less k.1)
 later_within most c d Stuck less k = tt
 
 mutual_within : (most : Thresholds) (c : Costs) (more : State → Run) → ((s : State) → IsPaid most s.account → RunWithin most s.account.costs (more s)) → (r : Run) → RunWithin most c r
     → RunWithin most c (then_turn more r)
-mutual_within most c more each (more_runs.Goes s) k = later_within most c s.account.costs (more s) k.1 (each s k.0)
-mutual_within most c more each (more_runs.Ends outcome d) k = k
+mutual_within most c more each (more_runs.Underway s) k = later_within most c s.account.costs (more s) k.1 (each s k.0)
+mutual_within most c more each (more_runs.RunEnds outcome d) k = k
 mutual_within most c more each Stuck k = tt
 
 turns_within : (program : Program) (most : Thresholds) (n : ℕ) (s : State) → IsPaid most s.account → RunWithin most s.account.costs (turns program most n s)
@@ -369,7 +369,7 @@ runs_within program entry input most n =
 
 -- ---- runs whose charges the accounter counts
 
-reported_answer : (program : Program) (prefix : Prefix) (limit : Option ℕ) (most : Thresholds) (b : State) (answer : Answer)
+reported_answer : (program : Program) (prefix : Prefix) (limit : Option ℕ) (most : Thresholds) (b : State) (answer : StepAnswer)
     → AnswerFits program prefix (accounted_terms limit most) b answer → IsReported most b.account → AnswerReported most b.account.costs answer
 reported_answer program prefix limit most b (Went t) k reported = k.1 reported
 reported_answer program prefix limit most b (Ended outcome t) k reported = k.1 reported
@@ -397,7 +397,7 @@ one_reported most (runs.Going s) k = k
 one_reported most (runs.Finished outcome s n) k = k
 one_reported most runs.NoStep k = k
 
-then_reported : (most : Thresholds) (before : Costs) (more : State → Ran) → ((t : State) → IsReported most t.account → RanReported most (more t)) → (answer : Answer)
+then_reported : (most : Thresholds) (before : Costs) (more : State → Ran) → ((t : State) → IsReported most t.account → RanReported most (more t)) → (answer : StepAnswer)
     → AnswerReported most before answer → RanReported most (runs.then_steps more answer)
 then_reported most before more each (Went t) k = one_reported most (more t) (each t k.0)
 then_reported most before more each (Ended outcome t) k = (k.0, k.2)
@@ -411,7 +411,7 @@ steps_reported program prefix limit most (suc n) s reported =
     then_reported most s.account.costs (runs.steps program prefix (accounted_terms limit most) n) (steps_reported program prefix limit most n)
     (step program prefix (accounted_terms limit most) s) (step_reported program prefix limit most s reported)
 
-start_reported : (most : Thresholds) (before : Costs) (more : State → Ran) → ((t : State) → IsReported most t.account → RanReported most (more t)) → (answer : Answer)
+start_reported : (most : Thresholds) (before : Costs) (more : State → Ran) → ((t : State) → IsReported most t.account → RanReported most (more t)) → (answer : StepAnswer)
     → AnswerReported most before answer → RanReported most (runs.from_start more answer)
 start_reported most before more each (Went t) k = each t k.0
 start_reported most before more each (Ended outcome t) k = (k.0, k.2)

@@ -31,11 +31,11 @@ use Rattle.dj_model.specs.trusted.Effects.{effect, used_class}
 use Rattle.dj_model.specs.Effects.{pays}
 use Rattle.dj_model.specs.Mapping.{IsNameMap, same_names_map, AreApart, KeepsStop, answer_map, report_map}
 use Rattle.dj_model.specs.trusted.Initialisation.{most_frames, is_initialised, mark, not_initialised, initialiser_frames}
-use Rattle.dj_model.specs.trusted.Step.{Answer, Went, Ended, IllFormed, step}
+use Rattle.dj_model.specs.trusted.Step.{StepAnswer, Went, Ended, IllFormed, step}
 use Rattle.dj_model.specs.trusted.Charging.{Charged, Fine, Over, no_costs}
 use Rattle.dj_model.specs.Charging.{charge_all}
 use Rattle.dj_model.specs.trusted.Runs.{begin, empty_heap, plain_run}
-use Rattle.dj_model.specs.Runs.{RunsTo, Run, Goes, Ends, Stuck, amounts, with_paid, top_is_paid, answer_run, metered_terms, turn, metered_run}
+use Rattle.dj_model.specs.Runs.{RunsTo, Run, Underway, RunEnds, Stuck, amounts, with_paid, top_is_paid, answer_run, metered_terms, turn, metered_run}
 use Rattle.dj_model.specs.trusted.Kinds.{Signature, Kinds}
 use Rattle.dj_model.specs.trusted.Shape.{IsShapeFault, after}
 use Rattle.dj_model.specs.Shape.{HasShape}
@@ -89,7 +89,7 @@ SandboxHasNames = IsNameMap in_sandbox [] sandbox_prefix
 
 -- ---- frames and ends
 
-abbrev pub AnswerFew : Answer → Type 0
+abbrev pub AnswerFew : StepAnswer → Type 0
 AnswerFew (Went s) = length s.frames ≤ most_frames
 AnswerFew (Ended outcome s) = ⊤
 AnswerFew IllFormed = ⊤
@@ -166,7 +166,7 @@ pub record Grows (before after : Heap Ty) : Type 0 where
 abbrev pub IsSum : Heap Ty → Type 0
 IsSum heap = heap.used ≡ sizes_of heap.objects
 
-abbrev pub AnswerGrows : Heap Ty → Answer → Type 0
+abbrev pub AnswerGrows : Heap Ty → StepAnswer → Type 0
 AnswerGrows heap (Went t) = Grows heap t.heap
 AnswerGrows heap (Ended outcome t) = Grows heap t.heap
 AnswerGrows heap IllFormed = ⊤
@@ -218,8 +218,8 @@ pub record IsPaid (most : Thresholds) (a : Account) : Type 0 where
   pub within : IsWithin most a.costs
 
 abbrev pub RunWithin : Thresholds → Costs → Run → Type 0
-RunWithin most before (Goes s) = IsPaid most s.account × IsLess before s.account.costs
-RunWithin most before (Ends outcome c) = IsEndWithin most c outcome × IsLess before c
+RunWithin most before (Underway s) = IsPaid most s.account × IsLess before s.account.costs
+RunWithin most before (RunEnds outcome c) = IsEndWithin most c outcome × IsLess before c
 RunWithin most before Stuck = ⊤
 
 -- the sums are within their thresholds where nothing was exceeded, and else the one that was exceeded is above its own, and no other
@@ -242,7 +242,7 @@ IsEndReported exceeded outcomes.TooDeep = ⊤
 IsEndReported exceeded (outcomes.HeapFull used size) = ⊤
 IsEndReported exceeded (outcomes.OutOfSteps steps) = ⊤
 
-abbrev pub AnswerReported : Thresholds → Costs → Answer → Type 0
+abbrev pub AnswerReported : Thresholds → Costs → StepAnswer → Type 0
 AnswerReported most before (Went t) = IsReported most t.account × IsLess before t.account.costs
 AnswerReported most before (Ended outcome t) = IsReported most t.account × IsLess before t.account.costs × IsEndReported t.account.exceeded outcome
 AnswerReported most before IllFormed = ⊤
@@ -285,12 +285,12 @@ IsOverBy (Over charge account) outcome c = (outcome ≡ outcomes.Stopped charge)
 
 -- the charges of the next instruction are added, and nothing else happens but that the top frame is paid; or one passes its threshold, and ends the run
 abbrev pub RunPays : State → Charged → Run → Type 0
-RunPays s charged (Goes t) = (charged ≡ Fine t.account) × (t ≡ record s { account = t.account; frames = with_paid s.frames })
-RunPays s charged (Ends outcome c) = IsOverBy charged outcome c
+RunPays s charged (Underway t) = (charged ≡ Fine t.account) × (t ≡ record s { account = t.account; frames = with_paid s.frames })
+RunPays s charged (RunEnds outcome c) = IsOverBy charged outcome c
 RunPays s charged Stuck = ⊥
 
 -- after a step the top frame isn't paid; but where an initialiser has returned, what its caller paid stays paid
-abbrev pub AnswerClears : Frame Declared → List (Frame Declared) → Answer → Type 0
+abbrev pub AnswerClears : Frame Declared → List (Frame Declared) → StepAnswer → Type 0
 AnswerClears top below (Went t) = IsFalse (top_is_paid t.frames) ⊎ (IsTrue (is_initialiser top.method) × (t.frames ≡ below))
 AnswerClears top below (Ended outcome t) = ⊤
 AnswerClears top below IllFormed = ⊤

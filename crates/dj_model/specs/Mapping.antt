@@ -13,7 +13,7 @@ use Rattle.dj_model.specs.trusted.State.{Counting, Uncounted, Metered, Accounted
 use Rattle.dj_model.specs.State.{state_map}
 use Rattle.dj_model.specs.trusted.Natives.{plain_name}
 use Rattle.dj_model.specs.trusted.Initialisation.{Initialised, Ready, Waits, Fails}
-use Rattle.dj_model.specs.trusted.Step.{Answer, Went, Ended, IllFormed}
+use Rattle.dj_model.specs.trusted.Step.{StepAnswer, Went, Ended, IllFormed}
 use Rattle.dj_model.specs.trusted.Runs.{Report}
 
 -- different names have different images; those of the library's classes get another prefix; and names without their prefix are the same
@@ -54,7 +54,7 @@ initialised_map f (Ready s) = Ready (state_map f s)
 initialised_map f (Waits s) = Waits (state_map f s)
 initialised_map f (Fails outcome s) = Fails (outcome_map f outcome) (state_map f s)
 
-abbrev pub answer_map : (Name → Name) → Answer → Answer
+abbrev pub answer_map : (Name → Name) → StepAnswer → StepAnswer
 answer_map f (Went s) = Went (state_map f s)
 answer_map f (Ended outcome s) = Ended (outcome_map f outcome) (state_map f s)
 answer_map f IllFormed = IllFormed

@@ -13,7 +13,7 @@ use Rattle.dj_model.specs.trusted.State.{Terms, Metered, Frame, State, instructi
 use Rattle.dj_model.specs.trusted.Charging.{Charged, Fine, Over}
 use Rattle.dj_model.specs.Charging.{Amount, charge_all}
 use Rattle.dj_model.specs.Effects.{pays}
-use Rattle.dj_model.specs.trusted.Step.{Answer, Went, Ended, IllFormed, step}
+use Rattle.dj_model.specs.trusted.Step.{StepAnswer, Went, Ended, IllFormed, step}
 use Rattle.dj_model.specs.trusted.Runs.{begin}
 
 -- ---- the charges of the next instruction
@@ -44,9 +44,9 @@ amounts program prefix s = frame_amounts program prefix s.frames
 
 pub data Run : Type 0 where
   -- the run goes on in this state
-  Goes : State → Run
+  Underway : State → Run
   -- the run has ended with this outcome, at these costs
-  Ends : Outcome → Costs → Run
+  RunEnds : Outcome → Costs → Run
   -- no turn can be made: the program isn't sound
   Stuck : Run
 
@@ -59,16 +59,16 @@ top_is_paid [] = true
 top_is_paid (f ∷ below) = f.paid
 
 abbrev pub paid_run : State → Charged → Run
-paid_run s (Fine account) = Goes (record s { account = account; frames = with_paid s.frames })
-paid_run s (Over charge account) = Ends (outcomes.Stopped charge) account.costs
+paid_run s (Fine account) = Underway (record s { account = account; frames = with_paid s.frames })
+paid_run s (Over charge account) = RunEnds (outcomes.Stopped charge) account.costs
 
 -- the charges of the next instruction are added
 abbrev pub pay : Program → Thresholds → State → Run
 pay program most s = paid_run s (charge_all most (amounts program [] s) s.account)
 
-abbrev pub answer_run : Answer → Run
-answer_run (Went s) = Goes s
-answer_run (Ended outcome s) = Ends outcome s.account.costs
+abbrev pub answer_run : StepAnswer → Run
+answer_run (Went s) = Underway s
+answer_run (Ended outcome s) = RunEnds outcome s.account.costs
 answer_run IllFormed = Stuck
 
 -- the heap of a metered run has no limit
@@ -80,13 +80,13 @@ unfoldable pub turn : Program → Thresholds → State → Run
 turn program most s = if top_is_paid s.frames then answer_run (step program [] (metered_terms most) s) else pay program most s
 
 abbrev pub then_turn : (State → Run) → Run → Run
-then_turn more (Goes s) = more s
-then_turn more (Ends outcome costs) = Ends outcome costs
+then_turn more (Underway s) = more s
+then_turn more (RunEnds outcome costs) = RunEnds outcome costs
 then_turn more Stuck = Stuck
 
 -- n turns, or fewer where the run ends before
 unfoldable pub turns : Program → Thresholds → ℕ → State → Run
-turns program most zero s = Goes s
+turns program most zero s = Underway s
 turns program most (suc n) s = then_turn (turns program most n) (turn program most s)
 
 -- the run of the entry on the input, after n turns
@@ -95,4 +95,4 @@ metered_run program entry input most n = then_turn (turns program most n) (answe
 
 -- the run ends with this outcome, at these costs
 abbrev pub RunsTo : Program → Declared → List ℕ → Thresholds → Outcome → Costs → Type 0
-RunsTo program entry input most outcome costs = (n : ℕ) × (metered_run program entry input most n ≡ Ends outcome costs)
+RunsTo program entry input most outcome costs = (n : ℕ) × (metered_run program entry input most n ≡ RunEnds outcome costs)

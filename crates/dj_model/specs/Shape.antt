@@ -2,12 +2,12 @@
 use Rattle.std.specs.Prelude.{ℕ, ◌<◌, length}
 use Rattle.dj_model.specs.trusted.Program.{Code}
 use Rattle.dj_model.specs.trusted.Kinds.{Signature, Map, Read, Faulty, NoMap, map_of}
-use Rattle.dj_model.specs.trusted.Shape.{ParametersFit, Holds}
+use Rattle.dj_model.specs.trusted.Shape.{ParametersFit, HoldsAt}
 
 -- ---- shape
 
 abbrev pub AllHold : Signature → Code → Map → Type 0
-AllHold signature code (Read placed) = (number : ℕ) → number < length code.instructions → Holds signature code placed number
+AllHold signature code (Read placed) = (number : ℕ) → number < length code.instructions → HoldsAt signature code placed number
 AllHold signature code (Faulty at) = ⊥
 AllHold signature code NoMap = ⊥
 

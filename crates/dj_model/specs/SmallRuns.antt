@@ -55,20 +55,20 @@ newarray base = instruction_of (instrs.Array base) Nothing
 abbrev pub class : ℕ → Ty → Instruction
 class n ty = instruction_of (instrs.Class n 7) (AClass ty)
 
-abbrev pub member : Ty → Name → Desc → Member
-member ty name desc = record { class = ty; name = name; desc = desc }
+abbrev pub member_named : Ty → Name → Desc → Member
+member_named ty name desc = record { class = ty; name = name; desc = desc }
 
 abbrev pub method_desc : List Ty → Option Ty → Desc
 method_desc params ret = descs.Method params ret
 
 abbrev pub field : ℕ → Ty → Name → Ty → Instruction
-field n ty name of = instruction_of (instrs.Member n 7) (AField (member ty name (descs.Field of)))
+field n ty name of = instruction_of (instrs.Member n 7) (AField (member_named ty name (descs.Field of)))
 
 abbrev pub method : ℕ → Ty → Name → List Ty → Option Ty → Instruction
-method n ty name params ret = instruction_of (instrs.Member n 7) (AMethod (member ty name (method_desc params ret)))
+method n ty name params ret = instruction_of (instrs.Member n 7) (AMethod (member_named ty name (method_desc params ret)))
 
 abbrev pub invokeinterface : ℕ → Ty → Name → List Ty → Option Ty → Instruction
-invokeinterface count ty name params ret = instruction_of (instrs.Interface 7 count) (AnInterfaceMethod (member ty name (method_desc params ret)))
+invokeinterface count ty name params ret = instruction_of (instrs.Interface 7 count) (AnInterfaceMethod (member_named ty name (method_desc params ret)))
 
 -- invokespecial of a constructor
 abbrev pub construct : Ty → List Ty → Instruction
@@ -76,8 +76,8 @@ construct ty params = method 183 ty (codes "<init>") params None
 
 -- ---- programs
 
-abbrev pub bytes : Ty
-bytes = base_array bases.Byte
+abbrev pub byte_array : Ty
+byte_array = base_array bases.Byte
 
 abbrev pub a_class : Name
 a_class = codes "A"
@@ -85,11 +85,11 @@ a_class = codes "A"
 abbrev pub a_type : Ty
 a_type = class_type a_class
 
-abbrev pub entry_of : Name → Declared
-entry_of name = record { class = name; name = codes "verify"; desc = method_desc (bytes ∷ []) (Some bytes) }
+abbrev pub verify_of : Name → Declared
+verify_of name = record { class = name; name = codes "verify"; desc = method_desc (byte_array ∷ []) (Some byte_array) }
 
 abbrev pub entry : Declared
-entry = entry_of a_class
+entry = verify_of a_class
 
 -- stack maps aside, which a run doesn't read
 abbrev pub code : List Instruction → List Range → Body
@@ -99,7 +99,7 @@ abbrev pub method_with : ℕ → Name → List Ty → Option Ty → Body → Met
 method_with flags name params ret body = record { flags = flags; name = name; desc = method_desc params ret; body = body }
 
 abbrev pub verify_with : List Instruction → List Range → Method
-verify_with instructions ranges = method_with 9 (codes "verify") (bytes ∷ []) (Some bytes) (code instructions ranges)
+verify_with instructions ranges = method_with 9 (codes "verify") (byte_array ∷ []) (Some byte_array) (code instructions ranges)
 
 abbrev pub initialiser_with : List Instruction → Method
 initialiser_with instructions = method_with 8 (codes "<clinit>") [] None (code instructions [])
@@ -240,7 +240,7 @@ pub record WorkedMetered : Type 0 where
   pub stopped : Meters (stopped_class ∷ []) [] (at_most 67108864 1000000 2 1000000) (outcomes.Stopped charges.Jump) (costs 0 1 3 0)
   pub again : Meters (again_class ∷ []) [] (at_most 67108864 1000000 1000000 5) (outcomes.Stopped charges.Throw) (costs 0 0 0 6)
   pub hash : Meters (hash_class ∷ []) [] usual (outcomes.OkBytes (3 ∷ [])) (costs 56 3 0 0)
-  pub literal : RunsTo (metered_program (literal_class ∷ [])) (entry_of (codes "a/B")) [] usual (outcomes.OkBytes (3 ∷ [])) (costs 24 1 0 0)
+  pub literal : RunsTo (metered_program (literal_class ∷ [])) (verify_of (codes "a/B")) [] usual (outcomes.OkBytes (3 ∷ [])) (costs 24 1 0 0)
   -- with an initialiser that returns, and with one that throws null
   pub initialised : Meters (new_class ∷ c_class (op 177 ∷ []) ∷ []) (1 ∷ []) usual (outcomes.OkBytes (1 ∷ [])) (costs 16 2 0 0)
   pub failed : Meters (new_class ∷ c_class (op 1 ∷ op 191 ∷ []) ∷ []) (1 ∷ []) usual
@@ -248,7 +248,7 @@ pub record WorkedMetered : Type 0 where
   pub deep : Meters (deep_class (pos 3) ∷ []) (1 ∷ []) usual (outcomes.OkBytes (1 ∷ [])) (costs 0 4 4 0)
   pub deepest : Meters (deep_class (pos 1022) ∷ []) (1 ∷ []) usual (outcomes.OkBytes (1 ∷ [])) (costs 0 1023 1023 0)
   pub too_deep : Meters (deep_class (pos 1023) ∷ []) (1 ∷ []) usual outcomes.TooDeep (costs 0 1024 1023 0)
-  pub finally : RunsTo (metered_program (check_class ∷ pay_class ∷ positive_class ∷ [])) (entry_of (codes "a/Pay")) (251 ∷ []) usual
+  pub finally : RunsTo (metered_program (check_class ∷ pay_class ∷ positive_class ∷ [])) (verify_of (codes "a/Pay")) (251 ∷ []) usual
       (outcomes.Threw (lang_name (codes "IllegalArgumentException")) (messages.Text (codes "bad amount -5"))) (costs 208 8 2 3)
   pub wrong : Meters (wrong_class ∷ []) [] usual outcomes.Link (costs 0 1 0 0)
 
@@ -276,7 +276,7 @@ recording_class = record (class_with (in_sandbox a_class) [] (verify_with
 abbrev pub Records : ℕ → Outcome → ℕ → ℕ → Type 0
 Records most outcome jumps steps =
     plain_run (sandbox_program (recording_class ∷ [])) sandbox_prefix (record { limit = Some 1000; counting = Accounted (at_most 100 100 most 100) })
-    (entry_of (in_sandbox a_class)) [] [] 100
+    (verify_of (in_sandbox a_class)) [] [] 100
     ≡ Some (record { outcome = outcome; costs = costs 0 0 jumps 0; steps = steps; taken = 0 })
 
 pub record WorkedPlain : Type 0 where

@@ -37,9 +37,9 @@ methods_differ [] = true
 methods_differ (m ∷ methods) = not (list_any (λ other. is_named m.name m.desc other.name other.desc) methods) && methods_differ methods
 
 -- the superclasses are classes of the program, up to one without a superclass
-pub data Ends (program : Program) : Name → Type 0 where
-  top : (class : Name) (c : Class) → class_at program class ≡ Some c → c.superclass ≡ None → Ends program class
-  below : (class above : Name) (c : Class) → class_at program class ≡ Some c → c.superclass ≡ Some above → Ends program above → Ends program class
+pub data ReachesTop (program : Program) : Name → Type 0 where
+  top : (class : Name) (c : Class) → class_at program class ≡ Some c → c.superclass ≡ None → ReachesTop program class
+  below : (class above : Name) (c : Class) → class_at program class ≡ Some c → c.superclass ≡ Some above → ReachesTop program above → ReachesTop program class
 
 -- JVMS 4.9.1: code isn't empty, and its targets, handlers, ranges and frames are at instructions
 pub record IsCode (code : Code) : Type 0 where
@@ -56,7 +56,7 @@ IsBody body = ⊤
 pub record IsClass (program : Program) (c : Class) : Type 0 where
   pub fields : IsTrue (fields_differ c.fields)
   pub methods : IsTrue (methods_differ c.methods)
-  pub ends : Ends program c.name
+  pub ends : ReachesTop program c.name
   pub codes : (m : Method) → Contains c.methods m → IsBody m.body
 
 pub record IsProgram (program : Program) : Type 0 where

@@ -17,7 +17,7 @@ use Rattle.dj_model.specs.Instructions.{calls}
 use Rattle.dj_model.specs.trusted.State.{Terms, Frame, State, instruction_at, Part, Next, To, Raise, Back, Flow, Goes, Catch, Stop, Call, End, Effect}
 use Rattle.dj_model.specs.trusted.Effects.{effect, used_class}
 use Rattle.dj_model.specs.trusted.Initialisation.{Ready}
-use Rattle.dj_model.specs.trusted.Step.{Answer as StepAnswer, Went, Ended, IllFormed, part_of, prepared}
+use Rattle.dj_model.specs.trusted.Step.{StepAnswer, Went, Ended, IllFormed, part_of, prepared}
 use Rattle.dj_model.specs.Runs as run
 use Rattle.dj_model.specs.trusted.Runs.{begin, Going, from_start, steps}
 use Rattle.dj_model.specs.Runs.{Run}
@@ -203,8 +203,8 @@ AnswerStands program (Ended outcome s) = ⊤
 AnswerStands program IllFormed = ⊥
 
 abbrev pub RunStands : Program → Run → Type 0
-RunStands program (run.Goes s) = AreStanding program s.frames
-RunStands program (run.Ends outcome costs) = ⊤
+RunStands program (run.Underway s) = AreStanding program s.frames
+RunStands program (run.RunEnds outcome costs) = ⊤
 RunStands program run.Stuck = ⊥
 
 -- the entry of a run is a static method with code that takes one reference

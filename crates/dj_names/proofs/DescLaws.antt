@@ -6,7 +6,7 @@ use Rattle.std.proofs.lemmas.List.{append-nil, length-append}
 use Rattle.std.proofs.lemmas.List.Sums.{sum_by-cons}
 use Rattle.std.specs.List.{flat_map, AllByRecursion}
 use Rattle.dj_bytes.specs.trusted.Options.{◌>>=◌}
-use Rattle.dj_bytes.specs.Options.{Fails, Gives}
+use Rattle.dj_bytes.specs.Options.{FailsRead, GivesRead}
 use Rattle.dj_bytes.proofs.Options.{bind_some, some_is, chosen, went_on}
 use Rattle.dj_names.specs.declared.descriptor.Ty.{Ty}
 use Rattle.dj_names.specs.declared.descriptor.Desc.{Desc}
@@ -139,7 +139,7 @@ no_step n s (b ∷ more) other e =
     ap (λ (t : Bool). cond t (Some ([], more)) (type_read (b ∷ more) >>= goes_on n s)) (ne_eqb b 41 other)
     ∙ ap (λ (o : Option (Ty × List ℕ)). o >>= goes_on n s) e
 
-pub read_fails : (e : DescError) (prefix : List Ty) (count i s : ℕ) (bytes : List ℕ) (total : Option (List Ty × List ℕ)) → i < count → (get_or bytes 0 0 ≡ 41 → ⊥) → Fails (is_memory e) (type_read bytes) → with_prefix prefix (params_read (count - i) s bytes) ≡ total → Fails (is_memory e) total
+pub read_fails : (e : DescError) (prefix : List Ty) (count i s : ℕ) (bytes : List ℕ) (total : Option (List Ty × List ℕ)) → i < count → (get_or bytes 0 0 ≡ 41 → ⊥) → FailsRead (is_memory e) (type_read bytes) → with_prefix prefix (params_read (count - i) s bytes) ≡ total → FailsRead (is_memory e) total
 read_fails errors.Memory prefix count i s bytes total lt other h so_far = tt
 read_fails errors.NotADescriptor prefix count i s bytes total lt other h so_far =
     let k : count - i ≡ suc (count - (i + 1)) = omega arith in
@@ -326,11 +326,11 @@ described_once text a b p q = some_is a b (sym (desc_again text a p) ∙ desc_ag
 abbrev none_read : Option Desc
 none_read = None
 
-pub is_described : (text : List ℕ) (r : Result Desc DescError) → Gives is_memory (λ (d : Desc). d) r (desc_read text) → IfOk r (λ d. Describes text d)
+pub is_described : (text : List ℕ) (r : Result Desc DescError) → GivesRead is_memory (λ (d : Desc). d) r (desc_read text) → IfOk r (λ d. Describes text d)
 is_described text (Ok d) given = desc_takes text d given
 is_described text (Err e) given = tt
 
-pub is_refused_rightly : (text : List ℕ) (r : Result Desc DescError) → Gives is_memory (λ (d : Desc). d) r (desc_read text) → IsErrOf r errors.NotADescriptor → (d : Desc) → Describes text d → ⊥
+pub is_refused_rightly : (text : List ℕ) (r : Result Desc DescError) → GivesRead is_memory (λ (d : Desc). d) r (desc_read text) → IsErrOf r errors.NotADescriptor → (d : Desc) → Describes text d → ⊥
 is_refused_rightly text (Ok x) given h d p = absurd cc
 is_refused_rightly text (Err errors.Memory) given h d p = absurd cc
 is_refused_rightly text (Err errors.NotADescriptor) given h d p = let bad : none_read ≡ Some d = sym given ∙ desc_again text d p in absurd cc

@@ -1,8 +1,7 @@
 ghost use Rattle.std.specs.Prelude.{◌≡◌, ℕ, List, [], ◌∷◌, ◌++◌, OnOk, OnErr, IfOk};
 
 use crate::lists::Name;
-use dj_bytes::NoMemory;
-use std::alloc::Global;
+use std::alloc::{AllocError, Global};
 use std::marker::Model;
 
 /// What the machine knows of a value's type.
@@ -66,7 +65,7 @@ impl Tys {
     }
 
     /// Appends a type.
-    pub fn push(&mut self, item: Ty) -> Result<(), NoMemory>
+    pub fn push(&mut self, item: Ty) -> Result<(), AllocError>
         ensures ok { OnOk result (self.new ≡ self.old ++ item ∷ []) }
         ensures err { OnErr result (self.new ≡ self.old) }
     {

@@ -13,7 +13,6 @@ mod unit;
 mod walk;
 
 pub use descriptor::{Base, Desc, Kind, Of, Ty, Tys};
-pub use dj_bytes::NoMemory;
 pub use lists::{Bytes, Name, Units};
 pub use measure::{kind_of, slots};
 pub use name::{is_class_name, is_method_name, is_unqualified_name};

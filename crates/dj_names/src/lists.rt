@@ -1,7 +1,6 @@
 ghost use Rattle.std.specs.Prelude.{◌≡◌, ℕ, List, [], ◌∷◌, ◌++◌, OnOk, OnErr, IfOk};
 
-use dj_bytes::NoMemory;
-use std::alloc::Global;
+use std::alloc::{AllocError, Global};
 use std::marker::Model;
 
 /// The bytes of a name or a text.
@@ -27,7 +26,7 @@ impl Name {
     }
 
     /// A name of these bytes.
-    pub fn from_slice(alloc: Global, items: &[u8]) -> Result<Name, NoMemory>
+    pub fn from_slice(alloc: Global, items: &[u8]) -> Result<Name, AllocError>
         ensures { IfOk result (λ name. name ≡ items.now) }
     {
         let bytes = Vec::from_slice(alloc, items)?;
@@ -35,7 +34,7 @@ impl Name {
     }
 
     /// Appends a byte.
-    pub fn push(&mut self, item: u8) -> Result<(), NoMemory>
+    pub fn push(&mut self, item: u8) -> Result<(), AllocError>
         ensures ok { OnOk result (self.new ≡ self.old ++ item ∷ []) }
         ensures err { OnErr result (self.new ≡ self.old) }
     {
@@ -43,7 +42,7 @@ impl Name {
     }
 
     /// Appends these bytes.
-    pub fn extend(&mut self, items: &[u8]) -> Result<(), NoMemory>
+    pub fn extend(&mut self, items: &[u8]) -> Result<(), AllocError>
         ensures ok { OnOk result (self.new ≡ self.old ++ items.now) }
         ensures err { OnErr result (self.new ≡ self.old) }
     {
@@ -91,7 +90,7 @@ impl Bytes {
     }
 
     /// These bytes.
-    pub fn from_slice(alloc: Global, items: &[u8]) -> Result<Bytes, NoMemory>
+    pub fn from_slice(alloc: Global, items: &[u8]) -> Result<Bytes, AllocError>
         ensures { IfOk result (λ bytes. bytes ≡ items.now) }
     {
         let items = Vec::from_slice(alloc, items)?;
@@ -99,7 +98,7 @@ impl Bytes {
     }
 
     /// Appends a byte.
-    pub fn push(&mut self, item: u8) -> Result<(), NoMemory>
+    pub fn push(&mut self, item: u8) -> Result<(), AllocError>
         ensures ok { OnOk result (self.new ≡ self.old ++ item ∷ []) }
         ensures err { OnErr result (self.new ≡ self.old) }
     {
@@ -107,7 +106,7 @@ impl Bytes {
     }
 
     /// Appends these bytes.
-    pub fn extend(&mut self, items: &[u8]) -> Result<(), NoMemory>
+    pub fn extend(&mut self, items: &[u8]) -> Result<(), AllocError>
         ensures ok { OnOk result (self.new ≡ self.old ++ items.now) }
         ensures err { OnErr result (self.new ≡ self.old) }
     {
@@ -155,7 +154,7 @@ impl Units {
     }
 
     /// These units.
-    pub fn from_slice(alloc: Global, items: &[u16]) -> Result<Units, NoMemory>
+    pub fn from_slice(alloc: Global, items: &[u16]) -> Result<Units, AllocError>
         ensures { IfOk result (λ units. units ≡ items.now) }
     {
         let items = Vec::from_slice(alloc, items)?;
@@ -163,7 +162,7 @@ impl Units {
     }
 
     /// Appends a unit.
-    pub fn push(&mut self, item: u16) -> Result<(), NoMemory>
+    pub fn push(&mut self, item: u16) -> Result<(), AllocError>
         ensures ok { OnOk result (self.new ≡ self.old ++ item ∷ []) }
         ensures err { OnErr result (self.new ≡ self.old) }
     {

@@ -1,5 +1,5 @@
 ghost use Rattle.std.specs.Prelude.{◌≡◌, ◌≢◌, ◌∷◌, ℕ, List, length, slice_index, IfSome, IfNone, IfOk, IsErrOf};
-ghost use Rattle.dj_bytes.specs.Options.{Gives};
+ghost use Rattle.dj_bytes.specs.Options.{GivesRead};
 ghost use Rattle.dj_names.specs.declared.descriptor.Desc.{Desc};
 ghost use Rattle.dj_names.specs.trusted.Descriptors.{Describes};
 ghost use Rattle.dj_names.specs.trusted.DescReading.{type_read, params_read, field_read, return_read, method_read, opens, desc_read};
@@ -8,9 +8,8 @@ ghost use Rattle.dj_names.specs.DescReading.{is_memory, element_of};
 use crate::descriptor::{Desc, Of, Ty, Tys};
 use crate::lists::Name;
 use crate::measure::type_slots_of;
-use crate::walk::{Element, type_at};
-use dj_bytes::NoMemory;
-use std::alloc::Global;
+use crate::walk::{ElementView, type_at};
+use std::alloc::{AllocError, Global};
 use thiserror::Error;
 
 /// Why a descriptor was not read.
@@ -22,12 +21,12 @@ pub enum DescError {
     Memory,
 }
 
-impl From<NoMemory> for DescError {
+impl From<AllocError> for DescError {
     ghost use Rattle.dj_names.specs.declared.read.DescError.TheVariants.{Memory};
 
     ghost from_gives = { λ _ e. e ≡ Memory };
 
-    fn from(_error: NoMemory) -> DescError {
+    fn from(_error: AllocError) -> DescError {
         DescError::Memory
     }
 }
@@ -47,7 +46,7 @@ pub fn one_descriptor()
 
 #[tactic(auto, unfolding(crate::specs::trusted::DescReading::desc_read))]
 fn desc_of(alloc: Global, text: &[u8]) -> Result<Desc, DescError>
-    ensures { Gives is_memory (λ d. d) result (desc_read text.now) }
+    ensures { GivesRead is_memory (λ d. d) result (desc_read text.now) }
 {
     if opens_method(text) {
         let (params, ret) = method_of(alloc, text)?;
@@ -69,7 +68,7 @@ fn opens_method(text: &[u8]) -> bool
 
 #[tactic(auto, unfolding(crate::specs::trusted::DescReading::field_read))]
 fn field_of(alloc: Global, text: &[u8]) -> Result<Ty, DescError>
-    ensures { Gives is_memory (λ ty. ty) result (field_read text.now) }
+    ensures { GivesRead is_memory (λ ty. ty) result (field_read text.now) }
 {
     let (ty, rest) = type_of(alloc, text)?;
     if rest.is_empty() {
@@ -81,7 +80,7 @@ fn field_of(alloc: Global, text: &[u8]) -> Result<Ty, DescError>
 
 #[tactic(auto, unfolding(crate::specs::trusted::DescReading::method_read))]
 fn method_of(alloc: Global, text: &[u8]) -> Result<(Tys, Option<Ty>), DescError>
-    ensures { Gives is_memory (λ m. m) result (method_read text.now) }
+    ensures { GivesRead is_memory (λ m. m) result (method_read text.now) }
 {
     match text {
         [] => Err(DescError::NotADescriptor),
@@ -98,7 +97,7 @@ fn method_of(alloc: Global, text: &[u8]) -> Result<(Tys, Option<Ty>), DescError>
 
 #[tactic(auto, unfolding(crate::specs::trusted::DescReading::return_read))]
 fn return_of(alloc: Global, text: &[u8]) -> Result<Option<Ty>, DescError>
-    ensures { Gives is_memory (λ ret. ret) result (return_read text.now) }
+    ensures { GivesRead is_memory (λ ret. ret) result (return_read text.now) }
 {
     match text {
         [] => Err(DescError::NotADescriptor),
@@ -118,7 +117,7 @@ fn return_of(alloc: Global, text: &[u8]) -> Result<Option<Ty>, DescError>
 /// The parameters up to their closing parenthesis, and the bytes after it.
 #[tactic(auto, unfolding(crate::specs::trusted::DescReading::params_read))]
 fn params_of(alloc: Global, bytes: &[u8]) -> Result<(Tys, &[u8]), DescError>
-    ensures { Gives is_memory (λ x. (x.0, x.1.now)) result (params_read (length bytes.now) 0 bytes.now) }
+    ensures { GivesRead is_memory (λ x. (x.0, x.1.now)) result (params_read (length bytes.now) 0 bytes.now) }
 {
     let mut params = Tys::new(alloc);
     let mut slots: u16 = 0;
@@ -151,7 +150,7 @@ fn after_close(bytes: &[u8]) -> Option<&[u8]>
 
 /// The type at the front, and the bytes after it.
 fn type_of(alloc: Global, bytes: &[u8]) -> Result<(Ty, &[u8]), DescError>
-    ensures { Gives is_memory (λ x. (x.0, x.1.now)) result (type_read bytes.now) }
+    ensures { GivesRead is_memory (λ x. (x.0, x.1.now)) result (type_read bytes.now) }
 {
     match type_at(bytes) {
         None => Err(DescError::NotADescriptor),
@@ -162,11 +161,11 @@ fn type_of(alloc: Global, bytes: &[u8]) -> Result<(Ty, &[u8]), DescError>
     }
 }
 
-fn owned(alloc: Global, element: Element<'_>) -> Result<Of, NoMemory>
+fn owned(alloc: Global, element: ElementView<'_>) -> Result<Of, AllocError>
     ensures { IfOk result (λ of. of ≡ element_of element.entry) }
 {
     match element {
-        Element::Base(base) => Ok(Of::Base(base)),
-        Element::Class(name) => Ok(Of::Class(Name::from_slice(alloc, name)?)),
+        ElementView::Base(base) => Ok(Of::Base(base)),
+        ElementView::Class(name) => Ok(Of::Class(Name::from_slice(alloc, name)?)),
     }
 }

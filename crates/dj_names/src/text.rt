@@ -5,8 +5,7 @@ ghost use Rattle.dj_names.specs.Tests.{modified_utf8_test};
 
 use crate::lists::Units;
 use crate::unit::unit_at;
-use dj_bytes::NoMemory;
-use std::alloc::Global;
+use std::alloc::{AllocError, Global};
 use thiserror::Error;
 
 /// Why a text has no units.
@@ -19,12 +18,12 @@ pub enum TextError {
     Memory,
 }
 
-impl From<NoMemory> for TextError {
+impl From<AllocError> for TextError {
     ghost use Rattle.dj_names.specs.declared.text.TextError.TheVariants.{Memory};
 
     ghost from_gives = { λ _ e. e ≡ Memory };
 
-    fn from(_error: NoMemory) -> TextError {
+    fn from(_error: AllocError) -> TextError {
         TextError::Memory
     }
 }

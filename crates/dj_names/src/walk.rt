@@ -9,7 +9,7 @@ use crate::name::names_class;
 
 /// What a type or an array's element is, and where it is in the text.
 #[derive(Clone, Copy)]
-pub enum Element<'a> {
+pub enum ElementView<'a> {
     Base(Base),
     Class(&'a [u8]),
 }
@@ -124,21 +124,21 @@ fn after_params(bytes: &[u8]) -> Option<&[u8]>
 }
 
 /// The slots of a type.
-fn slots_at(dims: u8, element: Element<'_>) -> u16
+fn slots_at(dims: u8, element: ElementView<'_>) -> u16
     ensures { result ≡ type_slots (record { dims = dims; of = element_of element.entry }) }
 {
     if dims != 0 {
         return 1;
     }
     match element {
-        Element::Base(Base::Long | Base::Double) => 2,
+        ElementView::Base(Base::Long | Base::Double) => 2,
         _ => 1,
     }
 }
 
 /// The type at the front, and the bytes after it.
 #[tactic(auto, unfolding(crate::specs::trusted::DescReading::type_read))]
-pub fn type_at(bytes: &[u8]) -> Option<(u8, Element<'_>, &[u8])>
+pub fn type_at(bytes: &[u8]) -> Option<(u8, ElementView<'_>, &[u8])>
     ensures { option_map (λ x. (record { dims = x.0; of = element_of x.1 }, x.2.now)) result ≡ type_read bytes.now }
 {
     match dims_at(bytes) {
@@ -171,7 +171,7 @@ fn dims_at(bytes: &[u8]) -> Option<(u8, &[u8])>
 }
 
 #[tactic(auto, unfolding(crate::specs::trusted::DescReading::of_read))]
-fn element_at(bytes: &[u8]) -> Option<(Element<'_>, &[u8])>
+fn element_at(bytes: &[u8]) -> Option<(ElementView<'_>, &[u8])>
     ensures { option_map (λ x. (element_of x.0, x.1.now)) result ≡ of_read bytes.now }
 {
     match bytes {
@@ -181,7 +181,7 @@ fn element_at(bytes: &[u8]) -> Option<(Element<'_>, &[u8])>
                 return class_at(after);
             }
             match base_of(*first) {
-                Some(base) => Some((Element::Base(base), after)),
+                Some(base) => Some((ElementView::Base(base), after)),
                 None => None,
             }
         }
@@ -205,14 +205,14 @@ fn base_of(letter: u8) -> Option<Base>
 }
 
 #[tactic(auto, unfolding(crate::specs::trusted::DescReading::class_read))]
-fn class_at(bytes: &[u8]) -> Option<(Element<'_>, &[u8])>
+fn class_at(bytes: &[u8]) -> Option<(ElementView<'_>, &[u8])>
     ensures { option_map (λ x. (element_of x.0, x.1.now)) result ≡ class_read bytes.now }
 {
     match name_at(bytes) {
         None => None,
         Some((name, after)) => {
             if names_class(name) {
-                Some((Element::Class(name), after))
+                Some((ElementView::Class(name), after))
             } else {
                 None
             }

@@ -6,6 +6,5 @@ mod library;
 mod lists;
 
 pub use classes::Classes;
-pub use dj_names::NoMemory;
 pub use library::{LibClass, LibMethod};
 pub use lists::{LibMethods, Library, Names};

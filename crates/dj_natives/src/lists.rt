@@ -1,8 +1,8 @@
 ghost use Rattle.std.specs.Prelude.{◌≡◌, [], ◌∷◌, ◌++◌, OnOk, OnErr};
 
 use crate::library::{LibClass, LibMethod};
-use dj_names::{Name, NoMemory};
-use std::alloc::Global;
+use dj_names::Name;
+use std::alloc::{AllocError, Global};
 use std::marker::Model;
 
 /// Names, in order.
@@ -30,7 +30,7 @@ impl Names {
     }
 
     /// Appends a name.
-    pub fn push(&mut self, item: Name) -> Result<(), NoMemory>
+    pub fn push(&mut self, item: Name) -> Result<(), AllocError>
         ensures ok { OnOk result (self.new ≡ self.old ++ item ∷ []) }
         ensures err { OnErr result (self.new ≡ self.old) }
     {
@@ -71,7 +71,7 @@ impl LibMethods {
     }
 
     /// Appends a method.
-    pub fn push(&mut self, item: LibMethod) -> Result<(), NoMemory>
+    pub fn push(&mut self, item: LibMethod) -> Result<(), AllocError>
         ensures ok { OnOk result (self.new ≡ self.old ++ item ∷ []) }
         ensures err { OnErr result (self.new ≡ self.old) }
     {
@@ -112,7 +112,7 @@ impl Library {
     }
 
     /// Appends a class.
-    pub fn push(&mut self, item: LibClass) -> Result<(), NoMemory>
+    pub fn push(&mut self, item: LibClass) -> Result<(), AllocError>
         ensures ok { OnOk result (self.new ≡ self.old ++ item ∷ []) }
         ensures err { OnErr result (self.new ≡ self.old) }
     {

@@ -10,7 +10,7 @@ use Rattle.dj_bytes.proofs.Spans.{Spans, Spans-stay, step_again}
 use Rattle.dj_bytes.proofs.Numbers.{u1_reads, u2_reads}
 use Rattle.dj_ops.specs.declared.instruction.Instr.{Instr}
 use Rattle.dj_ops.specs.declared.instruction.Instr.TheVariants as instrs
-use Rattle.dj_ops.specs.trusted.Forms.{Form, Bare, SignedByte, SignedShort, ShortLiteral, LongLiteral, Slot, SlotAndByte, ShortOffset, LongOffset, MemberIndex, InterfaceIndex, DynamicIndex, ClassIndex, ArrayType, MultiIndex, TableSwitch, LookupSwitch, WidePrefix, Reserved, form_of}
+use Rattle.dj_ops.specs.trusted.Forms.{OperandForm, Bare, SignedByte, SignedShort, ShortLiteral, LongLiteral, Slot, SlotAndByte, ShortOffset, LongOffset, MemberIndex, InterfaceIndex, DynamicIndex, ClassIndex, ArrayType, MultiIndex, TableSwitch, LookupSwitch, WidePrefix, Reserved, form_of}
 use Rattle.dj_ops.specs.trusted.Instructions.{signed_bytes, IsPushed, IsOffset, literal_bytes, IsLiteral, IsProper, offset, high_of, target_bytes, pair_bytes, SpellsInstruction}
 use Rattle.dj_ops.specs.Reading.{cut, byte_push_at, short_push_at, short_literal_at, long_literal_at, local_at, increment_at, target, short_branch_at, long_branch_at, member_at, class_at, interface_at, dynamic_at, array_at, multi_at, wide_local_at, wide_increment_at, wide_form_at, wide_at, operands_at, instr_at}
 use Rattle.dj_ops.proofs.Parts.{both_reads, s1_reads, s2_reads, s4_reads, made_again, checked_again}
@@ -24,30 +24,30 @@ use Rattle.dj_ops.proofs.FormFacts.{opcode_below, increment_form, interface_form
 abbrev ReadsBack : ℕ → Instr → List ℕ → Type 0
 ReadsBack at instr text = (c next : Cursor) → c.place ≡ at → Spans c text next → instr_at c ≡ Ok (instr, next)
 
-not_reserved : {form : Form} {op : ℕ} → form_of op ≡ form → (form ≡ Reserved → ⊥) → op < 256
+not_reserved : {form : OperandForm} {op : ℕ} → form_of op ≡ form → (form ≡ Reserved → ⊥) → op < 256
 not_reserved {form} {op} e other = opcode_below op (λ r. other (sym e ∙ r))
 
 -- an opcode, and what follows it
-by_form : (form : Form) (at op : ℕ) (instr : Instr) (text : List ℕ) → form_of op ≡ form → (form ≡ Reserved → ⊥)
+by_form : (form : OperandForm) (at op : ℕ) (instr : Instr) (text : List ℕ) → form_of op ≡ form → (form ≡ Reserved → ⊥)
     → ((c next : Cursor) → Spans c text next → operands_at form at op c ≡ Ok (instr, next)) → ReadsBack at instr (op ∷ text)
 unfolding instr_at
 by_form form at op instr text f other again c next here spans =
     let o = step_again (u1_reads cut) c op text next (not_reserved f other) spans in
     let read : operands_at form c.place op o.0 ≡ Ok (instr, next) = subst (λ (a : ℕ). operands_at form a op o.0 ≡ Ok (instr, next)) (sym here) (again o.0 next o.2) in
-    bind_again _ o.1 (subst (λ (g : Form). operands_at g c.place op o.0 ≡ Ok (instr, next)) (sym f) read)
+    bind_again _ o.1 (subst (λ (g : OperandForm). operands_at g c.place op o.0 ≡ Ok (instr, next)) (sym f) read)
 
 -- ---- by families
 
 simple_back : (at op : ℕ) → form_of op ≡ Bare → ReadsBack at (instrs.Simple op) (op ∷ [])
 simple_back at op f = by_form Bare at op (instrs.Simple op) [] f (λ d. cc) (λ c next s. ap (λ (m : Cursor). Ok (instrs.Simple op, m)) (Spans-stay s))
 
-push_back : (form : Form) (at op : ℕ) (z : ℤ) → form_of op ≡ form → IsPushed form z → ReadsBack at (instrs.Push op z) (op ∷ signed_bytes form z)
+push_back : (form : OperandForm) (at op : ℕ) (z : ℤ) → form_of op ≡ form → IsPushed form z → ReadsBack at (instrs.Push op z) (op ∷ signed_bytes form z)
 unfolding byte_push_at short_push_at
 push_back SignedByte at op z f good = by_form SignedByte at op _ _ f (λ d. cc) (λ c next s. made_again s1_reads (instrs.Push op) z c next good s)
 push_back SignedShort at op z f good = by_form SignedShort at op _ _ f (λ d. cc) (λ c next s. made_again s2_reads (instrs.Push op) z c next good s)
 push_back _ at op z f good = absurd good
 
-literal_back : (form : Form) (at op index : ℕ) → form_of op ≡ form → IsLiteral form index → ReadsBack at (instrs.Literal op index) (op ∷ literal_bytes form index)
+literal_back : (form : OperandForm) (at op index : ℕ) → form_of op ≡ form → IsLiteral form index → ReadsBack at (instrs.Literal op index) (op ∷ literal_bytes form index)
 unfolding short_literal_at long_literal_at
 literal_back ShortLiteral at op index f good = by_form ShortLiteral at op _ _ f (λ d. cc) (λ c next s. made_again (u1_reads cut) (instrs.Literal op) index c next good s)
 literal_back LongLiteral at op index f good = by_form LongLiteral at op _ _ f (λ d. cc) (λ c next s. made_again (u2_reads cut) (instrs.Literal op) index c next good s)
@@ -62,7 +62,7 @@ unfolding increment_at
 increment_back at slot by p q =
     by_form SlotAndByte at 132 _ _ increment_form (λ d. cc) (λ c next s. made_again (both_reads (u1_reads cut) s1_reads) (λ v. instrs.Inc v.0 v.1 false) (slot, by) c next (p, q) s)
 
-branch_back : (form : Form) (at op : ℕ) (t : ℤ) → form_of op ≡ form → IsOffset form (offset at t) → ReadsBack at (instrs.Branch op t) (op ∷ signed_bytes form (offset at t))
+branch_back : (form : OperandForm) (at op : ℕ) (t : ℤ) → form_of op ≡ form → IsOffset form (offset at t) → ReadsBack at (instrs.Branch op t) (op ∷ signed_bytes form (offset at t))
 unfolding short_branch_at long_branch_at
 branch_back ShortOffset at op t f good =
     by_form ShortOffset at op _ _ f (λ d. cc)
@@ -109,14 +109,14 @@ multi_back at index dims p some q =
 
 -- ---- wide
 
-wide_back : (form : Form) (at op : ℕ) (instr : Instr) (text : List ℕ) → form_of op ≡ form → (form ≡ Reserved → ⊥)
+wide_back : (form : OperandForm) (at op : ℕ) (instr : Instr) (text : List ℕ) → form_of op ≡ form → (form ≡ Reserved → ⊥)
     → ((c next : Cursor) → Spans c text next → wide_form_at form op c ≡ Ok (instr, next)) → ReadsBack at instr (196 ∷ (op ∷ text))
 unfolding wide_at
 wide_back form at op instr text f other again =
     by_form WidePrefix at 196 instr (op ∷ text) wide_form (λ d. cc)
     (λ c next s.
     let o = step_again (u1_reads cut) c op text next (not_reserved f other) s in
-    bind_again _ o.1 (subst (λ (g : Form). wide_form_at g op o.0 ≡ Ok (instr, next)) (sym f) (again o.0 next o.2)))
+    bind_again _ o.1 (subst (λ (g : OperandForm). wide_form_at g op o.0 ≡ Ok (instr, next)) (sym f) (again o.0 next o.2)))
 
 wide_local_back : (at op slot : ℕ) → form_of op ≡ Slot → slot < 2 ^ 16 → ReadsBack at (instrs.Local op slot true) (196 ∷ op ∷ u2 slot)
 unfolding wide_local_at

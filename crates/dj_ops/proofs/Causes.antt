@@ -11,7 +11,7 @@ use Rattle.dj_ops.specs.declared.instruction.Instr.{Instr}
 use Rattle.dj_ops.specs.declared.instruction.Instr.TheVariants as instrs
 use Rattle.dj_ops.specs.declared.read.OpError.{OpError}
 use Rattle.dj_ops.specs.declared.read.OpError.TheVariants as errors
-use Rattle.dj_ops.specs.trusted.Forms.{Form, Slot, SlotAndByte, WidePrefix, form_of}
+use Rattle.dj_ops.specs.trusted.Forms.{OperandForm, Slot, SlotAndByte, WidePrefix, form_of}
 use Rattle.dj_ops.specs.trusted.Instructions.{IsArrayType}
 use Rattle.dj_ops.specs.Refusals.{wide_count, Lacks, HasWideForm, IsBad}
 use Rattle.dj_ops.specs.Reading.{cut, both, byte_push_at, short_push_at, short_literal_at, long_literal_at, local_at, increment_at, target, short_branch_at, long_branch_at, member_at, class_at, index_and_two_at, interface_at, dynamic_at, array_at, multi_at, wide_local_at, wide_increment_at, wide_form_at, wide_at}
@@ -220,18 +220,18 @@ multi_short c lt = checked_short multi_fixed (λ v. ltb 0 v.1) (λ v. instrs.Mul
 
 -- ---- wide
 
-wide_form_fails : (form : Form) (P : OpError → Type 0) (op : ℕ) (c : Cursor) (e : OpError) → (length c.rest < wide_count form → P errors.Cut) → ((HasWideForm form → ⊥) → P errors.BadOperand)
+wide_form_fails : (form : OperandForm) (P : OpError → Type 0) (op : ℕ) (c : Cursor) (e : OpError) → (length c.rest < wide_count form → P errors.Cut) → ((HasWideForm form → ⊥) → P errors.BadOperand)
     → wide_form_at form op c ≡ Err e → P e
 wide_form_fails Slot P op c e lacks bad h = fixed_fails (wide_local_fixed op) P c e lacks h
 wide_form_fails SlotAndByte P op c e lacks bad h = fixed_fails wide_increment_fixed P c e lacks h
 wide_form_fails _ P op c e lacks bad h = subst P (err_is {A = Instr × Cursor} {d = errors.BadOperand} h) (bad (λ has. elim has [ inl d ↦ cc | inr d ↦ cc ]))
 
-wide_form_short : (form : Form) (op : ℕ) (c : Cursor) → length c.rest < wide_count form → wide_form_at form op c ≡ Err errors.Cut
+wide_form_short : (form : OperandForm) (op : ℕ) (c : Cursor) → length c.rest < wide_count form → wide_form_at form op c ≡ Err errors.Cut
 wide_form_short Slot op c lt = (wide_local_fixed op).short c lt
 wide_form_short SlotAndByte op c lt = wide_increment_fixed.short c lt
 wide_form_short _ op c lt = absurd (omega (arith, lt))
 
-wide_form_bad : (form : Form) (op : ℕ) (c : Cursor) → (HasWideForm form → ⊥) → wide_form_at form op c ≡ Err errors.BadOperand
+wide_form_bad : (form : OperandForm) (op : ℕ) (c : Cursor) → (HasWideForm form → ⊥) → wide_form_at form op c ≡ Err errors.BadOperand
 wide_form_bad Slot op c none = absurd (none (inl refl))
 wide_form_bad SlotAndByte op c none = absurd (none (inr refl))
 wide_form_bad _ op c none = refl

@@ -9,7 +9,7 @@ use Rattle.dj_bytes.proofs.Spans.{Spans, Spans-none, Spans-then, Reads, step_tak
 use Rattle.dj_bytes.proofs.Numbers.{u1_reads, u2_reads}
 use Rattle.dj_ops.specs.declared.instruction.Instr.{Instr}
 use Rattle.dj_ops.specs.declared.instruction.Instr.TheVariants as instrs
-use Rattle.dj_ops.specs.trusted.Forms.{Form, Bare, SignedByte, SignedShort, ShortLiteral, LongLiteral, Slot, SlotAndByte, ShortOffset, LongOffset, MemberIndex, ClassIndex, form_of}
+use Rattle.dj_ops.specs.trusted.Forms.{OperandForm, Bare, SignedByte, SignedShort, ShortLiteral, LongLiteral, Slot, SlotAndByte, ShortOffset, LongOffset, MemberIndex, ClassIndex, form_of}
 use Rattle.dj_ops.specs.trusted.Instructions.{signed_bytes, IsPushed, IsOffset, literal_bytes, IsLiteral, IsProper, offset, SpellsInstruction}
 use Rattle.dj_ops.specs.Reading.{cut, byte_push_at, short_push_at, short_literal_at, long_literal_at, local_at, increment_at, target, short_branch_at, long_branch_at, member_at, class_at, index_and_two_at, interface_at, dynamic_at, array_at, multi_at, wide_local_at, wide_increment_at, wide_form_at, wide_at, operands_at}
 use Rattle.dj_ops.proofs.Parts.{both_reads, s1_reads, s2_reads, s4_reads, Taken, made_taken, checked_taken}
@@ -36,8 +36,8 @@ unfolding byte_push_at
 byte_push_taken at op c x f =
     made_taken s1_reads (instrs.Push op) at op
     (λ z good. (
-      record { padding = []; padded = refl; offsets = tt; are = ap (λ (g : Form). op ∷ signed_bytes g z) (sym f) },
-      subst (λ (g : Form). IsPushed g z) (sym f) good,
+      record { padding = []; padded = refl; offsets = tt; are = ap (λ (g : OperandForm). op ∷ signed_bytes g z) (sym f) },
+      subst (λ (g : OperandForm). IsPushed g z) (sym f) good,
     )) c x
 
 pub short_push_taken : (at op : ℕ) (c : Cursor) (x : Instr × Cursor) → form_of op ≡ SignedShort → IsBytes c.rest → short_push_at op c ≡ Ok x → Taken at op c x
@@ -45,8 +45,8 @@ unfolding short_push_at
 short_push_taken at op c x f =
     made_taken s2_reads (instrs.Push op) at op
     (λ z good. (
-      record { padding = []; padded = refl; offsets = tt; are = ap (λ (g : Form). op ∷ signed_bytes g z) (sym f) },
-      subst (λ (g : Form). IsPushed g z) (sym f) good,
+      record { padding = []; padded = refl; offsets = tt; are = ap (λ (g : OperandForm). op ∷ signed_bytes g z) (sym f) },
+      subst (λ (g : OperandForm). IsPushed g z) (sym f) good,
     )) c x
 
 pub short_literal_taken : (at op : ℕ) (c : Cursor) (x : Instr × Cursor) → form_of op ≡ ShortLiteral → IsBytes c.rest → short_literal_at op c ≡ Ok x → Taken at op c x
@@ -54,8 +54,8 @@ unfolding short_literal_at
 short_literal_taken at op c x f =
     made_taken (u1_reads cut) (instrs.Literal op) at op
     (λ n good. (
-      record { padding = []; padded = refl; offsets = tt; are = ap (λ (g : Form). op ∷ literal_bytes g n) (sym f) },
-      subst (λ (g : Form). IsLiteral g n) (sym f) good,
+      record { padding = []; padded = refl; offsets = tt; are = ap (λ (g : OperandForm). op ∷ literal_bytes g n) (sym f) },
+      subst (λ (g : OperandForm). IsLiteral g n) (sym f) good,
     )) c x
 
 pub long_literal_taken : (at op : ℕ) (c : Cursor) (x : Instr × Cursor) → form_of op ≡ LongLiteral → IsBytes c.rest → long_literal_at op c ≡ Ok x → Taken at op c x
@@ -63,8 +63,8 @@ unfolding long_literal_at
 long_literal_taken at op c x f =
     made_taken (u2_reads cut) (instrs.Literal op) at op
     (λ n good. (
-      record { padding = []; padded = refl; offsets = tt; are = ap (λ (g : Form). op ∷ literal_bytes g n) (sym f) },
-      subst (λ (g : Form). IsLiteral g n) (sym f) good,
+      record { padding = []; padded = refl; offsets = tt; are = ap (λ (g : OperandForm). op ∷ literal_bytes g n) (sym f) },
+      subst (λ (g : OperandForm). IsLiteral g n) (sym f) good,
     )) c x
 
 pub local_taken : (at op : ℕ) (c : Cursor) (x : Instr × Cursor) → form_of op ≡ Slot → IsBytes c.rest → local_at op c ≡ Ok x → Taken at op c x
@@ -99,12 +99,12 @@ offset_of_target at z = omega (arith, ints)
 pub target_of_offset : (at : ℕ) (t : ℤ) → target at (offset at t) ≡ t
 target_of_offset at t = omega (arith, ints)
 
-branch_spells : (form : Form) (at op : ℕ) (z : ℤ) → form_of op ≡ form → IsOffset form z → SpellsInstruction at (instrs.Branch op (target at z)) (op ∷ signed_bytes form z)
+branch_spells : (form : OperandForm) (at op : ℕ) (z : ℤ) → form_of op ≡ form → IsOffset form z → SpellsInstruction at (instrs.Branch op (target at z)) (op ∷ signed_bytes form z)
 branch_spells form at op z f good = record {
   padding = [];
   padded = refl;
-  offsets = subst (λ (g : Form). IsOffset g (offset at (target at z))) (sym f) (subst (IsOffset form) (sym (offset_of_target at z)) good);
-  are = ap₂ (λ (g : Form) (o : ℤ). op ∷ signed_bytes g o) (sym f) (sym (offset_of_target at z));
+  offsets = subst (λ (g : OperandForm). IsOffset g (offset at (target at z))) (sym f) (subst (IsOffset form) (sym (offset_of_target at z)) good);
+  are = ap₂ (λ (g : OperandForm) (o : ℤ). op ∷ signed_bytes g o) (sym f) (sym (offset_of_target at z));
 }
 
 pub short_branch_taken : (at op : ℕ) (c : Cursor) (x : Instr × Cursor) → form_of op ≡ ShortOffset → IsBytes c.rest → short_branch_at at op c ≡ Ok x → Taken at op c x
@@ -191,7 +191,7 @@ wide_increment_taken at c x fits e =
     subst (λ (y : Instr × Cursor). WideTaken at 132 c y) made
     (record { text = u2 a.value.0 ++ s2 a.value.1; spans = a.spans; spelled = record { padding = []; padded = refl; offsets = tt; are = refl }; proper = a.good })
 
-wide_form_taken : (form : Form) (at op : ℕ) (c : Cursor) (x : Instr × Cursor) → form_of op ≡ form → op < 256 → IsBytes c.rest → wide_form_at form op c ≡ Ok x → WideTaken at op c x
+wide_form_taken : (form : OperandForm) (at op : ℕ) (c : Cursor) (x : Instr × Cursor) → form_of op ≡ form → op < 256 → IsBytes c.rest → wide_form_at form op c ≡ Ok x → WideTaken at op c x
 wide_form_taken Slot at op c x f lt fits e = wide_local_taken at op c x f fits e
 wide_form_taken SlotAndByte at op c x f lt fits e = subst (λ (k : ℕ). WideTaken at k c x) (sym (increment_alone op lt f)) (wide_increment_taken at c x fits e)
 wide_form_taken _ at op c x f lt fits e = absurd cc

@@ -3,10 +3,10 @@ use Rattle.std.proofs.Common.{◌≡◌, ℕ, ◌<◌, ◌≤◌, ◌⊎◌, ◌
 use Rattle.std.specs.List.{AllByRecursion}
 use Rattle.std.proofs.lemmas.Bool.{agree_below, agree_below_at, cases_lt, eqb-true, eq-eqb, cond-true, le-leb, lt-ltb, ltb-true}
 use Rattle.dj_ops.specs.trusted.Instructions.{IsOffset}
-use Rattle.dj_ops.specs.trusted.Forms.{Form, Bare, SignedByte, SignedShort, ShortLiteral, LongLiteral, Slot, SlotAndByte, ShortOffset, LongOffset, MemberIndex, InterfaceIndex, DynamicIndex, ClassIndex, ArrayType, MultiIndex, TableSwitch, LookupSwitch, WidePrefix, Reserved, form_rows, form_in, form_of}
+use Rattle.dj_ops.specs.trusted.Forms.{OperandForm, Bare, SignedByte, SignedShort, ShortLiteral, LongLiteral, Slot, SlotAndByte, ShortOffset, LongOffset, MemberIndex, InterfaceIndex, DynamicIndex, ClassIndex, ArrayType, MultiIndex, TableSwitch, LookupSwitch, WidePrefix, Reserved, form_rows, form_in, form_of}
 
 -- a number for each form
-abbrev pub number_of : Form → ℕ
+abbrev pub number_of : OperandForm → ℕ
 number_of Bare = 0
 number_of SignedByte = 1
 number_of SignedShort = 2
@@ -31,7 +31,7 @@ number_of Reserved = 18
 abbrev pub IsLone : ℕ → ℕ → Type 0
 IsLone number lone = agree_below (λ op. eqb (number_of (form_of op)) number) (λ op. eqb op lone) 256 ≡ true
 
-pub lone_opcode : (form : Form) (lone op : ℕ) → IsLone (number_of form) lone → op < 256 → form_of op ≡ form → op ≡ lone
+pub lone_opcode : (form : OperandForm) (lone op : ℕ) → IsLone (number_of form) lone → op < 256 → form_of op ≡ form → op ≡ lone
 lone_opcode form lone op table lt e =
     let same : eqb (number_of (form_of op)) (number_of form) ≡ true = eq-eqb _ _ (ap number_of e) in
     eqb-true op lone (sym (agree_below_at (λ op. eqb (number_of (form_of op)) (number_of form)) (λ op. eqb op lone) 256 op table lt) ∙ same)
@@ -108,7 +108,7 @@ reserved_table : agree_below (λ op. eqb (number_of (form_of op)) 18) (λ op. lt
 unfolding form_of
 reserved_table = refl
 
-is_reserved : (form : Form) → eqb (number_of form) 18 ≡ true → form ≡ Reserved
+is_reserved : (form : OperandForm) → eqb (number_of form) 18 ≡ true → form ≡ Reserved
 is_reserved Reserved h = refl
 is_reserved _ h = absurd cc
 
@@ -122,11 +122,11 @@ high_reserved op lt high =
     is_reserved _ (agree_below_at (λ op. eqb (number_of (form_of op)) 18) (λ op. ltb 202 op) 256 op reserved_table lt ∙ lt-ltb 202 op (omega arith))
 
 -- the form of the last row
-last_form : Form → List (ℕ × Form) → Form
+last_form : OperandForm → List (ℕ × OperandForm) → OperandForm
 last_form form [] = form
 last_form form (row ∷ rows) = last_form row.1 rows
 
-past_all : (form : Form) (rows : List (ℕ × Form)) (op : ℕ) → AllByRecursion (λ row. row.0 ≤ op) rows → form_in form rows op ≡ last_form form rows
+past_all : (form : OperandForm) (rows : List (ℕ × OperandForm)) (op : ℕ) → AllByRecursion (λ row. row.0 ≤ op) rows → form_in form rows op ≡ last_form form rows
 unfolding last_form
 past_all form [] op below = refl
 past_all form (row ∷ rows) op below = cond-true (nat_le row.0 op) _ _ (le-leb _ _ below.0) ∙ past_all row.1 rows op below.1
@@ -165,7 +165,7 @@ long_above : (op : ℕ) → op < 256 → form_of op ≡ LongOffset → 199 < op
 long_above op lt e =
     ltb-true 199 op (and_right _ _ (sym (agree_below_at (λ op. eqb (number_of (form_of op)) 8) (λ op. eqb (number_of (form_of op)) 8 && ltb 199 op) 256 op long_table lt) ∙ eq-eqb _ _ (ap number_of e)))
 
-offset_forms : (form : Form) (z : ℤ) → IsOffset form z → (form ≡ ShortOffset) ⊎ (form ≡ LongOffset)
+offset_forms : (form : OperandForm) (z : ℤ) → IsOffset form z → (form ≡ ShortOffset) ⊎ (form ≡ LongOffset)
 offset_forms ShortOffset z h = inl refl
 offset_forms LongOffset z h = inr refl
 offset_forms _ z h = absurd h

@@ -2,19 +2,19 @@
 use Rattle.std.specs.Prelude.{◌≡◌, ℕ, ◌+◌, ◌-◌, List, [], ◌∷◌, Some, None, map}
 use Rattle.std.specs.List.{flat_map, range_with_len}
 use Rattle.std.proofs.Common.{refl}
-use Rattle.dj_ops.specs.trusted.Forms.{Form, Bare, SignedByte, SignedShort, ShortLiteral, LongLiteral, Slot, SlotAndByte, ShortOffset, LongOffset, MemberIndex, InterfaceIndex, DynamicIndex, ClassIndex, ArrayType, MultiIndex, TableSwitch, LookupSwitch, WidePrefix, Reserved, form_of}
+use Rattle.dj_ops.specs.trusted.Forms.{OperandForm, Bare, SignedByte, SignedShort, ShortLiteral, LongLiteral, Slot, SlotAndByte, ShortOffset, LongOffset, MemberIndex, InterfaceIndex, DynamicIndex, ClassIndex, ArrayType, MultiIndex, TableSwitch, LookupSwitch, WidePrefix, Reserved, form_of}
 use Rattle.dj_ops.specs.Forms.{operand_count}
 
 -- opcodes side by side that have the same operands
 pub record Group : Type 0 where
   pub first : ℕ
   pub last : ℕ
-  pub form : Form
+  pub form : OperandForm
 
-abbrev pub group : ℕ → ℕ → Form → Group
+abbrev pub group : ℕ → ℕ → OperandForm → Group
 group first last form = record { first = first; last = last; form = form }
 
-abbrev pub members : Group → List (ℕ × Form)
+abbrev pub members : Group → List (ℕ × OperandForm)
 members g = map (λ op. (op, g.form)) (range_with_len g.first (g.last - g.first + 1))
 
 abbrev pub groups : List Group

@@ -1,9 +1,9 @@
 -- Beside trusted/Forms.antt: what no clause of the call `djvm` reaches.
 use Rattle.std.specs.Prelude.{ℕ, Option, Some, None}
-use Rattle.dj_ops.specs.trusted.Forms.{Form, Bare, SignedByte, SignedShort, ShortLiteral, LongLiteral, Slot, SlotAndByte, ShortOffset, LongOffset, MemberIndex, InterfaceIndex, DynamicIndex, ClassIndex, ArrayType, MultiIndex, TableSwitch, LookupSwitch, WidePrefix, Reserved}
+use Rattle.dj_ops.specs.trusted.Forms.{OperandForm, Bare, SignedByte, SignedShort, ShortLiteral, LongLiteral, Slot, SlotAndByte, ShortOffset, LongOffset, MemberIndex, InterfaceIndex, DynamicIndex, ClassIndex, ArrayType, MultiIndex, TableSwitch, LookupSwitch, WidePrefix, Reserved}
 
 -- how many bytes of operands follow, where the opcode alone decides it
-abbrev pub operand_count : Form → Option ℕ
+abbrev pub operand_count : OperandForm → Option ℕ
 operand_count Bare = Some 0
 operand_count SignedByte = Some 1
 operand_count SignedShort = Some 2

@@ -7,7 +7,7 @@ use Rattle.dj_ops.specs.declared.instruction.Instr.{Instr}
 use Rattle.dj_ops.specs.declared.instruction.Instr.TheVariants as instrs
 use Rattle.dj_ops.specs.declared.read.OpError.{OpError}
 use Rattle.dj_ops.specs.declared.read.OpError.TheVariants as errors
-use Rattle.dj_ops.specs.trusted.Forms.{Form, Bare, SignedByte, SignedShort, ShortLiteral, LongLiteral, Slot, SlotAndByte, ShortOffset, LongOffset, MemberIndex, InterfaceIndex, DynamicIndex, ClassIndex, ArrayType, MultiIndex, TableSwitch, LookupSwitch, WidePrefix, Reserved, form_of}
+use Rattle.dj_ops.specs.trusted.Forms.{OperandForm, Bare, SignedByte, SignedShort, ShortLiteral, LongLiteral, Slot, SlotAndByte, ShortOffset, LongOffset, MemberIndex, InterfaceIndex, DynamicIndex, ClassIndex, ArrayType, MultiIndex, TableSwitch, LookupSwitch, WidePrefix, Reserved, form_of}
 use Rattle.dj_ops.specs.trusted.Instructions.{padding_count}
 use Rattle.dj_ops.specs.trusted.Lookups.{rises}
 
@@ -112,7 +112,7 @@ wide_local_at op c = made (λ slot. instrs.Local op slot true) (u2_at cut) c
 unfoldable pub wide_increment_at : Cursor → Result (Instr × Cursor) OpError
 wide_increment_at c = made (λ v. instrs.Inc v.0 v.1 true) (both (u2_at cut) s2_at) c
 
-abbrev pub wide_form_at : Form → ℕ → Cursor → Result (Instr × Cursor) OpError
+abbrev pub wide_form_at : OperandForm → ℕ → Cursor → Result (Instr × Cursor) OpError
 wide_form_at Slot op c = wide_local_at op c
 wide_form_at SlotAndByte op c = wide_increment_at c
 wide_form_at _ op c = Err errors.BadOperand
@@ -159,7 +159,7 @@ padded_at at part c = do
 -- ---- whole instructions
 
 -- what follows an opcode of this form at this address
-abbrev pub operands_at : Form → ℕ → ℕ → Cursor → Result (Instr × Cursor) OpError
+abbrev pub operands_at : OperandForm → ℕ → ℕ → Cursor → Result (Instr × Cursor) OpError
 operands_at Bare at op c = Ok (instrs.Simple op, c)
 operands_at SignedByte at op c = byte_push_at op c
 operands_at SignedShort at op c = short_push_at op c

@@ -6,7 +6,7 @@ use Rattle.dj_bytes.specs.trusted.Spelling.{s4}
 use Rattle.dj_ops.specs.declared.instruction.Instr.{Instr}
 use Rattle.dj_ops.specs.declared.read.OpError.{OpError}
 use Rattle.dj_ops.specs.declared.read.OpError.TheVariants as errors
-use Rattle.dj_ops.specs.trusted.Forms.{Form, Slot, SlotAndByte, InterfaceIndex, DynamicIndex, ArrayType, MultiIndex, TableSwitch, LookupSwitch, WidePrefix, form_of}
+use Rattle.dj_ops.specs.trusted.Forms.{OperandForm, Slot, SlotAndByte, InterfaceIndex, DynamicIndex, ArrayType, MultiIndex, TableSwitch, LookupSwitch, WidePrefix, form_of}
 use Rattle.dj_ops.specs.Forms.{operand_count}
 use Rattle.dj_ops.specs.trusted.Instructions.{IsArrayType, IsFar, pair_bytes, padding_count}
 
@@ -30,7 +30,7 @@ pub record HasCount (fields : List ℕ) (count : ℤ) (pairs : List ℕ) : Type 
 -- ---- Cut: some of the instruction's bytes are not there
 
 -- how many operands are wanted after wide and an opcode of this form
-abbrev pub wide_count : Form → ℕ
+abbrev pub wide_count : OperandForm → ℕ
 wide_count Slot = 2
 wide_count SlotAndByte = 4
 wide_count _ = 0
@@ -52,7 +52,7 @@ pub record LacksPairs (fields : List ℕ) : Type 0 where
   pub short : length pairs < count * 8
 
 -- by the form of the opcode at the address, and what follows it
-abbrev pub Lacks : ℕ → Form → List ℕ → Type 0
+abbrev pub Lacks : ℕ → OperandForm → List ℕ → Type 0
 Lacks at WidePrefix [] = Unit {0}
 Lacks at WidePrefix (op ∷ operands) = length operands < wide_count (form_of op)
 Lacks at TableSwitch operands =
@@ -87,10 +87,10 @@ pub record HasUnsortedPairs (at : ℕ) (fields : List ℕ) : Type 0 where
   pub unsorted : AllPairs (λ a b. a.0 <ℤ b.0) pairs → ⊥
 
 -- wide comes before these alone
-abbrev pub HasWideForm : Form → Type 0
+abbrev pub HasWideForm : OperandForm → Type 0
 HasWideForm form = (form ≡ Slot) ⊎ (form ≡ SlotAndByte)
 
-abbrev pub IsBad : ℕ → Form → List ℕ → Type 0
+abbrev pub IsBad : ℕ → OperandForm → List ℕ → Type 0
 -- the count is 0, or the fourth byte isn't
 IsBad at InterfaceIndex operands = (4 ≤ length operands) × ((slice_index operands 2 ≡ 0) ⊎ (slice_index operands 3 ≢ 0))
 -- the third or the fourth byte isn't 0

@@ -1,7 +1,6 @@
 ghost use Rattle.std.specs.Prelude.{◌≡◌, List, [], ◌∷◌, ◌++◌, OnOk, OnErr};
 
-use dj_bytes::NoMemory;
-use std::alloc::Global;
+use std::alloc::{AllocError, Global};
 use std::marker::Model;
 
 /// A verification type of a stack map (JVMS 4.7.4).
@@ -46,7 +45,7 @@ impl VTypes {
     }
 
     /// Appends a type.
-    pub fn push(&mut self, item: VType) -> Result<(), NoMemory>
+    pub fn push(&mut self, item: VType) -> Result<(), AllocError>
         ensures ok { OnOk result (self.new ≡ self.old ++ item ∷ []) }
         ensures err { OnErr result (self.new ≡ self.old) }
     {
@@ -109,7 +108,7 @@ impl Frames {
     }
 
     /// Appends a frame.
-    pub fn push(&mut self, item: Frame) -> Result<(), NoMemory>
+    pub fn push(&mut self, item: Frame) -> Result<(), AllocError>
         ensures ok { OnOk result (self.new ≡ self.old ++ item ∷ []) }
         ensures err { OnErr result (self.new ≡ self.old) }
     {

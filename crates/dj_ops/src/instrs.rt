@@ -1,8 +1,7 @@
 ghost use Rattle.std.specs.Prelude.{◌≡◌, [], ◌∷◌, ◌++◌, IfOk, OnOk, OnErr};
 
 use crate::instruction::Instr;
-use dj_bytes::NoMemory;
-use std::alloc::Global;
+use std::alloc::{AllocError, Global};
 use std::marker::Model;
 
 /// Instructions, in their order.
@@ -31,7 +30,7 @@ impl Instrs {
     }
 
     /// No instructions, with room for this many.
-    pub fn with_capacity(alloc: Global, capacity: usize) -> Result<Instrs, NoMemory>
+    pub fn with_capacity(alloc: Global, capacity: usize) -> Result<Instrs, AllocError>
         ensures { IfOk result (λ instrs. instrs ≡ []) }
     {
         Ok(Instrs {
@@ -47,7 +46,7 @@ impl Instrs {
     }
 
     /// Appends an instruction.
-    pub fn push(&mut self, instr: Instr) -> Result<(), NoMemory>
+    pub fn push(&mut self, instr: Instr) -> Result<(), AllocError>
         ensures ok { OnOk result (self.new ≡ self.old ++ instr ∷ []) }
         ensures err { OnErr result (self.new ≡ self.old) }
     {

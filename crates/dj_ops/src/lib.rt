@@ -16,7 +16,6 @@ mod switches;
 mod write;
 mod write_switches;
 
-pub use dj_bytes::NoMemory;
 pub use frames::{Form, Frame, Frames, VType, VTypes};
 pub use instrs::Instrs;
 pub use instruction::Instr;

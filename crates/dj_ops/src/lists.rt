@@ -3,8 +3,7 @@ ghost use Rattle.dj_ops.specs.trusted.Lookups.{rises};
 ghost use Rattle.dj_ops.specs.Lookups.{first_target};
 
 use crate::matches::{is_above_last, is_rising, target_by_halving, target_in_turn};
-use dj_bytes::NoMemory;
-use std::alloc::Global;
+use std::alloc::{AllocError, Global};
 use std::marker::Model;
 
 /// The targets of a table, in its order.
@@ -39,7 +38,7 @@ impl Targets {
     }
 
     /// Appends a target.
-    pub fn push(&mut self, item: i64) -> Result<(), NoMemory>
+    pub fn push(&mut self, item: i64) -> Result<(), AllocError>
         ensures ok { OnOk result (self.new ≡ self.old ++ item ∷ []) }
         ensures err { OnErr result (self.new ≡ self.old) }
     {
@@ -93,7 +92,7 @@ impl Pairs {
     }
 
     /// Appends a match and its target.
-    pub fn push(&mut self, item: (i32, i64)) -> Result<(), NoMemory>
+    pub fn push(&mut self, item: (i32, i64)) -> Result<(), AllocError>
         ensures ok { OnOk result (self.new ≡ self.old ++ item ∷ []) }
         ensures err { OnErr result (self.new ≡ self.old) }
     {

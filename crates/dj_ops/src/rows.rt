@@ -1,7 +1,6 @@
 ghost use Rattle.std.specs.Prelude.{◌≡◌, [], ◌∷◌, ◌++◌, OnOk, OnErr};
 
-use dj_bytes::NoMemory;
-use std::alloc::Global;
+use std::alloc::{AllocError, Global};
 use std::marker::Model;
 
 /// A row of an exception table (JVMS 4.7.3).
@@ -49,7 +48,7 @@ impl CatchRows {
     }
 
     /// Appends a row.
-    pub fn push(&mut self, row: CatchRow) -> Result<(), NoMemory>
+    pub fn push(&mut self, row: CatchRow) -> Result<(), AllocError>
         ensures ok { OnOk result (self.new ≡ self.old ++ row ∷ []) }
         ensures err { OnErr result (self.new ≡ self.old) }
     {

@@ -1,7 +1,6 @@
 ghost use Rattle.std.specs.Prelude.{◌≡◌, [], ◌∷◌, ◌++◌, OnOk, OnErr};
 
-use dj_bytes::NoMemory;
-use std::alloc::Global;
+use std::alloc::{AllocError, Global};
 use std::marker::Model;
 
 /// The addresses at which the instructions of code start, in their order.
@@ -36,7 +35,7 @@ impl Starts {
     }
 
     /// Appends an address.
-    pub fn push(&mut self, item: u32) -> Result<(), NoMemory>
+    pub fn push(&mut self, item: u32) -> Result<(), AllocError>
         ensures ok { OnOk result (self.new ≡ self.old ++ item ∷ []) }
         ensures err { OnErr result (self.new ≡ self.old) }
     {

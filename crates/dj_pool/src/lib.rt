@@ -12,7 +12,6 @@ mod read;
 mod scan;
 
 pub use append::AppendError;
-pub use dj_bytes::NoMemory;
 pub use judged::{JudgedPool, read_judged_pool};
 pub use laws::{
     appended_is_pool, no_pool_where_fault, one_fault, one_pool, pool_looks_up, pool_or_fault,

@@ -1,7 +1,6 @@
 ghost use Rattle.std.specs.Prelude.{◌≡◌, [], ◌∷◌, ◌++◌, OnOk, OnErr};
 
-use dj_bytes::NoMemory;
-use std::alloc::Global;
+use std::alloc::{AllocError, Global};
 use std::marker::Model;
 
 /// Indexes of the pool.
@@ -29,7 +28,7 @@ impl Indexes {
     }
 
     /// Appends an index.
-    pub fn push(&mut self, item: u16) -> Result<(), NoMemory>
+    pub fn push(&mut self, item: u16) -> Result<(), AllocError>
         ensures ok { OnOk result (self.new ≡ self.old ++ item ∷ []) }
         ensures err { OnErr result (self.new ≡ self.old) }
     {

@@ -4,11 +4,11 @@ ghost use Rattle.dj_report.specs.Lines.{Adds};
 
 use crate::order::in_order;
 use crate::report::Violation;
-use dj_names::{Name, NoMemory};
-use std::alloc::Global;
+use dj_names::Name;
+use std::alloc::{AllocError, Global};
 
 /// Appends a line.
-pub fn add_line(found: &mut Vec<Violation>, line: Violation) -> Result<(), NoMemory>
+pub fn add_line(found: &mut Vec<Violation>, line: Violation) -> Result<(), AllocError>
     ensures { OnOk result (Adds (λ v. v ≡ line) found.old.items found.new.items) }
 {
     found.push(line)?;
@@ -21,7 +21,7 @@ pub fn add_file_line(
     found: &mut Vec<Violation>,
     path: &str,
     rule: u8,
-) -> Result<(), NoMemory>
+) -> Result<(), AllocError>
     ensures { OnOk result (Adds (λ v. v ≡ file_line path.now rule) found.old.items found.new.items) }
 {
     let path = Name::from_slice(alloc, path.as_bytes())?;
@@ -36,7 +36,7 @@ pub fn add_file_line(
 }
 
 /// Appends lines, sorted among themselves and each once. So all lines are in order where later calls append greater lines.
-pub fn add_in_order(found: &mut Vec<Violation>, lines: Vec<Violation>) -> Result<(), NoMemory>
+pub fn add_in_order(found: &mut Vec<Violation>, lines: Vec<Violation>) -> Result<(), AllocError>
     ensures { OnOk result (Adds (λ v. Contains lines.items v) found.old.items found.new.items) }
 {
     let mut ordered = Vec::from(in_order(lines));

@@ -1,7 +1,7 @@
 ghost use Rattle.std.specs.Prelude.{◌≡◌, [], ◌∷◌, ◌++◌, OnOk, OnErr};
 
-use dj_names::{Bytes, Costs, Name, NoMemory, Outcome};
-use std::alloc::Global;
+use dj_names::{Bytes, Costs, Name, Outcome};
+use std::alloc::{AllocError, Global};
 use std::marker::Model;
 
 /// A limit on what is read.
@@ -56,7 +56,7 @@ impl Violations {
     }
 
     /// Appends a violation.
-    pub fn push(&mut self, item: Violation) -> Result<(), NoMemory>
+    pub fn push(&mut self, item: Violation) -> Result<(), AllocError>
         ensures ok { OnOk result (self.new ≡ self.old ++ item ∷ []) }
         ensures err { OnErr result (self.new ≡ self.old) }
     {
@@ -64,7 +64,7 @@ impl Violations {
     }
 
     /// Appends violations.
-    pub fn append(&mut self, mut more: Violations) -> Result<(), NoMemory>
+    pub fn append(&mut self, mut more: Violations) -> Result<(), AllocError>
         ensures ok { OnOk result (self.new ≡ self.old ++ more) }
         ensures err { OnErr result (self.new ≡ self.old) }
     {

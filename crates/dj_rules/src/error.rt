@@ -1,6 +1,5 @@
 ghost use Rattle.std.specs.Prelude.{◌≡◌};
 
-use dj_names::NoMemory;
 use std::alloc::{AllocError, AllocFailed};
 use thiserror::Error;
 
@@ -10,16 +9,6 @@ pub enum RulesError {
     /// There was no memory.
     #[error("out of memory")]
     Memory,
-}
-
-impl From<NoMemory> for RulesError {
-    ghost use Rattle.dj_rules.specs.declared.error.RulesError.TheVariants.{Memory};
-
-    ghost from_gives = { λ _ e. e ≡ Memory };
-
-    fn from(_error: NoMemory) -> RulesError {
-        RulesError::Memory
-    }
 }
 
 impl From<AllocError> for RulesError {
@@ -39,5 +28,15 @@ impl<T: Drop> From<AllocFailed<T>> for RulesError {
 
     fn from(_error: AllocFailed<T>) -> RulesError {
         RulesError::Memory
+    }
+}
+
+impl From<RulesError> for AllocError {
+    ghost use Rattle.std.specs.declared.alloc.AllocError.{AllocError};
+
+    ghost from_gives = { λ _ e. e ≡ record {} };
+
+    fn from(_error: RulesError) -> AllocError {
+        AllocError
     }
 }

@@ -3,25 +3,15 @@ ghost use Rattle.dj_straight.specs.Methods.{program_view};
 ghost use Rattle.dj_sandbox.specs.trusted.Limits.{most_file_bytes};
 ghost use Rattle.dj_sandbox.specs.Shaped.{AreShort};
 
+use crate::files::{A, class_file};
+use crate::judging::{ViolationRow, is_row};
 use dj_names::{Costs, Kind, Name, Outcome, Thresholds};
 use dj_report::{PathFile, Report, Violation};
-use dj_rules::RulesError;
 use dj_sandbox::{
     ClassSet, SandboxError, check, entry_name, entry_of, has_entry, run_violations, verify,
 };
 use dj_straight::{Action, StraightClass, StraightMethod};
-use std::alloc::Global;
-
-// A class A with a static method verify from an array of bytes to one, which returns what it is given.
-const A: &[u8] =
-    b"\xca\xfe\xba\xbe\0\0\04\0\x08\x01\0\x01A\x07\0\x01\x01\0\x10java/lang/Object\x07\0\x03\x01\0\x06veri\
-    fy\x01\0\x06([B)[B\x01\0\x04Code\0\x21\0\x02\0\x04\0\0\0\0\0\x01\0\x09\0\x05\0\x06\0\x01\0\x07\0\0\0\
-    \x0e\0\x01\0\x01\0\0\0\x02\x2a\xb0\0\0\0\0\0\0";
-
-const FILES: [PathFile<'static>; 1] = [PathFile {
-    path: "A.class",
-    bytes: A,
-}];
+use std::alloc::{AllocError, Global};
 
 // The set of one file.
 fn set_of(alloc: Global, path: &str, bytes: &[u8]) -> Result<ClassSet, SandboxError>
@@ -35,7 +25,8 @@ fn set_of(alloc: Global, path: &str, bytes: &[u8]) -> Result<ClassSet, SandboxEr
 }
 
 fn check_a(alloc: Global) -> Result<Report, SandboxError> {
-    check(alloc, &set_of(alloc, "A.class", A)?)
+    let bytes = class_file(alloc, A)?;
+    check(alloc, &set_of(alloc, "A.class", &bytes)?)
 }
 
 #[test]
@@ -69,7 +60,8 @@ const THRESHOLDS: Thresholds = Thresholds {
 };
 
 fn verify_a(alloc: Global) -> Result<Report, SandboxError> {
-    let set = set_of(alloc, "A.class", A)?;
+    let bytes = class_file(alloc, A)?;
+    let set = set_of(alloc, "A.class", &bytes)?;
     verify(alloc, &set, b"A", &[10, 11], THRESHOLDS)
 }
 
@@ -87,7 +79,7 @@ const ENTRIES: [(&str, &[u8]); 4] = [
     ("\u{e9}", b"\xc3\xa9"),
 ];
 
-fn is_entry_name(alloc: Global, word: &str, wanted: &[u8]) -> Result<bool, RulesError> {
+fn is_entry_name(alloc: Global, word: &str, wanted: &[u8]) -> Result<bool, AllocError> {
     Ok(entry_name(alloc, word)?.as_slice() == wanted)
 }
 
@@ -113,7 +105,7 @@ fn class_of(
     alloc: Global,
     name: &[u8],
     actions: &[Action],
-) -> Result<Option<StraightClass>, RulesError>
+) -> Result<Option<StraightClass>, AllocError>
     requires { length actions.now < 2 ^ 32 }
     ensures classes { IfOk result (λ class. length (program_view class) ≡ 1) }
     ensures short { IfOk result AreShort }
@@ -134,36 +126,31 @@ fn class_of(
     }))
 }
 
-// A path, a member, a number and a rule.
-type Line = (&'static [u8], &'static [u8], Option<u32>, u8);
-
-const LINES: [Line; 2] = [
+const LINES: [ViolationRow; 2] = [
     (b"A.class", b"", None, 20),
     (b"A.class", b"other([B)[B", Some(2), 19),
 ];
-
-fn is_line(found: &Violation, wanted: &Line) -> bool {
-    found.path.as_slice() == wanted.0
-        && found.member.as_slice() == wanted.1
-        && found.number == wanted.2
-        && found.rule == wanted.3
-}
 
 // Whether the class A with this method has these violations, and whether it has the entry then.
 fn violates(
     alloc: Global,
     name: &[u8],
     actions: &[Action],
-    wanted: &[Line],
-) -> Result<bool, RulesError>
+    wanted: &[ViolationRow],
+) -> Result<bool, AllocError>
     requires { length actions.now < 2 ^ 32 }
 {
     let class = class_of(alloc, name, actions)?;
-    let found = run_violations(alloc, &FILES, &class, b"A")?;
+    let bytes = class_file(alloc, A)?;
+    let files = [PathFile {
+        path: "A.class",
+        bytes: &bytes,
+    }];
+    let found = run_violations(alloc, &files, &class, b"A")?;
     let lines = found.as_slice();
     Ok(
         lines.len() == wanted.len()
-            && lines.iter().zip(wanted).all(|(a, b)| is_line(a, b))
+            && lines.iter().zip(wanted).all(|(a, b)| is_row(a, b))
             && has_entry(&class, b"A") == wanted.is_empty(),
     )
 }
@@ -174,7 +161,7 @@ fn lines_in_order_and_none(rt: HostRuntime) {
     assert!(rt; violates(rt.alloc(), b"verify", &SHAPED, &[]) == Ok(true));
 }
 
-fn is_entry(alloc: Global, entry: &[u8]) -> Result<bool, RulesError> {
+fn is_entry(alloc: Global, entry: &[u8]) -> Result<bool, AllocError> {
     let class = class_of(alloc, b"verify", &SHAPED)?;
     match entry_of(&class, entry) {
         Some(method) => Ok(method.name.as_slice() == b"verify".as_slice()),

@@ -1,27 +1,27 @@
-ghost use Rattle.std.specs.Prelude.{◌<◌, ◌^◌, length, All};
-
+use crate::files::{A, class_file};
 use dj_names::{Kind, Name, Outcome, Thresholds, Value};
 use dj_report::PathFile;
-use dj_rules::{RulesError, judge_files};
+use dj_rules::judge_files;
 use dj_straight::{
     Action, IntOperation, StraightEnding, StraightMethod, StraightSet, read_instrs, run_method,
     shape_fault, straight_set,
 };
-use std::alloc::Global;
+use std::alloc::{AllocError, Global};
 
-// A class A with a static method verify from an array of bytes to one, which returns what it is given.
-const A: &[u8] =
-    b"\xca\xfe\xba\xbe\0\0\04\0\x08\x01\0\x01A\x07\0\x01\x01\0\x10java/lang/Object\x07\0\x03\x01\0\x06veri\
-    fy\x01\0\x06([B)[B\x01\0\x04Code\0\x21\0\x02\0\x04\0\0\0\0\0\x01\0\x09\0\x05\0\x06\0\x01\0\x07\0\0\0\
-    \x0e\0\x01\0\x01\0\0\0\x02\x2a\xb0\0\0\0\0\0\0";
+// Opcodes (JVMS 6.5).
+const ALOAD_0: u8 = 42;
 
-const ALOAD_0: Action = Action::Load(Kind::Ref, 0);
+const ARETURN: u8 = 176;
+
+const ATHROW: u8 = 191;
+
+const LOAD_0: Action = Action::Load(Kind::Ref, 0);
 
 fn is_verify(methods: &[StraightMethod]) -> bool {
     match methods {
         [method] => {
             method.name.as_slice() == b"verify".as_slice()
-                && method.actions.as_slice() == [ALOAD_0, Action::ReturnReference].as_slice()
+                && method.actions.as_slice() == [LOAD_0, Action::ReturnReference].as_slice()
         }
         _ => false,
     }
@@ -34,35 +34,34 @@ fn is_class_a(set: &StraightSet) -> bool {
     }
 }
 
-// The straight set that the files are, which are read before.
-fn set_of_files(alloc: Global, files: &[PathFile<'_>]) -> Result<Option<StraightSet>, RulesError>
-    requires { All (λ file. length file.bytes.now < 2 ^ 32) files.now }
-{
-    straight_set(alloc, files, judge_files(alloc, files)?.only)
+// The straight set that the file of the class A is, which is read before.
+fn set_of_a(alloc: Global) -> Result<Option<StraightSet>, AllocError> {
+    let bytes = class_file(alloc, A)?;
+    let files = [PathFile {
+        path: "A.class",
+        bytes: &bytes,
+    }];
+    straight_set(alloc, &files, judge_files(alloc, &files)?.only)
 }
 
 #[test]
 fn one_straight_class(rt: HostRuntime) {
-    let files = [PathFile {
-        path: "A.class",
-        bytes: A,
-    }];
-    let set = set_of_files(rt.alloc(), &files);
+    let set = set_of_a(rt.alloc());
     assert!(rt; matches!(&set, Ok(Some(set)) if is_class_a(set)));
 }
 
 // aload_0 and areturn, and an instruction that isn't straight.
 #[test]
 fn straight_code_is_cut(rt: HostRuntime) {
-    let two = read_instrs(rt.alloc(), b"\x2a\xb0");
+    let two = read_instrs(rt.alloc(), &[ALOAD_0, ARETURN]);
     assert!(rt; matches!(&two, Ok(Some(instrs)) if instrs.as_slice().len() == 2));
-    let other = read_instrs(rt.alloc(), b"\x2a\xbf");
+    let other = read_instrs(rt.alloc(), &[ALOAD_0, ATHROW]);
     assert!(rt; matches!(&other, Ok(None)));
 }
 
-// The byte at the front of the input, less -3, in an array of its own.
+// The first byte of the input, less -3, in an array of its own.
 const LESS: [Action; 13] = [
-    ALOAD_0,
+    LOAD_0,
     Action::Push(Value::Int(0)),
     Action::LoadByte,
     Action::Store(Kind::Int, 1),
@@ -78,7 +77,7 @@ const LESS: [Action; 13] = [
 ];
 
 // Its run on the byte -5, where it has shape.
-fn run_of_less(alloc: Global) -> Result<Option<StraightEnding>, RulesError> {
+fn run_of_less(alloc: Global) -> Result<Option<StraightEnding>, AllocError> {
     let method = StraightMethod {
         flags: 9,
         name: Name::from_slice(alloc, b"verify")?,

@@ -19,7 +19,7 @@ use Rattle.dj_model.specs.trusted.Performing.{class_at_number, seen, perform, wi
 use Rattle.dj_model.specs.trusted.Members.{Kept, with_literal}
 use Rattle.dj_model.specs.trusted.Effects.{used_class}
 use Rattle.dj_model.specs.trusted.Initialisation.{most_frames, mark_all, not_initialised, Initialised, Ready, Waits, Fails, then_ready, with_text, with_constant, with_constants, constants_of, initialiser_frames, with_frames, initialise_all, initialise}
-use Rattle.dj_model.specs.trusted.Step.{Answer, Went, Ended, IllFormed, handler_of, at_handler, unwound, throw_new, new_exception, new_stop, stop_from, throw_stop_or, returned, settle_way, settle, part_of, with_part, frame_with, settled, prepared, done, act, step_of, step}
+use Rattle.dj_model.specs.trusted.Step.{StepAnswer, Went, Ended, IllFormed, handler_of, at_handler, unwound, throw_new, new_exception, new_stop, stop_from, throw_stop_or, returned, settle_way, settle, part_of, with_part, frame_with, settled, prepared, done, act, step_of, step}
 use Rattle.dj_model.specs.Standing.{IsUnanswered, IsStarved, IsStarvedAt}
 use Rattle.dj_running.proofs.GivenEffects.{part_given, effect_given, Follows, both_ways, perform_alike, effect_follows}
 
@@ -33,24 +33,24 @@ initialised_given given (Ready s) = Ready (state_given given s)
 initialised_given given (Waits s) = Waits (state_given given s)
 initialised_given given (Fails outcome s) = Fails outcome (state_given given s)
 
-abbrev pub answer_given : List HostAnswer → Answer → Answer
+abbrev pub answer_given : List HostAnswer → StepAnswer → StepAnswer
 answer_given given (Went s) = Went (state_given given s)
 answer_given given (Ended outcome s) = Ended outcome (state_given given s)
 answer_given given IllFormed = IllFormed
 
 -- the one step is there, and the other one is the same but for the answers that are left
-abbrev pub Moves : List HostAnswer → Answer → Answer → Type 0
+abbrev pub Moves : List HostAnswer → StepAnswer → StepAnswer → Type 0
 Moves given (Went s) other = other ≡ Went (state_given given s)
 Moves given (Ended outcome s) other = other ≡ Ended outcome (state_given given s)
 Moves given IllFormed other = ⊥
 
 -- it is so where the one step is there
-abbrev pub MovesAfter : List HostAnswer → Answer → Answer → Type 0
+abbrev pub MovesAfter : List HostAnswer → StepAnswer → StepAnswer → Type 0
 MovesAfter given (Went s) other = other ≡ Went (state_given given s)
 MovesAfter given (Ended outcome s) other = other ≡ Ended outcome (state_given given s)
 MovesAfter given IllFormed other = ⊤
 
-moves_after : (given : List HostAnswer) (a b : Answer) → Moves given a b → MovesAfter given a b
+moves_after : (given : List HostAnswer) (a b : StepAnswer) → Moves given a b → MovesAfter given a b
 moves_after given (Went s) b m = m
 moves_after given (Ended outcome s) b m = m
 moves_after given IllFormed b m = tt
@@ -121,7 +121,7 @@ module _ (given : List HostAnswer) (program : Program) (prefix : Prefix) (terms 
 
   -- ---- exceptions
 
-  handler_moves : (s : State) (class : Ty) (exception : ℕ) (f : Frame Declared) (below : List (Frame Declared)) (handler : Option ℕ) (a b : Answer) → Moves given a b
+  handler_moves : (s : State) (class : Ty) (exception : ℕ) (f : Frame Declared) (below : List (Frame Declared)) (handler : Option ℕ) (a b : StepAnswer) → Moves given a b
       → Moves given (at_handler prefix s class exception f below handler a) (at_handler prefix (more s) class exception f below handler b)
   handler_moves s class exception f below (Some handler) a b m = refl
   handler_moves s class exception f below None a b m = both_ways (Moves given) (is_initialiser f.method) _ _ _ _ refl m
@@ -167,7 +167,7 @@ module _ (given : List HostAnswer) (program : Program) (prefix : Prefix) (terms 
       → MovesAfter given (settled program prefix terms s f below a) (settled program prefix terms t f below b)
   settled_moves s t f below None b e k = tt
   settled_moves s t f below (Some a) b e k =
-      let A : Answer = settle program prefix terms (with_part s a.part) (frame_with f a.part) below a.flow in
+      let A : StepAnswer = settle program prefix terms (with_part s a.part) (frame_with f a.part) below a.flow in
       subst (λ (u : State). MovesAfter given A (settled program prefix terms u f below b)) (sym e)
       (subst (λ (o : Option Effect). MovesAfter given A (settled program prefix terms (more s) f below o)) (sym k)
       (moves_after given A _ (settle_moves (with_part s a.part) (frame_with f a.part) below a.flow)))
@@ -218,7 +218,7 @@ reply_to Millis = record { reply = host.Millis (pos 0); number = pos 0; reported
 -- the step is there where this answer is given, and takes it alone
 pub record IsAsking (program : Program) (prefix : Prefix) (terms : Terms) (s : State) : Type 0 where
   pub reply : HostAnswer
-  pub after : Answer
+  pub after : StepAnswer
   pub moves : (given : List HostAnswer) → Moves given after (step program prefix terms (state_given (reply ∷ given) s))
 
 module _ (program : Program) (prefix : Prefix) (terms : Terms) (s : State) where
@@ -271,7 +271,7 @@ module _ (program : Program) (prefix : Prefix) (terms : Terms) (s : State) where
     does : Effect
     does = perform prefix terms taken (host_answer w.id (seen program prefix taken.heap) reply.number w.arguments)
 
-    after : Answer
+    after : StepAnswer
     after = settle program prefix terms (with_part starved.ready does.part) (frame_with starved.top does.part) starved.below does.flow
 
     acts : (given : List HostAnswer) → step program prefix terms (state_given (reply.reply ∷ given) s)

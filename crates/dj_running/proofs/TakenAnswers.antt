@@ -8,7 +8,7 @@ use Rattle.dj_model.specs.trusted.Program.{Program}
 use Rattle.dj_model.specs.trusted.State.{Terms, State}
 use Rattle.dj_model.specs.trusted.Arrays.{passes_limit}
 use Rattle.dj_model.specs.trusted.Initialisation.{Initialised, Ready, Waits, Fails, initialise}
-use Rattle.dj_model.specs.trusted.Step.{Answer, Went, Ended, IllFormed, step}
+use Rattle.dj_model.specs.trusted.Step.{StepAnswer, Went, Ended, IllFormed, step}
 use Rattle.dj_model.specs.Sound.{IsSound}
 use Rattle.dj_model.specs.Standing.{AreStanding, AnswerStands, IsStarvedAt, IsEntry}
 use Rattle.dj_model.specs.trusted.Runs.{input_array, input_heap, start_state, begun, begin, Ran, Going, Finished, NoStep, one_more, then_steps, steps, from_start, Report, report_of, plain_run}
@@ -38,28 +38,28 @@ module _ (program : Program) (prefix : Prefix) (is : IsSound program prefix) (te
   ends_so : (n : ℕ) (s : State) (answers : List HostAnswer) (outcome : Outcome) (t : State) → step program prefix terms (state_given answers s) ≡ Ended outcome (state_given [] t)
       → TakesAll (suc n) s answers
   unfolding steps
-  ends_so n s answers outcome t e = subst (λ (a : Answer). NoneLeft (then_steps (steps program prefix terms n) a)) (sym e) refl
+  ends_so n s answers outcome t e = subst (λ (a : StepAnswer). NoneLeft (then_steps (steps program prefix terms n) a)) (sym e) refl
 
   -- the first step leaves the answers that the steps after it take
   goes_so : (n : ℕ) (s : State) (answers : List HostAnswer) (t : State) (rest : List HostAnswer) → step program prefix terms (state_given answers s) ≡ Went (state_given rest t)
       → TakesAll n t rest → TakesAll (suc n) s answers
   unfolding steps
   goes_so n s answers t rest e takes =
-      subst (λ (a : Answer). NoneLeft (then_steps (steps program prefix terms n) a)) (sym e) (one_more_left (steps program prefix terms n (state_given rest t)) takes)
+      subst (λ (a : StepAnswer). NoneLeft (then_steps (steps program prefix terms n) a)) (sym e) (one_more_left (steps program prefix terms n (state_given rest t)) takes)
 
   -- such answers for a step fewer
   abbrev Later : ℕ → Type 0
   Later n = (t : State) → AreStanding program t.frames → (answers : List HostAnswer) × TakesAll n t answers
 
   -- the first step asks nothing
-  quiet_step : (n : ℕ) → Later n → (s : State) (a : Answer) → step program prefix terms (state_given [] s) ≡ a → AnswerStands program a
+  quiet_step : (n : ℕ) → Later n → (s : State) (a : StepAnswer) → step program prefix terms (state_given [] s) ≡ a → AnswerStands program a
       → ((given : List HostAnswer) → MovesAfter given a (step program prefix terms (state_given given s))) → (answers : List HostAnswer) × TakesAll (suc n) s answers
   quiet_step n later s IllFormed e stands moves = absurd stands
   quiet_step n later s (Ended outcome t) e stands moves = ([], ends_so n s [] outcome t (moves []))
   quiet_step n later s (Went t) e stands moves = let rest = later t stands in (rest.0, goes_so n s rest.0 t rest.0 (moves rest.0) rest.1)
 
   -- the first step waits for an answer
-  asking_step : (n : ℕ) → Later n → (s : State) (reply : HostAnswer) (a : Answer) → ((given : List HostAnswer) → Moves given a (step program prefix terms (state_given (reply ∷ given) s)))
+  asking_step : (n : ℕ) → Later n → (s : State) (reply : HostAnswer) (a : StepAnswer) → ((given : List HostAnswer) → Moves given a (step program prefix terms (state_given (reply ∷ given) s)))
       → AnswerStands program (step program prefix terms (state_given (reply ∷ []) s)) → (answers : List HostAnswer) × TakesAll (suc n) s answers
   asking_step n later s reply IllFormed moves stands = absurd (moves [])
   asking_step n later s reply (Ended outcome t) moves stands = (reply ∷ [], ends_so n s (reply ∷ []) outcome t (moves []))
@@ -67,7 +67,7 @@ module _ (program : Program) (prefix : Prefix) (is : IsSound program prefix) (te
       let rest = later t (subst (AnswerStands program) (moves []) stands) in
       (reply ∷ rest.0, goes_so n s (reply ∷ rest.0) t rest.0 (moves rest.0) rest.1)
 
-  not_starved : (s : State) (a : Answer) (given : List HostAnswer) → Moves given a (step program prefix terms s) → IsStarvedAt program prefix terms s → ⊥
+  not_starved : (s : State) (a : StepAnswer) (given : List HostAnswer) → Moves given a (step program prefix terms s) → IsStarvedAt program prefix terms s → ⊥
   not_starved s IllFormed given moves starved = absurd moves
   not_starved s (Ended outcome t) given moves starved = (let e : Ended outcome (state_given given t) ≡ IllFormed = sym moves ∙ starved_none program prefix terms s starved in absurd cc)
   not_starved s (Went t) given moves starved = (let e : Went (state_given given t) ≡ IllFormed = sym moves ∙ starved_none program prefix terms s starved in absurd cc)
@@ -97,7 +97,7 @@ module _ (program : Program) (prefix : Prefix) (is : IsSound program prefix) (te
   begin_alike : (given : List HostAnswer) (entry : Declared) (input : List ℕ)
       → begin program prefix terms entry input given ≡ answer_given given (begin program prefix terms entry input [])
   unfolding begin
-  begin_alike given entry input = both_ways (λ (a b : Answer). b ≡ answer_given given a) (passes_limit terms.limit (object_size (input_array input))) _ _ _ _ refl
+  begin_alike given entry input = both_ways (λ (a b : StepAnswer). b ≡ answer_given given a) (passes_limit terms.limit (object_size (input_array input))) _ _ _ _ refl
       (ap begun (initialise_alike given program prefix terms entry.class (start_state program entry (input_heap input) []))
       ∙ begun_alike given (initialise program prefix terms entry.class (start_state program entry (input_heap input) [])))
 
@@ -115,7 +115,7 @@ module _ (program : Program) (prefix : Prefix) (is : IsSound program prefix) (te
   reported answers most (Finished outcome s n) none = (_, refl, all_taken answers s.answers none)
   reported answers most NoStep none = absurd none
 
-  begun_takes : (most : ℕ) (a : Answer) → AnswerStands program a → (answers : List HostAnswer) × NoneLeft (from_start (steps program prefix terms most) (answer_given answers a))
+  begun_takes : (most : ℕ) (a : StepAnswer) → AnswerStands program a → (answers : List HostAnswer) × NoneLeft (from_start (steps program prefix terms most) (answer_given answers a))
   begun_takes most IllFormed stands = absurd stands
   begun_takes most (Ended outcome t) stands = ([], refl)
   begun_takes most (Went t) stands = steps_take most t stands
@@ -128,6 +128,6 @@ module _ (program : Program) (prefix : Prefix) (is : IsSound program prefix) (te
       let said = reported start.0 most (from_start (steps program prefix terms most) (answer_given start.0 (begin program prefix terms entry input []))) start.1 in (
         start.0,
         said.0,
-        ap (λ (a : Answer). report_of start.0 most (from_start (steps program prefix terms most) a)) (begin_alike start.0 entry input) ∙ said.1,
+        ap (λ (a : StepAnswer). report_of start.0 most (from_start (steps program prefix terms most) a)) (begin_alike start.0 entry input) ∙ said.1,
         said.2,
       )

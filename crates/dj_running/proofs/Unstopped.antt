@@ -20,7 +20,7 @@ use Rattle.dj_model.specs.trusted.Arrays.{Found, Null, NoArray, IsArray, array_a
 use Rattle.dj_model.specs.trusted.Members.{Kept, with_literal}
 use Rattle.dj_model.specs.trusted.Effects.{effect, used_class}
 use Rattle.dj_model.specs.trusted.Initialisation.{most_frames, mark_all, not_initialised, Initialised, Ready, Waits, Fails, then_ready, with_text, with_constant, with_constants, constants_of, initialiser_frames, with_frames, initialise}
-use Rattle.dj_model.specs.trusted.Step.{Answer, Went, Ended, IllFormed, stopped_by, ends_with, handler_of, leaves_frame, at_handler, unwound, throw_new, new_exception, bytes_in, result_outcome, returned, settle_way, settle, with_part, frame_with, part_of, settled, prepared, done, act, step_of, step}
+use Rattle.dj_model.specs.trusted.Step.{StepAnswer, Went, Ended, IllFormed, stopped_by, ends_with, handler_of, leaves_frame, at_handler, unwound, throw_new, new_exception, bytes_in, result_outcome, returned, settle_way, settle, with_part, frame_with, part_of, settled, prepared, done, act, step_of, step}
 use Rattle.dj_model.specs.trusted.Runs.{input_array, input_heap, start_state, begun, begin, Ran, Going, Finished, NoStep, one_more, then_steps, steps, from_start, Report, report_of, plain_run}
 use Rattle.dj_model.proofs.Flows.{either_way}
 use Rattle.dj_model.proofs.Fits.{PlainOutcome, PlainFlow}
@@ -32,7 +32,7 @@ use Rattle.dj_running.proofs.UnstoppedEffects.{IsUnchargedIfSome, effect_plain}
 abbrev IsUnpassed : State → Type 0
 IsUnpassed t = t.account.exceeded ≡ None
 
-abbrev IsUnstopped : Answer → Type 0
+abbrev IsUnstopped : StepAnswer → Type 0
 IsUnstopped (Went t) = IsUnpassed t
 IsUnstopped (Ended outcome t) = PlainOutcome outcome
 IsUnstopped IllFormed = ⊤
@@ -63,11 +63,11 @@ module _ (program : Program) (prefix : Prefix) (limit : Option ℕ) where
   ends_plain t class outcome plain k = either_way PlainOutcome (is_stop prefix class) (stopped_by t.account.exceeded outcome) outcome
       (subst (λ (e : Option Charge). PlainOutcome (stopped_by e outcome)) (sym k) plain) plain
 
-  leaves_plain : (t : State) (class : Ty) (exception : ℕ) (f : Frame Declared) (below : Answer) → IsUnpassed t → IsUnstopped below
+  leaves_plain : (t : State) (class : Ty) (exception : ℕ) (f : Frame Declared) (below : StepAnswer) → IsUnpassed t → IsUnstopped below
       → IsUnstopped (leaves_frame prefix t class exception f below)
   leaves_plain t class exception f below k o = either_way IsUnstopped (is_initialiser f.method) _ _ (ends_plain t class _ tt k) o
 
-  handled_plain : (t : State) (class : Ty) (exception : ℕ) (f : Frame Declared) (below : List (Frame Declared)) (handler : Option ℕ) (otherwise : Answer) → IsUnpassed t
+  handled_plain : (t : State) (class : Ty) (exception : ℕ) (f : Frame Declared) (below : List (Frame Declared)) (handler : Option ℕ) (otherwise : StepAnswer) → IsUnpassed t
       → IsUnstopped otherwise → IsUnstopped (at_handler prefix t class exception f below handler otherwise)
   handled_plain t class exception f below None otherwise k o = leaves_plain t class exception f otherwise k o
   handled_plain t class exception f below (Some handler) otherwise k o = k
@@ -200,7 +200,7 @@ module _ (program : Program) (prefix : Prefix) (limit : Option ℕ) where
   one_more_plain (Finished outcome t n) k = k
   one_more_plain NoStep k = k
 
-  then_steps_plain : (more : State → Ran) → ((t : State) → IsUnpassed t → IsUnstoppedRun (more t)) → (a : Answer) → IsUnstopped a → IsUnstoppedRun (then_steps more a)
+  then_steps_plain : (more : State → Ran) → ((t : State) → IsUnpassed t → IsUnstoppedRun (more t)) → (a : StepAnswer) → IsUnstopped a → IsUnstoppedRun (then_steps more a)
   then_steps_plain more each (Went t) k = one_more_plain (more t) (each t k)
   then_steps_plain more each (Ended outcome t) k = k
   then_steps_plain more each IllFormed k = tt
@@ -211,7 +211,7 @@ module _ (program : Program) (prefix : Prefix) (limit : Option ℕ) where
   steps_plain (suc n) t k =
       then_steps_plain (steps program prefix (uncounted limit) n) (steps_plain n) (step program prefix (uncounted limit) t) (step_plain t k)
 
-  start_plain : (more : State → Ran) → ((t : State) → IsUnpassed t → IsUnstoppedRun (more t)) → (a : Answer) → IsUnstopped a → IsUnstoppedRun (from_start more a)
+  start_plain : (more : State → Ran) → ((t : State) → IsUnpassed t → IsUnstoppedRun (more t)) → (a : StepAnswer) → IsUnstopped a → IsUnstoppedRun (from_start more a)
   start_plain more each (Went t) k = each t k
   start_plain more each (Ended outcome t) k = k
   start_plain more each IllFormed k = tt

@@ -1,4 +1,4 @@
--- What follows of files of which nothing is violated that is judged of a raw run, and of runs of which nobody counts the charges.
+-- What follows for files that violate no rule of a raw run, and for runs whose charges nobody counts.
 use Rattle.std.specs.Prelude.{◌≡◌, ℕ, false, List, [], Option, Some, IfSome}
 use Rattle.dj_edge.specs.trusted.Held.{File}
 use Rattle.dj_edge.specs.declared.host.HostAnswer.{HostAnswer}

@@ -15,11 +15,11 @@ use dj_class::ClassView;
 use dj_library::raw;
 use dj_loader::{BaseNames, Image, LoadError, load};
 use dj_report::PathFile;
-use dj_rules::{FileView, RulesError, view_file};
-use std::alloc::Global;
+use dj_rules::{FileView, view_file};
+use std::alloc::{AllocError, Global};
 
 // Reads a class file.
-fn view_path_file<'a>(alloc: Global, file: &PathFile<'a>) -> Result<ClassView<'a>, RulesError>
+fn view_path_file<'a>(alloc: Global, file: &PathFile<'a>) -> Result<ClassView<'a>, AllocError>
     requires short { length file.now.bytes.now < 2 ^ 32 }
     requires whole { IsMalformed file.now.bytes.now → ⊥ }
     ensures { IfOk result (λ view. IsClassFile file.now.bytes.now (class_of view)) }
@@ -31,7 +31,7 @@ fn view_path_file<'a>(alloc: Global, file: &PathFile<'a>) -> Result<ClassView<'a
 }
 
 /// Reads class files.
-pub fn views_of<'a>(alloc: Global, files: &[PathFile<'a>]) -> Result<Vec<ClassView<'a>>, RulesError>
+pub fn views_of<'a>(alloc: Global, files: &[PathFile<'a>]) -> Result<Vec<ClassView<'a>>, AllocError>
     requires short { All (λ file. length file.bytes.now < 2 ^ 32) files.now }
     requires whole { All (λ file. IsMalformed file.bytes.now → ⊥) files.now }
     ensures { IfOk result (λ views. AreReadFiles (map path_file_view files.now) (map class_of views.items)) }
@@ -45,7 +45,7 @@ pub fn views_of<'a>(alloc: Global, files: &[PathFile<'a>]) -> Result<Vec<ClassVi
 }
 
 /// The image of the program of class files and the raw library, which load together.
-pub fn raw_image(alloc: Global, views: &[ClassView<'_>]) -> Result<Image, RulesError>
+pub fn raw_image(alloc: Global, views: &[ClassView<'_>]) -> Result<Image, AllocError>
     requires valid { All (λ view. IsValid (class_of view)) views.now }
     requires coded { All (λ view. HasFaultyMethod (class_of view) → ⊥) views.now }
     requires few { length views.now ≤ most_files }
@@ -53,10 +53,10 @@ pub fn raw_image(alloc: Global, views: &[ClassView<'_>]) -> Result<Image, RulesE
     ensures program { IfOk result (λ image. IsProgramIn raw_library (map class_of views.now) (program_of image)) }
     ensures prefix { IfOk result (λ image. image.prefix ≡ []) }
 {
-    let library = raw(alloc).map_err(|_| RulesError::Memory)?;
+    let library = raw(alloc).map_err(|_| AllocError)?;
     match load(alloc, views, &library, BaseNames::Plain) {
         Ok(image) => Ok(image),
-        Err(LoadError::Memory) => Err(RulesError::Memory),
+        Err(LoadError::Memory) => Err(AllocError),
         Err(LoadError::Duplicate(_)) => unreachable!(),
         Err(LoadError::NoSuper(_)) => unreachable!(),
         Err(LoadError::Cycle(_)) => unreachable!(),

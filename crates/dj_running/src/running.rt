@@ -19,12 +19,11 @@ use dj_edge::Host;
 use dj_image::Image;
 use dj_machine::Engine;
 use dj_report::{PathFile, Report};
-use dj_rules::RulesError;
 use dj_sandbox::{ClassSet, SandboxError, raw_violations};
-use std::alloc::Global;
+use std::alloc::{AllocError, Global};
 
 // The image of files in which no rule is violated.
-fn image_of_files(alloc: Global, files: &[PathFile<'_>]) -> Result<Image, RulesError>
+fn image_of_files(alloc: Global, files: &[PathFile<'_>]) -> Result<Image, AllocError>
     requires few { length files.now ≤ most_files }
     requires short { All (λ file. length file.bytes.now < 2 ^ 32) files.now }
     requires silent { (class : Name) × AreRawViolations (map path_file_view files.now) class [] }
@@ -43,7 +42,7 @@ fn run_files<H: Host, E: Engine>(
     steps: u64,
     host: &mut H,
     engine: &mut E,
-) -> Result<Report, RulesError>
+) -> Result<Report, AllocError>
     requires few { length files.now ≤ most_files }
     requires short { All (λ file. length file.bytes.now < 2 ^ 32) files.now }
     requires silent { AreRawViolations (map path_file_view files.now) entry.now [] }
@@ -55,7 +54,7 @@ fn run_files<H: Host, E: Engine>(
     let image = image_of_files(alloc, files)?;
     match run_image(alloc, &image, entry, input, steps, host, engine) {
         Ok(ending) => Ok(report_of(ending)),
-        Err(_) => Err(RulesError::Memory),
+        Err(_) => Err(AllocError),
     }
 }
 
@@ -68,7 +67,7 @@ fn raw_files<H: Host, E: Engine>(
     steps: u64,
     host: &mut H,
     engine: &mut E,
-) -> Result<Report, RulesError>
+) -> Result<Report, AllocError>
     requires few { length files.now ≤ most_files }
     requires short { All (λ file. length file.bytes.now < 2 ^ 32) files.now }
     ensures decided { IfOk result (IsDecided (raw_stages (map path_file_view files.now) entry.now input.now steps (given_since (H.given host.old) (H.given host.new)))) }

@@ -10,7 +10,7 @@ use Rattle.dj_report.specs.declared.report.Violation.{Violation}
 use Rattle.dj_report.specs.trusted.Lines.{AreExactly}
 use Rattle.dj_report.proofs.Adding.{exactly_same}
 use Rattle.dj_check.specs.trusted.Rules.{IsEarlyLine}
-use Rattle.dj_classes.specs.trusted.Tables.{declared_program}
+use Rattle.dj_declared.specs.trusted.Files.{declared_program}
 use Rattle.dj_judge.specs.trusted.Lines.{IsLinkedLine}
 use Rattle.dj_sandbox.specs.trusted.Checked.{AreGoodFiles, IsLateLine, AreCheckViolations}
 use Rattle.dj_sandbox.specs.Checked.{IsCheckLine}

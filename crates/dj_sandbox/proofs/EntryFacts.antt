@@ -22,9 +22,8 @@ use Rattle.dj_model.specs.trusted.Program.{Program, Class, Method, Body, Abstrac
 use Rattle.dj_model.specs.trusted.Libraries.{library_class, library_program, joined}
 use Rattle.dj_model.specs.SmallRuns.{class_with}
 use Rattle.dj_model.proofs.SoundLinks.{class_contained}
-use Rattle.dj_declared.specs.trusted.Files.{no_code, declared_class}
+use Rattle.dj_declared.specs.trusted.Files.{no_code, declared_class, declared_program}
 use Rattle.dj_classes.specs.ClassRows.{RiseStrictly}
-use Rattle.dj_classes.specs.trusted.Tables.{declared_program}
 use Rattle.dj_classes.specs.Tables.{name_of, name_at}
 use Rattle.dj_classes.proofs.Joins.{declared_program-joined}
 use Rattle.dj_classes.proofs.Numbered.{class_number-rise, class_at-at}

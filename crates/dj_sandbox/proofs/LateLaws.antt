@@ -21,8 +21,7 @@ use Rattle.dj_report.proofs.Sorted.{contains_first, contains_later, contains_non
 use Rattle.dj_rules.specs.Views.{path_file_view}
 use Rattle.dj_check.specs.trusted.Malformed.{IsRefused}
 use Rattle.dj_check.specs.trusted.Rules.{IsEarlyLine}
-use Rattle.dj_declared.specs.trusted.Files.{declared_class}
-use Rattle.dj_classes.specs.trusted.Tables.{declared_program}
+use Rattle.dj_declared.specs.trusted.Files.{declared_class, declared_program}
 use Rattle.dj_classes.specs.Tables.{IsShared}
 use Rattle.dj_linking.specs.Linked.{Linked}
 use Rattle.dj_judge.specs.trusted.Lines.{IsLinkedLine}

@@ -19,9 +19,8 @@ use Rattle.dj_model.specs.trusted.Linking.{has_body}
 use Rattle.dj_report.specs.declared.report.Violation.{Violation}
 use Rattle.dj_report.specs.Lines.{Adds}
 use Rattle.dj_report.proofs.Adding.{adds_same, adds_both}
-use Rattle.dj_declared.specs.trusted.Files.{desc_in}
+use Rattle.dj_declared.specs.trusted.Files.{desc_in, declared_program}
 use Rattle.dj_declared.specs.Members.{IsDescriptor, native_in, method_flags, method_has_body, method_native}
-use Rattle.dj_classes.specs.trusted.Tables.{declared_program}
 use Rattle.dj_classes.specs.Tables.{class_number, methods_of, methods_at}
 use Rattle.dj_classes.proofs.Numbered.{class_at-number, class_at-at}
 use Rattle.dj_linking.specs.Linked.{Linked}

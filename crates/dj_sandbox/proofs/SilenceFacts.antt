@@ -5,7 +5,7 @@ use Rattle.dj_names.specs.trusted.Library.{deterministic_library}
 use Rattle.dj_class.specs.trusted.ClassFile.{ClassFile}
 use Rattle.dj_report.specs.declared.report.Violation.{Violation}
 use Rattle.dj_report.specs.trusted.Lines.{file_line}
-use Rattle.dj_classes.specs.trusted.Tables.{declared_program}
+use Rattle.dj_declared.specs.trusted.Files.{declared_program}
 use Rattle.dj_check.specs.trusted.Rules.{IsEarlyLine}
 use Rattle.dj_judge.specs.trusted.Lines.{IsLinkedLine}
 use Rattle.dj_sandbox.specs.trusted.Checked.{HoldsHierarchy, AreGoodFiles, IsLateLine}

@@ -18,7 +18,7 @@ use Rattle.dj_rules.specs.trusted.Violations.{member_text, this_name}
 use Rattle.dj_check.specs.trusted.Malformed.{IsGood, IsFaulty, IsFaultyMethod}
 use Rattle.dj_check.specs.trusted.Methods.{CatchesError}
 use Rattle.dj_check.specs.trusted.Rules.{line_at, IsMemberLine, IsEarlyLine}
-use Rattle.dj_classes.specs.trusted.Tables.{declared_program}
+use Rattle.dj_declared.specs.trusted.Files.{declared_program}
 use Rattle.dj_link.specs.trusted.Foreign.{IsForeign, IsForeignConstant}
 use Rattle.dj_link.specs.trusted.Unlinked.{IsUnlinked, IsUnlinkedCatch}
 use Rattle.dj_link.specs.trusted.Lines.{IsFirstOf, IsUnreported, LinkViolates, LinkViolatesAt, CatchViolates, HandlerLinkViolates, CodeLinkViolates, MethodLinkViolates, IsFileLinkLine, IsLinkLine}

@@ -10,8 +10,7 @@ use Rattle.dj_model.specs.trusted.Program.{Class}
 use Rattle.dj_model.specs.trusted.Libraries.{library_class, joined}
 use Rattle.dj_report.specs.declared.report.Violation.{Violation}
 use Rattle.dj_report.specs.Lines.{Adds}
-use Rattle.dj_declared.specs.trusted.Files.{declared_class}
-use Rattle.dj_classes.specs.trusted.Tables.{declared_program}
+use Rattle.dj_declared.specs.trusted.Files.{declared_class, declared_program}
 use Rattle.dj_classes.specs.Tables.{IsShared}
 use Rattle.dj_linking.specs.Linked.{Linked}
 use Rattle.dj_loader.specs.Loads.{IsOwnAncestor}

@@ -13,22 +13,21 @@ use crate::error::SandboxError;
 use crate::judging::judge_set;
 use dj_library::deterministic;
 use dj_report::{PathFile, Report, Violations, in_order};
-use dj_rules::RulesError;
-use std::alloc::Global;
+use std::alloc::{AllocError, Global};
 
 // All violations that `check` reports, in order, each once.
-fn check_violations(alloc: Global, files: &[PathFile<'_>]) -> Result<Violations, RulesError>
+fn check_violations(alloc: Global, files: &[PathFile<'_>]) -> Result<Violations, AllocError>
     requires few { length files.now ≤ most_files }
     requires short { All (λ file. length file.bytes.now < 2 ^ 32) files.now }
     ensures { IfOk result (AreCheckViolations (map path_file_view files.now)) }
 {
-    let library = deterministic(alloc).map_err(|_| RulesError::Memory)?;
+    let library = deterministic(alloc).map_err(|_| AllocError)?;
     let judged = judge_set(alloc, files, &library)?;
     Ok(in_order(judged.found))
 }
 
 // The report on class files, each under its path within the folder.
-fn check_files(alloc: Global, files: &[PathFile<'_>]) -> Result<Report, RulesError>
+fn check_files(alloc: Global, files: &[PathFile<'_>]) -> Result<Report, AllocError>
     requires few { length files.now ≤ most_files }
     requires short { All (λ file. length file.bytes.now < 2 ^ 32) files.now }
     ensures decided { IfOk result (IsDecided (check_stages (map path_file_view files.now))) }

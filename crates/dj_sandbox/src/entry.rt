@@ -2,9 +2,9 @@ ghost use Rattle.std.specs.Prelude.{◌≡◌, ◌++◌, ◌==◌, if◌then◌e
 ghost use Rattle.dj_names.specs.trusted.ModifiedUtf8.{unit_text};
 ghost use Rattle.dj_sandbox.specs.trusted.Entry.{entry_name};
 
-use dj_names::{Name, NoMemory};
-use dj_rules::{RulesError, units_of_path};
-use std::alloc::Global;
+use dj_names::Name;
+use dj_rules::units_of_path;
+use std::alloc::{AllocError, Global};
 
 // A dot becomes a slash.
 fn with_slash(unit: u16) -> u16
@@ -14,7 +14,7 @@ fn with_slash(unit: u16) -> u16
 }
 
 // Appends the spelling of a unit in modified UTF-8 (JVMS 4.4.7).
-fn add_unit(text: &mut Name, unit: u16) -> Result<(), NoMemory>
+fn add_unit(text: &mut Name, unit: u16) -> Result<(), AllocError>
     ensures { OnOk result (text.new ≡ text.old ++ unit_text unit) }
 {
     if 1 <= unit && unit <= 127 {
@@ -31,7 +31,7 @@ fn add_unit(text: &mut Name, unit: u16) -> Result<(), NoMemory>
 }
 
 /// The name of the class that a word of the command line names, with dots or slashes between its parts.
-pub fn entry_name(alloc: Global, word: &str) -> Result<Name, RulesError>
+pub fn entry_name(alloc: Global, word: &str) -> Result<Name, AllocError>
     ensures { IfOk result (λ name. name ≡ entry_name word.now) }
 {
     let units = units_of_path(alloc, word)?;

@@ -1,6 +1,5 @@
 ghost use Rattle.std.specs.Prelude.{◌≡◌};
 
-use dj_rules::RulesError;
 use std::alloc::{AllocError, AllocFailed};
 use thiserror::Error;
 
@@ -10,16 +9,6 @@ pub enum SandboxError {
     /// There was no memory.
     #[error("out of memory")]
     Memory,
-}
-
-impl From<RulesError> for SandboxError {
-    ghost use Rattle.dj_sandbox.specs.declared.error.SandboxError.TheVariants.{Memory};
-
-    ghost from_gives = { λ _ e. e ≡ Memory };
-
-    fn from(_error: RulesError) -> SandboxError {
-        SandboxError::Memory
-    }
 }
 
 impl From<AllocError> for SandboxError {

@@ -12,8 +12,7 @@ use dj_judge::{JudgedFiles, judge_files};
 use dj_linking::Linker;
 use dj_natives::Library;
 use dj_report::{PathFile, Violation, add_in_order};
-use dj_rules::RulesError;
-use std::alloc::Global;
+use std::alloc::{AllocError, Global};
 
 // The number of the rule HIERARCHY. Where it or one before it is violated, the rules 17 to 20 are not judged.
 const HIERARCHY: u8 = 6;
@@ -40,7 +39,7 @@ fn breaks_hierarchy(lines: &[Violation]) -> bool
 }
 
 // Judges files that violate one of the rules 1 to 6: no later rule than 16 is judged.
-fn judge_broken(alloc: Global, files: &[PathFile<'_>]) -> Result<JudgedSet, RulesError>
+fn judge_broken(alloc: Global, files: &[PathFile<'_>]) -> Result<JudgedSet, AllocError>
     requires short { All (λ file. length file.bytes.now < 2 ^ 32) files.now }
     requires broken { HoldsHierarchy (map path_file_view files.now) → ⊥ }
     ensures { (library : List LibraryClass) → IfOk result (IsJudgedSet library (map path_file_view files.now)) }
@@ -57,7 +56,7 @@ fn judge_linked(
     alloc: Global,
     files: &[PathFile<'_>],
     linker: Linker,
-) -> Result<JudgedSet, RulesError>
+) -> Result<JudgedSet, AllocError>
     requires short { All (λ file. length file.bytes.now < 2 ^ 32) files.now }
     requires links { (library : List LibraryClass) × LinksFiles library (map path_file_view files.now) linker }
     ensures { (library : List LibraryClass) → LinksFiles library (map path_file_view files.now) linker
@@ -83,7 +82,7 @@ pub fn judge_set(
     alloc: Global,
     files: &[PathFile<'_>],
     library: &Library,
-) -> Result<JudgedSet, RulesError>
+) -> Result<JudgedSet, AllocError>
     requires few { length files.now ≤ most_files }
     requires short { All (λ file. length file.bytes.now < 2 ^ 32) files.now }
     requires library { IsJudging (library_view library.now) }

@@ -17,22 +17,22 @@ use dj_linking::{BaseNames, ClassTable, Linker, TableError};
 use dj_loader::{LoadError, refuse_cycles};
 use dj_natives::{LibClass, Library};
 use dj_report::PathFile;
-use dj_rules::{FileView, RulesError, view_file};
-use std::alloc::Global;
+use dj_rules::{FileView, view_file};
+use std::alloc::{AllocError, Global};
 
 // The class of a class file.
-fn declare_view(alloc: Global, view: &ClassView<'_>) -> Result<DeclaredClass, RulesError>
+fn declare_view(alloc: Global, view: &ClassView<'_>) -> Result<DeclaredClass, AllocError>
     requires { IsValid (class_of view.now) }
     ensures { IfOk result (λ class. class ≡ declared_class (class_of view.now)) }
 {
-    declare_file(alloc, view).map_err(|_| RulesError::Memory)
+    declare_file(alloc, view).map_err(|_| AllocError)
 }
 
 // The class that a file declares, or none where it is no class file.
 fn declare_path_file(
     alloc: Global,
     file: &PathFile<'_>,
-) -> Result<Option<DeclaredClass>, RulesError>
+) -> Result<Option<DeclaredClass>, AllocError>
     requires { length file.now.bytes.now < 2 ^ 32 }
     ensures { IfOk result (IsDeclaredFrom file.now.bytes.now) }
 {
@@ -46,7 +46,7 @@ fn declare_path_file(
 fn declare_files(
     alloc: Global,
     files: &[PathFile<'_>],
-) -> Result<Option<Vec<DeclaredClass>>, RulesError>
+) -> Result<Option<Vec<DeclaredClass>>, AllocError>
     requires { All (λ file. length file.bytes.now < 2 ^ 32) files.now }
     ensures { IfOk result (λ declared. AreDeclaredOrNot (map path_file_view files.now) (option_map (λ classes. classes.items) declared)) }
 {
@@ -61,11 +61,11 @@ fn declare_files(
 }
 
 // The class of a library.
-fn declare_row(alloc: Global, row: &LibClass) -> Result<DeclaredClass, RulesError>
+fn declare_row(alloc: Global, row: &LibClass) -> Result<DeclaredClass, AllocError>
     requires { All (λ m. IsDesc m.desc) row.now.methods }
     ensures { IfOk result (λ class. class ≡ row_class row.now) }
 {
-    declare_library_class(alloc, row).map_err(|_| RulesError::Memory)
+    declare_library_class(alloc, row).map_err(|_| AllocError)
 }
 
 // Appends the classes of a library.
@@ -73,7 +73,7 @@ fn add_rows(
     alloc: Global,
     declared: &mut Vec<DeclaredClass>,
     rows: &[LibClass],
-) -> Result<(), RulesError>
+) -> Result<(), AllocError>
     requires { All (λ row. All (λ m. IsDesc m.desc) row.methods) rows.now }
     ensures { OnOk result (declared.new.items ≡ declared.old.items ++ map row_class rows.now) }
 {
@@ -88,7 +88,7 @@ fn add_library(
     alloc: Global,
     declared: &mut Vec<DeclaredClass>,
     library: &Library,
-) -> Result<(), RulesError>
+) -> Result<(), AllocError>
     requires { IsJudging (library_view library.now) }
     ensures { OnOk result (declared.new.items ≡ declared.old.items ++ map library_class (library_view library.now)) }
 {
@@ -109,22 +109,22 @@ pub enum Links {
 }
 
 // Links classes that are in order, none of which is its own ancestor.
-fn link_acyclic(alloc: Global, table: ClassTable) -> Result<Links, RulesError>
+fn link_acyclic(alloc: Global, table: ClassTable) -> Result<Links, AllocError>
     ensures { IfOk result (IsLinkOf table) }
 {
-    let linker = Linker::of(alloc, table, BaseNames::Plain).or(Err(RulesError::Memory))?;
+    let linker = Linker::of(alloc, table, BaseNames::Plain).or(Err(AllocError))?;
     Ok(Links::Linked(linker))
 }
 
 // Links classes that are in order, unless one is its own ancestor: a look-up that walks upward needs an end.
-fn link_table(alloc: Global, table: ClassTable) -> Result<Links, RulesError>
+fn link_table(alloc: Global, table: ClassTable) -> Result<Links, AllocError>
     requires { RiseStrictly table }
     ensures { IfOk result (IsLinkOf table) }
 {
     match refuse_cycles(alloc, &table) {
         Ok(()) => link_acyclic(alloc, table),
         Err(LoadError::Cycle(_)) => Ok(Links::Cycle),
-        Err(_) => Err(RulesError::Memory),
+        Err(_) => Err(AllocError),
     }
 }
 
@@ -133,7 +133,7 @@ fn link_classes(
     alloc: Global,
     declared: Vec<DeclaredClass>,
     library: &Library,
-) -> Result<Links, RulesError>
+) -> Result<Links, AllocError>
     requires few { length declared.items ≤ most_files }
     requires library { IsJudging (library_view library.now) }
     ensures { IfOk result (AreLinksOf (library_view library.now) declared.items) }
@@ -143,7 +143,7 @@ fn link_classes(
     match ClassTable::of(alloc, all) {
         Ok(table) => link_table(alloc, table),
         Err(TableError::Duplicate(_)) => Ok(Links::SharedName),
-        Err(TableError::Memory) => Err(RulesError::Memory),
+        Err(TableError::Memory) => Err(AllocError),
     }
 }
 
@@ -152,7 +152,7 @@ pub fn link_files(
     alloc: Global,
     files: &[PathFile<'_>],
     library: &Library,
-) -> Result<Links, RulesError>
+) -> Result<Links, AllocError>
     requires few { length files.now ≤ most_files }
     requires short { All (λ file. length file.bytes.now < 2 ^ 32) files.now }
     requires library { IsJudging (library_view library.now) }

@@ -19,8 +19,7 @@ use dj_link::is_static;
 use dj_linking::{ClassTable, Linker};
 use dj_names::Name;
 use dj_report::{PathFile, Violation, Violations, add_line, in_order};
-use dj_rules::RulesError;
-use std::alloc::Global;
+use std::alloc::{AllocError, Global};
 
 // The number of the rule ENTRY.
 const ENTRY: u8 = 20;
@@ -82,7 +81,7 @@ fn runs_entry(table: &ClassTable, entry: &[u8]) -> bool
 // ---- the lines
 
 // The line of an entry that isn't there.
-fn entry_line(alloc: Global, entry: &[u8]) -> Result<Violation, RulesError>
+fn entry_line(alloc: Global, entry: &[u8]) -> Result<Violation, AllocError>
     ensures { IfOk result (λ line. line ≡ file_line (entry.now ++ codes ".class") 20) }
 {
     let mut path = Name::from_slice(alloc, entry)?;
@@ -102,7 +101,7 @@ fn add_entry_line(
     found: &mut Vec<Violation>,
     table: &ClassTable,
     entry: &[u8],
-) -> Result<(), RulesError>
+) -> Result<(), AllocError>
     ensures { OnOk result (Adds (EntryLine table.now entry.now) found.old.items found.new.items) }
 {
     if runs_entry(table, entry) {
@@ -119,7 +118,7 @@ fn with_entry_line(
     found: Vec<Violation>,
     linker: &Linker,
     entry: &[u8],
-) -> Result<Vec<Violation>, RulesError>
+) -> Result<Vec<Violation>, AllocError>
     ensures { IfOk result (λ all. Adds (EntryLine linker.now.program entry.now) found.items all.items) }
 {
     let mut all = found;
@@ -128,7 +127,7 @@ fn with_entry_line(
 }
 
 // The lines of files that were judged by the rules 1 to 19, and that of the entry.
-fn raw_lines(alloc: Global, judged: JudgedSet, entry: &[u8]) -> Result<Vec<Violation>, RulesError>
+fn raw_lines(alloc: Global, judged: JudgedSet, entry: &[u8]) -> Result<Vec<Violation>, AllocError>
     ensures { (files : List File) → IsJudgedSet raw_library files judged → IfOk result (λ found. Adds (IsRawLine files entry.now) [] found.items) }
 {
     let JudgedSet { found, linker } = judged;
@@ -143,12 +142,12 @@ pub fn raw_violations(
     alloc: Global,
     files: &[PathFile<'_>],
     entry: &[u8],
-) -> Result<Violations, RulesError>
+) -> Result<Violations, AllocError>
     requires few { length files.now ≤ most_files }
     requires short { All (λ file. length file.bytes.now < 2 ^ 32) files.now }
     ensures { IfOk result (AreRawViolations (map path_file_view files.now) entry.now) }
 {
-    let library = raw(alloc).map_err(|_| RulesError::Memory)?;
+    let library = raw(alloc).map_err(|_| AllocError)?;
     let judged = judge_set(alloc, files, &library)?;
     let found = raw_lines(alloc, judged, entry)?;
     Ok(in_order(found))

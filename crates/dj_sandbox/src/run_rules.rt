@@ -10,9 +10,8 @@ ghost use Rattle.dj_rules.specs.Views.{path_file_view};
 use dj_class::AccessFlags;
 use dj_names::Name;
 use dj_report::{PathFile, Violation, Violations, add_line, in_order};
-use dj_rules::RulesError;
 use dj_straight::{DESCRIPTOR, StraightClass, StraightMethod, shape_fault};
-use std::alloc::Global;
+use std::alloc::{AllocError, Global};
 
 // The numbers of the rules SHAPE and ENTRY.
 const SHAPE: u8 = 19;
@@ -83,7 +82,7 @@ fn add_shape_fault(
     path: &str,
     method: &StraightMethod,
     number: u32,
-) -> Result<(), RulesError>
+) -> Result<(), AllocError>
     ensures { OnOk result (Adds (λ v. v ≡ shape_line path.now (method_view method.now) (Some number)) found.old.items found.new.items) }
 {
     let path = Name::from_slice(alloc, path.as_bytes())?;
@@ -105,7 +104,7 @@ fn add_shape_line(
     found: &mut Vec<Violation>,
     path: &str,
     method: &StraightMethod,
-) -> Result<(), RulesError>
+) -> Result<(), AllocError>
     requires { length method.now.actions.items < 2 ^ 32 }
     ensures lines { OnOk result (Adds (IsShapeLine path.now (method_view method.now ∷ [])) found.old.items found.new.items) }
     ensures judged { OnOk result (IsReported method.now) }
@@ -122,7 +121,7 @@ fn add_shape_lines(
     found: &mut Vec<Violation>,
     path: &str,
     methods: &[StraightMethod],
-) -> Result<(), RulesError>
+) -> Result<(), AllocError>
     requires { All (λ m. length m.actions.items < 2 ^ 32) methods.now }
     ensures lines { OnOk result (Adds (IsShapeLine path.now (map method_view methods.now)) found.old.items found.new.items) }
     ensures judged { OnOk result (All IsReported methods.now) }
@@ -139,7 +138,7 @@ fn add_class_lines(
     found: &mut Vec<Violation>,
     files: &[PathFile<'_>],
     class: &Option<StraightClass>,
-) -> Result<(), RulesError>
+) -> Result<(), AllocError>
     requires as_many { length files.now ≡ length (program_view class.now) }
     requires short { AreShort class.now }
     ensures lines { OnOk result (Adds (IsShapeLineOf (map path_file_view files.now) (program_view class.now))
@@ -160,7 +159,7 @@ fn add_entry_line(
     found: &mut Vec<Violation>,
     class: &Option<StraightClass>,
     entry: &[u8],
-) -> Result<(), RulesError>
+) -> Result<(), AllocError>
     ensures { OnOk result (Adds (IsEntryLine (program_view class.now) entry.now) found.old.items found.new.items) }
 {
     if has_entry(class, entry) {
@@ -185,7 +184,7 @@ pub fn run_violations(
     files: &[PathFile<'_>],
     class: &Option<StraightClass>,
     entry: &[u8],
-) -> Result<Violations, RulesError>
+) -> Result<Violations, AllocError>
     requires as_many { length files.now ≡ length (program_view class.now) }
     requires short { AreShort class.now }
     ensures lines { IfOk result (AreRunViolations (map path_file_view files.now) (program_view class.now) entry.now) }

@@ -23,19 +23,19 @@ use crate::error::SandboxError;
 use crate::run_rules::{entry_of, run_violations};
 use dj_names::{Name, Thresholds};
 use dj_report::{PathFile, Report};
-use dj_rules::{RulesError, judge_files};
+use dj_rules::judge_files;
 use dj_straight::{StraightEnding, StraightSet, run_method, straight_set};
-use std::alloc::Global;
+use std::alloc::{AllocError, Global};
 
 // The report LATER: the set whose first file has this path is not supported yet.
-fn later(alloc: Global, path: &str) -> Result<Report, RulesError>
+fn later(alloc: Global, path: &str) -> Result<Report, AllocError>
     ensures { IfOk result (λ report. report ≡ Later path.now) }
 {
     Ok(Report::Later(Name::from_slice(alloc, path.as_bytes())?))
 }
 
 /// The report LATER on a set that isn't straight, with the path of its first file.
-fn later_first(alloc: Global, files: &[PathFile<'_>]) -> Result<Report, RulesError>
+fn later_first(alloc: Global, files: &[PathFile<'_>]) -> Result<Report, AllocError>
     requires not_straight { IsNotStraight (map path_file_view files.now) }
     ensures { IfOk result (λ report. (path : List ℕ) × (report ≡ Later path) × IsFirstPath (map path_file_view files.now) path) }
 {
@@ -52,7 +52,7 @@ fn run_entry(
     class: &[u8],
     input: &[u8],
     thresholds: Thresholds,
-) -> Result<StraightEnding, RulesError>
+) -> Result<StraightEnding, AllocError>
     requires entry { has_entry (program_view set.now.class) class.now ≡ true }
     requires shaped { AreShaped set.now.class }
     requires runnable { AreRunnable set.now.class }
@@ -77,7 +77,7 @@ fn verify_files(
     class: &[u8],
     input: &[u8],
     thresholds: Thresholds,
-) -> Result<Report, RulesError>
+) -> Result<Report, AllocError>
     requires short { All (λ file. length file.bytes.now < 2 ^ 32) files.now }
     requires input { length input.now ≤ most_input_bytes }
     requires thresholds { IsWithinMost thresholds }
@@ -89,7 +89,7 @@ fn verify_files(
         return Ok(Report::Rejected(judged.violations));
     }
     let Some(set) = straight_set(alloc, files, judged.only)? else {
-        return later_first(alloc, files);
+        return Ok(later_first(alloc, files)?);
     };
     let violations = run_violations(alloc, files, &set.class, class)?;
     if !violations.as_slice().is_empty() {

@@ -16,7 +16,7 @@ use Rattle.dj_names.specs.declared.run.Value.{Value}
 use Rattle.dj_names.specs.declared.run.Charge.{Charge}
 use Rattle.dj_names.specs.declared.native.NativeId.{NativeId}
 use Rattle.dj_names.specs.declared.native.NativeId.TheVariants as natives
-use Rattle.dj_bytes.specs.declared.memory.NoMemory.{NoMemory}
+use Rattle.std.specs.declared.alloc.AllocError.{AllocError}
 use Rattle.dj_model.specs.trusted.State.{Flow, Catch, Stop}
 use Rattle.dj_model.specs.trusted.Natives.{reference}
 use Rattle.dj_heap.specs.Heaps.{LimitedHeap, object_in}
@@ -154,18 +154,18 @@ stop_flow args natives.RecordArray other = refl
 stop_flow args natives.CheckCatch other = absurd (other refl)
 
 module _ (imaged : Imaged) (exceeded : Option Charge) (before after : LimitedHeap) (old new : List StackFrame) where
-  by_flow : (own flow : Flow) (result : Result Settled NoMemory) → own ≡ flow
+  by_flow : (own flow : Flow) (result : Result Settled AllocError) → own ≡ flow
       → IfOk result (λ settled. Settles imaged exceeded (top_settled (program_of imaged) imaged.prefix own) before after old new settled)
       → IfOk result (λ settled. Settles imaged exceeded (top_settled (program_of imaged) imaged.prefix flow) before after old new settled)
   by_flow own flow result same settles =
       subst (λ (f : Flow). IfOk result (λ settled. Settles imaged exceeded (top_settled (program_of imaged) imaged.prefix f) before after old new settled)) same settles
 
-  pub by_charge : (id : NativeId) (args : List Value) (result : Result Settled NoMemory) → 0 < length old → (id ≡ natives.CheckCatch → ⊥)
+  pub by_charge : (id : NativeId) (args : List Value) (result : Result Settled AllocError) → 0 < length old → (id ≡ natives.CheckCatch → ⊥)
       → IfOk result (λ settled. Settles imaged exceeded (throwing_stop imaged) before after old new settled)
       → IfOk result (λ settled. Settles imaged exceeded (top_settled (program_of imaged) imaged.prefix (stop_reported id args)) before after old new settled)
   by_charge id args result some other settles = by_flow Stop (stop_reported id args) result (sym (stop_flow args id other)) (as_stopped imaged exceeded before after old new result some settles)
 
-pub by_object : (imaged : Imaged) (exceeded : Option Charge) (h : LimitedHeap) (old new : List StackFrame) (id : NativeId) (args : List Value) (exception : ℕ) (result : Result Settled NoMemory)
+pub by_object : (imaged : Imaged) (exceeded : Option Charge) (h : LimitedHeap) (old new : List StackFrame) (id : NativeId) (args : List Value) (exception : ℕ) (result : Result Settled AllocError)
     → 0 < length old → id ≡ natives.CheckCatch → exception ≡ reference 0 args
     → IfOk result (λ settled. Settles imaged exceeded (throwing imaged exception) h h old new settled)
     → IfOk result (λ settled. Settles imaged exceeded (top_settled (program_of imaged) imaged.prefix (stop_reported id args)) h h old new settled)
@@ -175,11 +175,11 @@ by_object imaged exceeded h old new id args exception result some is e settles =
 
 -- ---- whether its number is known
 
-pub reported_before : (imaged : Imaged) (h : LimitedHeap) (stop : ℕ) (result : Result Settled NoMemory) → IfOk result (λ settled. KeepsStop imaged h stop stop)
+pub reported_before : (imaged : Imaged) (h : LimitedHeap) (stop : ℕ) (result : Result Settled AllocError) → IfOk result (λ settled. KeepsStop imaged h stop stop)
 reported_before imaged h stop (Err e) = tt
 reported_before imaged h stop (Ok settled) = inl refl
 
-pub reported_now : (imaged : Imaged) (h : LimitedHeap) (old stop : ℕ) (result : Result Settled NoMemory) → IfOk result (λ settled. IsStop imaged h stop) → IfOk result (λ settled. KeepsStop imaged h old stop)
+pub reported_now : (imaged : Imaged) (h : LimitedHeap) (old stop : ℕ) (result : Result Settled AllocError) → IfOk result (λ settled. IsStop imaged h stop) → IfOk result (λ settled. KeepsStop imaged h old stop)
 reported_now imaged h old stop (Err e) is = tt
 reported_now imaged h old stop (Ok settled) is = inr is
 

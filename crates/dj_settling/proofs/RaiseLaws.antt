@@ -25,7 +25,7 @@ use Rattle.dj_linking.specs.declared.linker.BaseNames.{BaseNames}
 use Rattle.dj_types.specs.Typed.{place_of_text, text_number}
 use Rattle.dj_types.proofs.Reported.{type_of_class}
 use Rattle.dj_image.specs.Imaged.{Imaged, program_of, typed_of}
-use Rattle.dj_bytes.specs.declared.memory.NoMemory.{NoMemory}
+use Rattle.std.specs.declared.alloc.AllocError.{AllocError}
 use Rattle.dj_settling.specs.declared.settled.Settled.{Settled}
 use Rattle.dj_settling.specs.Settling.{HasClass, HasOwn, IsClassOf, Settles, throwing_new, raising}
 use Rattle.dj_settling.proofs.EndLaws.{plain_type}
@@ -76,7 +76,7 @@ class_lacks imaged raised name own is e =
 
 -- ---- its throw
 
-pub raised_new : (imaged : Imaged) (exceeded : Option Charge) (raised : Raised) (class : ℕ) (before after : LimitedHeap) (old new : List StackFrame) (result : Result Settled NoMemory)
+pub raised_new : (imaged : Imaged) (exceeded : Option Charge) (raised : Raised) (class : ℕ) (before after : LimitedHeap) (old new : List StackFrame) (result : Result Settled AllocError)
     → IsClassOf imaged (raised_type imaged.prefix raised) class → IfOk result (λ settled. Settles imaged exceeded (throwing_new imaged class 2) before after old new settled)
     → IfOk result (λ settled. Settles imaged exceeded (raising imaged raised) before after old new settled)
 raised_new imaged exceeded raised class before after old new (Err e) of settles = tt

@@ -26,7 +26,7 @@ use Rattle.dj_image.specs.Imaged.{Imaged, program_of, typed_of}
 use Rattle.dj_image.specs.Numbering.{AreSettled}
 use Rattle.dj_image.proofs.Numbering.{stop_alone}
 use Rattle.dj_unwinding.specs.Unwinding.{IsClassNumber}
-use Rattle.dj_bytes.specs.declared.memory.NoMemory.{NoMemory}
+use Rattle.std.specs.declared.alloc.AllocError.{AllocError}
 use Rattle.dj_settling.specs.declared.settled.Settled.{Settled}
 use Rattle.dj_settling.specs.Reported.{reported_of}
 use Rattle.dj_settling.specs.Settling.{HasOwn, HasStop, IsClassOf, IsMade, IsRewritten, IsStop, IsThrown, Settles, seen_in, stop_found, stop_number_from, throwing, throwing_new, throwing_stop}
@@ -148,7 +148,7 @@ first_nowhere h class at le so_far = sym (so_far ∙ ap (stop_number_from class 
 
 -- ---- its throw
 
-pub found_threw : (imaged : Imaged) (exceeded : Option Charge) (h : LimitedHeap) (stop : ℕ) (old new : List StackFrame) (result : Result Settled NoMemory) → Some stop ≡ stop_found imaged h
+pub found_threw : (imaged : Imaged) (exceeded : Option Charge) (h : LimitedHeap) (stop : ℕ) (old new : List StackFrame) (result : Result Settled AllocError) → Some stop ≡ stop_found imaged h
     → IfOk result (λ settled. Settles imaged exceeded (throwing imaged stop) h h old new settled) → IfOk result (λ settled. Settles imaged exceeded (throwing_stop imaged) h h old new settled)
 found_threw imaged exceeded h stop old new (Err error) e settles = tt
 found_threw imaged exceeded h stop old new (Ok result) e settles = record {
@@ -159,7 +159,7 @@ found_threw imaged exceeded h stop old new (Ok result) e settles = record {
   stand = settles.stand;
 }
 
-pub made_threw : (imaged : Imaged) (exceeded : Option Charge) (before after : LimitedHeap) (class : ℕ) (old new : List StackFrame) (result : Result Settled NoMemory) → Some class ≡ stop_at (typed_of imaged)
+pub made_threw : (imaged : Imaged) (exceeded : Option Charge) (before after : LimitedHeap) (class : ℕ) (old new : List StackFrame) (result : Result Settled AllocError) → Some class ≡ stop_at (typed_of imaged)
     → None ≡ stop_found imaged before → IfOk result (λ settled. Settles imaged exceeded (throwing_new imaged class 0) before after old new settled)
     → IfOk result (λ settled. Settles imaged exceeded (throwing_stop imaged) before after old new settled)
 made_threw imaged exceeded before after class old new (Err error) is e settles = tt
@@ -196,7 +196,7 @@ made_so imaged before after class old new settled is known now e kept made some 
   | inr same ↦ absurd (none-some old (e ∙ kept (λ null. some (same.1 ∙ null))))
 ]
 
-pub made_is : (imaged : Imaged) (exceeded : Option Charge) (before after : LimitedHeap) (class old stop : ℕ) (frames left : List StackFrame) (result : Result Settled NoMemory) → AreSettled (typed_of imaged)
+pub made_is : (imaged : Imaged) (exceeded : Option Charge) (before after : LimitedHeap) (class old stop : ℕ) (frames left : List StackFrame) (result : Result Settled AllocError) → AreSettled (typed_of imaged)
     → Some class ≡ stop_at (typed_of imaged) → AreKnown (types_of (typed_of imaged)) before → None ≡ stop_found imaged before → IsStop imaged before old
     → IfOk result (λ settled. Settles imaged exceeded (throwing_new imaged class 0) before after frames left settled)
     → IfOk result (λ settled. IsMade before after (Instance class []) old stop) → IfOk result (λ settled. IsStop imaged after stop)

@@ -17,7 +17,7 @@ use Rattle.dj_model.specs.trusted.Linking.{member_class}
 use Rattle.dj_model.specs.trusted.State.{Terms, State}
 use Rattle.dj_model.specs.trusted.Arrays.{passes_limit}
 use Rattle.dj_model.specs.trusted.Performing.{class_in, class_at_number}
-use Rattle.dj_model.specs.trusted.Step.{Answer, Ended, stopped_by, message_of, throw}
+use Rattle.dj_model.specs.trusted.Step.{StepAnswer, Ended, stopped_by, message_of, throw}
 use Rattle.dj_model.proofs.MappedHeaps.{class_of_mapped, new_mapped, number_alike}
 use Rattle.dj_natives.specs.Numbered as numbered
 use Rattle.dj_heap.specs.Heaps.{LimitedHeap, object_in, Makes, Refuses}
@@ -35,7 +35,7 @@ use Rattle.dj_activations.specs.Activations.{AreActivations}
 use Rattle.dj_unwinding.specs.Unwinding.{IsClassNumber, IsUnwound, unwound_reported, frames_unwound, class_name_at}
 use Rattle.dj_unwinding.specs.declared.unwinding.Unwound.{Unwound}
 use Rattle.dj_unwinding.specs.declared.unwinding.Unwound.TheVariants as unwinds
-use Rattle.dj_bytes.specs.declared.memory.NoMemory.{NoMemory}
+use Rattle.std.specs.declared.alloc.AllocError.{AllocError}
 use Rattle.dj_settling.specs.declared.settled.Settled.{Settled}
 use Rattle.dj_settling.specs.declared.settled.Settled.TheVariants as settles
 use Rattle.dj_settling.specs.Reported.{Over, reported_of}
@@ -105,7 +105,7 @@ pub threw_caught : (imaged : Imaged) (h : LimitedHeap) (exceeded : Option Charge
     → AreActivations imaged new → Settles imaged exceeded (throwing imaged exception) h h old new settles.Went
 threw_caught imaged h exceeded class exception old new lt known is gone stand = threw imaged h exceeded class exception old new unwinds.Caught lt known is gone stand
 
-pub threw_out : (imaged : Imaged) (h : LimitedHeap) (exceeded : Option Charge) (class exception left : ℕ) (old new : List StackFrame) (result : Result Settled NoMemory) → class < length (program_of imaged)
+pub threw_out : (imaged : Imaged) (h : LimitedHeap) (exceeded : Option Charge) (class exception left : ℕ) (old new : List StackFrame) (result : Result Settled AllocError) → class < length (program_of imaged)
     → AreKnown (types_of (typed_of imaged)) h → option_map class_of (object_in h exception) ≡ Some class → IsUnwound imaged (type_at (typed_of imaged) class) exception old new (unwinds.Init left)
     → AreActivations imaged new → IfOk result (λ settled. settled ≡ settles.Ended (uncaught_outcome imaged h exceeded class exception (Some left)))
     → IfOk result (λ settled. Settles imaged exceeded (throwing imaged exception) h h old new settled)
@@ -113,7 +113,7 @@ threw_out imaged h exceeded class exception left old new (Err e) lt known is gon
 threw_out imaged h exceeded class exception left old new (Ok result) lt known is gone stand ends =
     subst (Settles imaged exceeded (throwing imaged exception) h h old new) (sym ends) (threw imaged h exceeded class exception old new (unwinds.Init left) lt known is gone stand)
 
-pub threw_last : (imaged : Imaged) (h : LimitedHeap) (exceeded : Option Charge) (class exception : ℕ) (old new : List StackFrame) (result : Result Settled NoMemory) → class < length (program_of imaged)
+pub threw_last : (imaged : Imaged) (h : LimitedHeap) (exceeded : Option Charge) (class exception : ℕ) (old new : List StackFrame) (result : Result Settled AllocError) → class < length (program_of imaged)
     → AreKnown (types_of (typed_of imaged)) h → option_map class_of (object_in h exception) ≡ Some class → IsUnwound imaged (type_at (typed_of imaged) class) exception old new unwinds.Threw
     → AreActivations imaged new → IfOk result (λ settled. settled ≡ settles.Ended (uncaught_outcome imaged h exceeded class exception None))
     → IfOk result (λ settled. Settles imaged exceeded (throwing imaged exception) h h old new settled)
@@ -141,7 +141,7 @@ module _ (imaged : Imaged) (exceeded : Option Charge) (class fields : ℕ) (befo
   abbrev size : ℕ
   size = object_size (made class fields)
 
-  abbrev by_limit : Bool → State → Answer
+  abbrev by_limit : Bool → State → StepAnswer
   by_limit past t = if past then Ended (outcomes.HeapFull before.heap.used size) t
       else throw (program_of imaged) imaged.prefix (record t { heap = with_new (heap_map type_of before.heap) (object_map type_of (made class fields)) }) (next_number (heap_map type_of before.heap))
 
@@ -170,7 +170,7 @@ module _ (imaged : Imaged) (exceeded : Option Charge) (class fields : ℕ) (befo
         stand = settles.stand;
       }
 
-  pub made_and_threw : (after : LimitedHeap) (r : ℕ) (old new : List StackFrame) (result : Result Settled NoMemory) → Makes before after (Instance class (replicate fields 0)) r
+  pub made_and_threw : (after : LimitedHeap) (r : ℕ) (old new : List StackFrame) (result : Result Settled AllocError) → Makes before after (Instance class (replicate fields 0)) r
       → IfOk result (λ settled. Settles imaged exceeded (throwing imaged r) after after old new settled)
       → IfOk result (λ settled. Settles imaged exceeded (throwing_new imaged class fields) before after old new settled)
   made_and_threw after r old new (Err e) makes settles = tt

@@ -22,7 +22,7 @@ use Rattle.dj_activations.proofs.Standing.{same_stand}
 use Rattle.dj_unwinding.specs.Returns.{IsReturned}
 use Rattle.dj_unwinding.specs.declared.returning.Returned.TheVariants as returns
 use Rattle.std.specs.Prelude.{Result, Ok, Err, IfOk}
-use Rattle.dj_bytes.specs.declared.memory.NoMemory.{NoMemory}
+use Rattle.std.specs.declared.alloc.AllocError.{AllocError}
 use Rattle.dj_settling.specs.declared.settled.Settled.{Settled}
 use Rattle.dj_settling.specs.declared.settled.Settled.TheVariants as settles
 use Rattle.dj_settling.specs.Reported.{On, Over, reported_of}
@@ -58,7 +58,7 @@ module _ (imaged : Imaged) (exceeded : Option Charge) where
 
   -- ---- exceptions
 
-  pub as_raised : (raised : Raised) (before after : LimitedHeap) (old new : List StackFrame) (result : Result Settled NoMemory) → 0 < length old
+  pub as_raised : (raised : Raised) (before after : LimitedHeap) (old new : List StackFrame) (result : Result Settled AllocError) → 0 < length old
       → IfOk result (λ settled. Settles imaged exceeded (raising imaged raised) before after old new settled)
       → IfOk result (λ settled. Settles imaged exceeded (top_settled (program_of imaged) imaged.prefix (Goes (Raise raised))) before after old new settled)
   unfolding settle
@@ -67,7 +67,7 @@ module _ (imaged : Imaged) (exceeded : Option Charge) where
   as_raised raised before after (f ∷ below) new (Ok result) some settles =
       record { answers = λ terms s limit charge. settles.answers terms s limit charge; limit = settles.limit; known = settles.known; stand = settles.stand }
 
-  pub as_caught : (exception : ℕ) (h : LimitedHeap) (old new : List StackFrame) (result : Result Settled NoMemory) → 0 < length old → IfOk result (λ settled. Settles imaged exceeded (throwing imaged exception) h h old new settled)
+  pub as_caught : (exception : ℕ) (h : LimitedHeap) (old new : List StackFrame) (result : Result Settled AllocError) → 0 < length old → IfOk result (λ settled. Settles imaged exceeded (throwing imaged exception) h h old new settled)
       → IfOk result (λ settled. Settles imaged exceeded (top_settled (program_of imaged) imaged.prefix (Catch exception)) h h old new settled)
   unfolding settle
   as_caught exception h [] new result some settles = absurd (omega (arith, some))
@@ -75,7 +75,7 @@ module _ (imaged : Imaged) (exceeded : Option Charge) where
   as_caught exception h (f ∷ below) new (Ok result) some settles =
       record { answers = λ terms s limit charge. settles.answers terms s limit charge; limit = settles.limit; known = settles.known; stand = settles.stand }
 
-  pub as_stopped : (before after : LimitedHeap) (old new : List StackFrame) (result : Result Settled NoMemory) → 0 < length old → IfOk result (λ settled. Settles imaged exceeded (throwing_stop imaged) before after old new settled)
+  pub as_stopped : (before after : LimitedHeap) (old new : List StackFrame) (result : Result Settled AllocError) → 0 < length old → IfOk result (λ settled. Settles imaged exceeded (throwing_stop imaged) before after old new settled)
       → IfOk result (λ settled. Settles imaged exceeded (top_settled (program_of imaged) imaged.prefix Stop) before after old new settled)
   unfolding settle
   as_stopped before after [] new result some settles = absurd (omega (arith, some))
@@ -149,7 +149,7 @@ module _ (imaged : Imaged) (exceeded : Option Charge) where
         stand = moved.stand;
       }
 
-  pub as_native : (flow own : Flow) (before after : LimitedHeap) (old new : List StackFrame) (result : Result Settled NoMemory)
+  pub as_native : (flow own : Flow) (before after : LimitedHeap) (old new : List StackFrame) (result : Result Settled AllocError)
       → IfOk result (λ settled. Settles imaged exceeded (top_settled (program_of imaged) imaged.prefix own) before after old new settled) → Some own ≡ Some flow
       → IfOk result (λ settled. Settles imaged exceeded (native_settled (program_of imaged) imaged.prefix [] flow) before after old new settled)
   as_native flow own before after old new (Err e) settles same = tt
@@ -185,7 +185,7 @@ module _ (imaged : Imaged) (exceeded : Option Charge) where
     stand = same_stand imaged mid new second.frames (same_stand imaged (f ∷ below) mid first.frames stand);
   }
 
-  pub as_given : (flow : Flow) (v : Value) (h : LimitedHeap) (old new : List StackFrame) (result : Result Settled NoMemory)
+  pub as_given : (flow : Flow) (v : Value) (h : LimitedHeap) (old new : List StackFrame) (result : Result Settled AllocError)
       → IfOk result (λ settled. Settles imaged exceeded (native_settled (program_of imaged) imaged.prefix (v ∷ []) (Goes Next)) h h old new settled) → Some (Goes Next) ≡ Some flow
       → IfOk result (λ settled. Settles imaged exceeded (native_settled (program_of imaged) imaged.prefix (v ∷ []) flow) h h old new settled)
   as_given flow v h old new (Err e) settles same = tt

@@ -15,7 +15,7 @@ use Rattle.dj_names.specs.trusted.Library.{stop_class}
 use Rattle.dj_model.specs.trusted.Types.{Prefix, Declared, is_stop}
 use Rattle.dj_model.specs.trusted.Program.{Program}
 use Rattle.dj_model.specs.trusted.State.{Terms, Frame, State, Flow}
-use Rattle.dj_model.specs.trusted.Step.{Answer, IllFormed, stopped_by, throw, throw_new, new_exception, stop_from, throw_stop_or, settle}
+use Rattle.dj_model.specs.trusted.Step.{StepAnswer, IllFormed, stopped_by, throw, throw_new, new_exception, stop_from, throw_stop_or, settle}
 use Rattle.dj_names.specs.declared.native.NativeId.{NativeId}
 use Rattle.dj_names.specs.declared.native.NativeId.TheVariants as natives
 use Rattle.dj_model.specs.trusted.Natives.{reference}
@@ -52,12 +52,12 @@ settled_reported settles.Went s = On s
 settled_reported (settles.Ended outcome) s = Over outcome s.account s.answers
 
 -- what the model answers in each state with this heap and these frames, whose account has this charge as exceeded, and on terms of the heap's limit
-abbrev pub Answers : Imaged → Option Charge → (Terms → State → Answer) → LimitedHeap → LimitedHeap → List StackFrame → List StackFrame → Settled → Type 0
+abbrev pub Answers : Imaged → Option Charge → (Terms → State → StepAnswer) → LimitedHeap → LimitedHeap → List StackFrame → List StackFrame → Settled → Type 0
 Answers imaged exceeded answer before after old new result = (terms : Terms) (s : State) → terms.limit ≡ Some before.limit → s.account.exceeded ≡ exceeded
     → reported_of (answer terms (seen_in imaged before old s)) ≡ settled_reported result (seen_in imaged after new s)
 
 -- the same, and what a machine has to know of the heap and the frames
-pub record Settles (imaged : Imaged) (exceeded : Option Charge) (answer : Terms → State → Answer) (before after : LimitedHeap) (old new : List StackFrame)
+pub record Settles (imaged : Imaged) (exceeded : Option Charge) (answer : Terms → State → StepAnswer) (before after : LimitedHeap) (old new : List StackFrame)
     (result : Settled) : Type 0 where
   pub answers : Answers imaged exceeded answer before after old new result
   pub limit : after.limit ≡ before.limit
@@ -65,9 +65,9 @@ pub record Settles (imaged : Imaged) (exceeded : Option Charge) (answer : Terms 
   pub stand : AreActivations imaged new
 
 -- what follows an effect on the top frame
-abbrev pub top_settled : Program → Prefix → Flow → Terms → State → Answer
+abbrev pub top_settled : Program → Prefix → Flow → Terms → State → StepAnswer
 top_settled program prefix flow terms s = of_frames s.frames where
-  of_frames : List (Frame Declared) → Answer
+  of_frames : List (Frame Declared) → StepAnswer
   of_frames [] = IllFormed
   of_frames (f ∷ below) = settle program prefix terms s f below flow
 
@@ -107,11 +107,11 @@ settled_by imaged heap exceeded class exception (unwinds.Init left) = settles.En
 settled_by imaged heap exceeded class exception unwinds.Threw = settles.Ended (uncaught_outcome imaged heap exceeded class exception None)
 
 -- the object is thrown
-abbrev pub throwing : Imaged → ℕ → Terms → State → Answer
+abbrev pub throwing : Imaged → ℕ → Terms → State → StepAnswer
 throwing imaged exception terms s = throw (program_of imaged) imaged.prefix s exception
 
 -- an instance of the class of this number, with this many fields, is made and thrown
-abbrev pub throwing_new : Imaged → ℕ → ℕ → Terms → State → Answer
+abbrev pub throwing_new : Imaged → ℕ → ℕ → Terms → State → StepAnswer
 throwing_new imaged class fields terms s = throw_new (program_of imaged) imaged.prefix terms s (Instance (type_at (typed_of imaged) class) (replicate fields 0))
 
 -- the object was made, and its number is kept; or nothing has changed
@@ -145,11 +145,11 @@ pub record IsClassOf (imaged : Imaged) (ty : Ty) (class : ℕ) : Type 0 where
   pub is : type_at (typed_of imaged) class ≡ ty
 
 -- an exception of an instruction's own is made and thrown
-abbrev pub raising : Imaged → Raised → Terms → State → Answer
+abbrev pub raising : Imaged → Raised → Terms → State → StepAnswer
 raising imaged raised terms s = throw_new (program_of imaged) imaged.prefix terms s (new_exception imaged.prefix raised)
 
 -- the object that stops a run is found or made, and thrown
-abbrev pub throwing_stop : Imaged → Terms → State → Answer
+abbrev pub throwing_stop : Imaged → Terms → State → StepAnswer
 throwing_stop imaged terms s = throw_stop_or (program_of imaged) imaged.prefix terms s (stop_from imaged.prefix 1 s.heap.objects)
 
 abbrev pub stop_found : Imaged → LimitedHeap → Option ℕ
@@ -167,9 +167,9 @@ stop_number_from class r (object ∷ objects) = if nat_eq class (class_of object
 -- ---- native methods
 
 -- what follows the answer of a native method, whose arguments were taken from the top frame
-abbrev pub native_settled : Program → Prefix → List Value → Flow → Terms → State → Answer
+abbrev pub native_settled : Program → Prefix → List Value → Flow → Terms → State → StepAnswer
 native_settled program prefix given flow terms s = of_frames s.frames where
-  of_frames : List (Frame Declared) → Answer
+  of_frames : List (Frame Declared) → StepAnswer
   of_frames [] = IllFormed
   of_frames (f ∷ below) = settle program prefix terms s (record f { operands = given ++ f.operands }) below flow
 

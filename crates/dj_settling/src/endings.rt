@@ -8,9 +8,9 @@ ghost use Rattle.dj_settling.specs.Settling.{left_outcome, stopping, uncaught_ou
 use crate::messages::message_of;
 use dj_heap::Heap;
 use dj_image::Image;
-use dj_names::{Charge, Name, NoMemory, Outcome};
+use dj_names::{Charge, Name, Outcome};
 use dj_natives::Classes;
-use std::alloc::Global;
+use std::alloc::{AllocError, Global};
 
 // How the run ends where an exception of this class leaves the initialiser of a class, or the last frame.
 pub(crate) fn uncaught_outcome(
@@ -21,7 +21,7 @@ pub(crate) fn uncaught_outcome(
     class: u32,
     exception: u32,
     left: Option<u32>,
-) -> Result<Outcome, NoMemory>
+) -> Result<Outcome, AllocError>
     requires class { class < length (program_of image.now) }
     requires there { IsSome (object_in heap.now exception) }
     requires left { IfSome left (λ k. k < length (program_of image.now)) }
@@ -53,7 +53,7 @@ fn left_outcome(
     class: u32,
     exception: u32,
     left: Option<u32>,
-) -> Result<Outcome, NoMemory>
+) -> Result<Outcome, AllocError>
     requires class { class < length (program_of image.now) }
     requires there { IsSome (object_in heap.now exception) }
     requires left { IfSome left (λ k. k < length (program_of image.now)) }
@@ -69,7 +69,7 @@ fn left_outcome(
 
 // The name of a class.
 #[tactic(auto, using(crate::proofs::EndLaws::name_reported, crate::proofs::EndLaws::type_within))]
-fn class_name(alloc: Global, image: &Image, class: u32) -> Result<Name, NoMemory>
+fn class_name(alloc: Global, image: &Image, class: u32) -> Result<Name, AllocError>
     requires { class < length (program_of image.now) }
     ensures { IfOk result (λ name. name ≡ class_name_at (program_of image.now) class) }
 {

@@ -17,9 +17,9 @@ use crate::settled::Settled;
 use dj_effects::Way;
 use dj_heap::Heap;
 use dj_image::Image;
-use dj_names::{Charge, NoMemory};
+use dj_names::Charge;
 use dj_stack::Frames;
-use std::alloc::Global;
+use std::alloc::{AllocError, Global};
 
 /// The run goes on after the top frame's instruction, as its effect says.
 #[tactic(auto, using(crate::proofs::WayLaws::as_raised))]
@@ -30,7 +30,7 @@ pub fn go(
     heap: &mut Heap,
     exceeded: Option<Charge>,
     way: Way,
-) -> Result<Settled, NoMemory>
+) -> Result<Settled, AllocError>
     requires sound { IsSound (program_of image.now) image.now.prefix }
     requires own { HasOwn image.now }
     requires stand { AreActivations image.now frames.old }
@@ -50,7 +50,11 @@ pub fn go(
 
 // At the next instruction.
 #[tactic(auto, using(crate::proofs::WayLaws::went_on))]
-pub(crate) fn go_next(image: &Image, frames: &mut Frames, heap: &Heap) -> Result<Settled, NoMemory>
+pub(crate) fn go_next(
+    image: &Image,
+    frames: &mut Frames,
+    heap: &Heap,
+) -> Result<Settled, AllocError>
     requires stand { AreActivations image.now frames.old }
     requires some { 0 < length frames.old }
     requires known { AreKnown (types_of (typed_of image.now)) heap.now }
@@ -63,7 +67,12 @@ pub(crate) fn go_next(image: &Image, frames: &mut Frames, heap: &Heap) -> Result
 
 // At the instruction of this number. There is no memory for a number past the greatest.
 #[tactic(auto, using(crate::proofs::WayLaws::went_to))]
-fn go_to(image: &Image, frames: &mut Frames, heap: &Heap, number: u64) -> Result<Settled, NoMemory>
+fn go_to(
+    image: &Image,
+    frames: &mut Frames,
+    heap: &Heap,
+    number: u64,
+) -> Result<Settled, AllocError>
     requires stand { AreActivations image.now frames.old }
     requires some { 0 < length frames.old }
     requires known { AreKnown (types_of (typed_of image.now)) heap.now }
@@ -71,7 +80,7 @@ fn go_to(image: &Image, frames: &mut Frames, heap: &Heap, number: u64) -> Result
     ensures frugal { number < 2 ^ 32 → IfErr result (λ _. ⊥) }
 {
     let Ok(number) = u32::try_from(number) else {
-        return Err(NoMemory::Memory);
+        return Err(AllocError);
     };
     frames.set_number(number);
     Ok(Settled::Went)
@@ -79,7 +88,7 @@ fn go_to(image: &Image, frames: &mut Frames, heap: &Heap, number: u64) -> Result
 
 // The top frame is at the next instruction. There is no memory for the number after the greatest.
 #[tactic(auto, using(dj_unwinding::proofs::Tops::top_there, dj_unwinding::proofs::Tops::number_on_top))]
-pub(crate) fn advance(frames: &mut Frames) -> Result<(), NoMemory>
+pub(crate) fn advance(frames: &mut Frames) -> Result<(), AllocError>
     requires { 0 < length frames.old }
     ensures number { OnOk result (top_number frames.new ≡ top_number frames.old + 1) }
     ensures rest { OnOk result (SameButNumber frames.old frames.new) }
@@ -87,7 +96,7 @@ pub(crate) fn advance(frames: &mut Frames) -> Result<(), NoMemory>
 {
     let number = frames.number(frames.depth() - 1);
     let Some(next) = number.checked_add(1) else {
-        return Err(NoMemory::Memory);
+        return Err(AllocError);
     };
     frames.set_number(next);
     Ok(())

@@ -4,12 +4,12 @@ ghost use Rattle.dj_calls.specs.Seen.{IsTextThere, IsThere, field_at, is_text_at
 ghost use Rattle.dj_settling.specs.Settling.{message_at};
 
 use dj_heap::{Heap, Made};
-use dj_names::{Message, NoMemory, Units};
-use std::alloc::Global;
+use dj_names::{Message, Units};
+use std::alloc::{AllocError, Global};
 
 // The message of an exception, which is its first field.
 #[tactic(auto, using(crate::proofs::MessageLaws::message_text, crate::proofs::MessageLaws::message_null))]
-pub(crate) fn message_of(alloc: Global, heap: &Heap, exception: u32) -> Result<Message, NoMemory>
+pub(crate) fn message_of(alloc: Global, heap: &Heap, exception: u32) -> Result<Message, AllocError>
     requires { IsSome (object_in heap.now exception) }
     ensures { IfOk result (λ message. message ≡ message_at heap.now exception) }
 {
@@ -62,7 +62,7 @@ fn text_number(heap: &Heap, r: u64) -> Option<u32>
 
 // The units of a text.
 #[tactic(auto, using(crate::proofs::MessageLaws::text_there, crate::proofs::MessageLaws::unit_there, crate::proofs::MessageLaws::unit_is, crate::proofs::MessageLaws::units_long))]
-fn units_of(alloc: Global, heap: &Heap, text: u32) -> Result<Units, NoMemory>
+fn units_of(alloc: Global, heap: &Heap, text: u32) -> Result<Units, AllocError>
     requires { is_text_at heap.now text ≡ true }
     ensures { IfOk result (λ units. units ≡ units_at heap.now text) }
 {

@@ -18,9 +18,9 @@ use crate::throwing::throw;
 use dj_calls::{NativeAnswer, reference};
 use dj_heap::Heap;
 use dj_image::Image;
-use dj_names::{Charge, NativeId, NoMemory, Outcome, Value};
+use dj_names::{Charge, NativeId, Outcome, Value};
 use dj_stack::Frames;
-use std::alloc::Global;
+use std::alloc::{AllocError, Global};
 
 /// What follows the answer of a native method, whose arguments were taken from the top frame.
 #[tactic(auto, using(crate::proofs::WayLaws::as_native, crate::proofs::WayLaws::as_given, crate::proofs::WayLaws::as_raised, crate::proofs::WayLaws::as_ended, crate::proofs::NativeLaws::reported_before))]
@@ -34,7 +34,7 @@ pub fn settle_native(
     id: NativeId,
     args: &[Value],
     answer: NativeAnswer,
-) -> Result<Settled, NoMemory>
+) -> Result<Settled, AllocError>
     requires sound { IsSound (program_of image.now) image.now.prefix }
     requires own { HasOwn image.now }
     requires stand { AreActivations image.now frames.old }
@@ -54,13 +54,18 @@ pub fn settle_native(
         NativeAnswer::Full { used, size } => {
             Ok(Settled::Ended(Outcome::HeapFull { used, size }))
         }
-        NativeAnswer::Memory => Err(NoMemory::Memory),
+        NativeAnswer::Memory => Err(AllocError),
     }
 }
 
 // The value is pushed, and the top frame goes on at the next instruction.
 #[tactic(auto, using(crate::proofs::WayLaws::gave))]
-fn give(image: &Image, frames: &mut Frames, heap: &Heap, value: Value) -> Result<Settled, NoMemory>
+fn give(
+    image: &Image,
+    frames: &mut Frames,
+    heap: &Heap,
+    value: Value,
+) -> Result<Settled, AllocError>
     requires stand { AreActivations image.now frames.old }
     requires some { 0 < length frames.old }
     requires known { AreKnown (types_of (typed_of image.now)) heap.now }
@@ -83,7 +88,7 @@ fn stop_by(
     stop: &mut u32,
     id: NativeId,
     args: &[Value],
-) -> Result<Settled, NoMemory>
+) -> Result<Settled, AllocError>
     requires sound { IsSound (program_of image.now) image.now.prefix }
     requires own { HasOwn image.now }
     requires stand { AreActivations image.now frames.old }

@@ -12,10 +12,10 @@ use crate::settled::Settled;
 use crate::throwing::throw_new;
 use dj_heap::Heap;
 use dj_image::Image;
-use dj_names::{Charge, NoMemory, Raised};
+use dj_names::{Charge, Raised};
 use dj_stack::Frames;
 use dj_types::raised_name;
-use std::alloc::Global;
+use std::alloc::{AllocError, Global};
 
 /// An exception of an instruction's own, without message and cause, is made and thrown.
 #[tactic(auto, using(crate::proofs::RaiseLaws::raised_new))]
@@ -26,7 +26,7 @@ pub fn raise(
     heap: &mut Heap,
     exceeded: Option<Charge>,
     raised: Raised,
-) -> Result<Settled, NoMemory>
+) -> Result<Settled, AllocError>
     requires sound { IsSound (program_of image.now) image.now.prefix }
     requires own { HasOwn image.now }
     requires stand { AreActivations image.now frames.old }

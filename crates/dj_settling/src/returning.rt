@@ -12,10 +12,10 @@ ghost use Rattle.dj_settling.specs.Settling.{Settles, top_settled};
 use crate::settled::Settled;
 use dj_heap::Heap;
 use dj_image::Image;
-use dj_names::{NoMemory, Value};
+use dj_names::Value;
 use dj_stack::Frames;
 use dj_unwinding::{Returned, go_back, result_outcome};
-use std::alloc::Global;
+use std::alloc::{AllocError, Global};
 
 /// The method of the top frame returns, and the run goes on in the caller, or ends where it was the last one.
 #[tactic(auto, using(crate::proofs::WayLaws::went_back, crate::proofs::WayLaws::last_ended, crate::proofs::FrugalLaws::has_number_below, crate::proofs::FrugalLaws::never_last))]
@@ -25,7 +25,7 @@ pub fn give_back(
     frames: &mut Frames,
     heap: &Heap,
     value: Option<Value>,
-) -> Result<Settled, NoMemory>
+) -> Result<Settled, AllocError>
     requires stand { AreActivations image.now frames.old }
     requires some { 0 < length frames.old }
     requires room { HasRoomBelow (program_of image.now) frames.old value }

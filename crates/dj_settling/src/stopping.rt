@@ -10,9 +10,9 @@ use crate::settled::Settled;
 use crate::throwing::{make_and_throw, throw};
 use dj_heap::Heap;
 use dj_image::Image;
-use dj_names::{Charge, NoMemory};
+use dj_names::Charge;
 use dj_stack::Frames;
-use std::alloc::Global;
+use std::alloc::{AllocError, Global};
 
 /// Throws the object that stops a run. It has the given number; where that is 0, as it wasn't needed before, the first one of the heap is taken, or one is
 /// made, and its number is kept.
@@ -24,7 +24,7 @@ pub fn throw_stop(
     heap: &mut Heap,
     exceeded: Option<Charge>,
     stop: &mut u32,
-) -> Result<Settled, NoMemory>
+) -> Result<Settled, AllocError>
     requires sound { IsSound (program_of image.now) image.now.prefix }
     requires own { HasOwn image.now }
     requires rewritten { IsRewritten image.now.prefix }
@@ -54,7 +54,7 @@ fn throw_found(
     exceeded: Option<Charge>,
     class: u32,
     found: u32,
-) -> Result<Settled, NoMemory>
+) -> Result<Settled, AllocError>
     requires sound { IsSound (program_of image.now) image.now.prefix }
     requires class { Some class ≡ stop_at (typed_of image.now) }
     requires stand { AreActivations image.now frames.old }
@@ -76,7 +76,7 @@ fn make_stop(
     exceeded: Option<Charge>,
     class: u32,
     stop: &mut u32,
-) -> Result<Settled, NoMemory>
+) -> Result<Settled, AllocError>
     requires sound { IsSound (program_of image.now) image.now.prefix }
     requires class { Some class ≡ stop_at (typed_of image.now) }
     requires stand { AreActivations image.now frames.old }

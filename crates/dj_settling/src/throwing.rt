@@ -15,10 +15,10 @@ use crate::endings::uncaught_outcome;
 use crate::settled::Settled;
 use dj_heap::{Heap, HeapError};
 use dj_image::Image;
-use dj_names::{Charge, NoMemory, Outcome};
+use dj_names::{Charge, Outcome};
 use dj_stack::Frames;
 use dj_unwinding::{Unwound, unwind};
-use std::alloc::Global;
+use std::alloc::{AllocError, Global};
 
 /// Throws an object: the exception leaves frames up to the first with a handler, or the run ends. The charge is the one that has passed its threshold,
 /// where one has.
@@ -30,7 +30,7 @@ pub fn throw(
     heap: &Heap,
     exceeded: Option<Charge>,
     exception: u32,
-) -> Result<Settled, NoMemory>
+) -> Result<Settled, AllocError>
     requires sound { IsSound (program_of image.now) image.now.prefix }
     requires stand { AreActivations image.now frames.old }
     requires known { AreKnown (types_of (typed_of image.now)) heap.now }
@@ -56,7 +56,7 @@ fn end(
     class: u32,
     exception: u32,
     left: Option<u32>,
-) -> Result<Settled, NoMemory>
+) -> Result<Settled, AllocError>
     requires class { class < length (program_of image.now) }
     requires there { IsSome (object_in heap.now exception) }
     requires left { IfSome left (λ k. k < length (program_of image.now)) }
@@ -75,7 +75,7 @@ pub fn throw_new(
     exceeded: Option<Charge>,
     class: u32,
     fields: u32,
-) -> Result<Settled, NoMemory>
+) -> Result<Settled, AllocError>
     requires sound { IsSound (program_of image.now) image.now.prefix }
     requires stand { AreActivations image.now frames.old }
     requires known { AreKnown (types_of (typed_of image.now)) heap.old }
@@ -99,7 +99,7 @@ pub(crate) fn make_and_throw(
     class: u32,
     fields: u32,
     made: &mut u32,
-) -> Result<Settled, NoMemory>
+) -> Result<Settled, AllocError>
     requires sound { IsSound (program_of image.now) image.now.prefix }
     requires stand { AreActivations image.now frames.old }
     requires known { AreKnown (types_of (typed_of image.now)) heap.old }
@@ -116,6 +116,6 @@ pub(crate) fn make_and_throw(
         Err(HeapError::Full { used, size }) => {
             Ok(Settled::Ended(Outcome::HeapFull { used, size }))
         }
-        Err(HeapError::Memory) => Err(NoMemory::Memory),
+        Err(HeapError::Memory) => Err(AllocError),
     }
 }

@@ -10,7 +10,7 @@ use Rattle.dj_model.specs.trusted.Linking.{or_else}
 use Rattle.dj_model.specs.trusted.Values.{local_at}
 use Rattle.dj_model.specs.trusted.Program.{Code}
 use Rattle.dj_model.specs.trusted.Kinds.{Kinds, Signature, depth, placed_at}
-use Rattle.dj_model.specs.trusted.Shape.{after, first_kinds, state_before, Holds}
+use Rattle.dj_model.specs.trusted.Shape.{after, first_kinds, state_before, HoldsAt}
 use Rattle.dj_shape.specs.declared.needs.Changed.{Changed}
 use Rattle.dj_shape.specs.declared.handlers.Handlers.{Handlers}
 use Rattle.dj_shape.specs.declared.pass.Method.{Method}
@@ -46,7 +46,7 @@ module _ (method : Method) (c : Case) (is : IsCase method c) (number : ℕ) (ins
   State = state_before c.signature c.code c.placed number
 
   abbrev Good : Type 0
-  Good = Holds c.signature c.code c.placed number
+  Good = HoldsAt c.signature c.code c.placed number
 
   state_with : (p : Option Kinds) (k : Option Kinds) → placed_at c.placed number ≡ p → arriving c number ≡ k → State ≡ or_else p k
   state_with p k e f = state_is c number ∙ ap (λ (x : Option Kinds). or_else x (arriving c number)) e ∙ ap (λ (x : Option Kinds). or_else p x) f

@@ -12,7 +12,7 @@ use Rattle.dj_model.specs.trusted.Program.{Range}
 use Rattle.dj_model.specs.trusted.Instructions.{Instruction, ends, targets}
 use Rattle.dj_model.specs.trusted.Linking.{or_else}
 use Rattle.dj_model.specs.trusted.Kinds.{Kinds, placed_at}
-use Rattle.dj_model.specs.trusted.Shape.{after, first_kinds, flows_to, is_handler_frame, locals_flow_to, covers, goes_on_with, state_before, Holds}
+use Rattle.dj_model.specs.trusted.Shape.{after, first_kinds, flows_to, is_handler_frame, locals_flow_to, covers, goes_on_with, state_before, HoldsAt}
 use Rattle.dj_shape.specs.declared.pass.Method.{Method}
 use Rattle.dj_shape.specs.Reported.{reported_at}
 use Rattle.dj_shape.specs.Flows.{FlowsTo}
@@ -42,24 +42,24 @@ module _ (method : Method) (c : Case) (is : IsCase method c) (number : ℕ) (ins
   count = ap length is.instructions ∙ length-map method.code.now (instruction_in c.pool)
 
   -- the one state, the one instruction
-  pub same_before : (before : Kinds) → state_before c.signature c.code c.placed number ≡ Some before → (h : Holds c.signature c.code c.placed number) → h.before ≡ before
+  pub same_before : (before : Kinds) → state_before c.signature c.code c.placed number ≡ Some before → (h : HoldsAt c.signature c.code c.placed number) → h.before ≡ before
   same_before before state h = let s : Some h.before ≡ Some before = sym h.state ∙ state in cc
 
-  same_instruction : (h : Holds c.signature c.code c.placed number) → h.instruction ≡ i
+  same_instruction : (h : HoldsAt c.signature c.code c.placed number) → h.instruction ≡ i
   same_instruction h = let s : Some h.instruction ≡ Some i = sym h.at ∙ at_code in cc
 
-  pub not_found : (before : Kinds) → state_before c.signature c.code c.placed number ≡ Some before → after c.signature c.code i before ≡ None → Holds c.signature c.code c.placed number → ⊥
+  pub not_found : (before : Kinds) → state_before c.signature c.code c.placed number ≡ Some before → after c.signature c.code i before ≡ None → HoldsAt c.signature c.code c.placed number → ⊥
   not_found before state none h =
       let found : after c.signature c.code i before ≡ Some h.left =
       subst (λ (k : Kinds). after c.signature c.code i k ≡ Some h.left) (same_before before state h)
       (subst (λ (x : Instruction). after c.signature c.code x h.before ≡ Some h.left) (same_instruction h) h.found) in
       absurd cc
 
-  pub no_state : state_before c.signature c.code c.placed number ≡ None → Holds c.signature c.code c.placed number → ⊥
+  pub no_state : state_before c.signature c.code c.placed number ≡ None → HoldsAt c.signature c.code c.placed number → ⊥
   no_state none h = let s : None ≡ Some h.before = sym none ∙ h.state in absurd cc
 
   same_left : (before left : Kinds) → state_before c.signature c.code c.placed number ≡ Some before → after c.signature c.code i before ≡ Some left
-      → (h : Holds c.signature c.code c.placed number) → h.left ≡ left
+      → (h : HoldsAt c.signature c.code c.placed number) → h.left ≡ left
   same_left before left state found h =
       let there : after c.signature c.code i before ≡ Some h.left =
       subst (λ (k : Kinds). after c.signature c.code i k ≡ Some h.left) (same_before before state h)
@@ -74,7 +74,7 @@ module _ (method : Method) (c : Case) (is : IsCase method c) (number : ℕ) (ins
   Handles = (k : ℕ) (row : Protected) → slice_get method.rows.now k ≡ Some row → row.handler ≡ number → HasHandlerFrame method.frames number
 
   pub holds : (before left : Kinds) → state_before c.signature c.code c.placed number ≡ Some before → after c.signature c.code i before ≡ Some left
-      → Begins → Handles → Handled method.rows.now method.frames number before.locals → Flowing method number left i → Holds c.signature c.code c.placed number
+      → Begins → Handles → Handled method.rows.now method.frames number before.locals → Flowing method number left i → HoldsAt c.signature c.code c.placed number
   holds before left state found begins handles handled flowing =
       record {
         before = before;
@@ -99,17 +99,17 @@ module _ (method : Method) (c : Case) (is : IsCase method c) (number : ℕ) (ins
         zero_so : IsTrue (nat_eq number 0) → number ≡ 0
         zero_so t = elim (eqb_tells number 0) [ inl e ↦ e.1 | inr e ↦ absurd cc ]
 
-  pub has_begins : (h : Holds c.signature c.code c.placed number) → Begins
+  pub has_begins : (h : HoldsAt c.signature c.code c.placed number) → Begins
   has_begins h e =
       from_goes c.code.max_stack c.code.max_locals c.placed method.frames is.frames (first_kinds c.signature c.code) 0
       (from_or_not (nat_eq number 0) (flows_to (first_kinds c.signature c.code) (placed_at c.placed 0)) h.begins (grind (arith, nat_tests)))
 
-  pub has_handles : (h : Holds c.signature c.code c.placed number) → Handles
+  pub has_handles : (h : HoldsAt c.signature c.code c.placed number) → Handles
   has_handles h =
       from_handles c.code.max_stack c.code.max_locals c.placed method.frames is.frames c.pool method.rows.now number
       (subst (λ (l : List Range). IsTrue (list_all (λ (range : Range). not (nat_eq number range.handler) || is_handler_frame (placed_at c.placed number)) l)) is.ranges h.handles)
 
-  pub has_handled : (before : Kinds) → state_before c.signature c.code c.placed number ≡ Some before → Holds c.signature c.code c.placed number
+  pub has_handled : (before : Kinds) → state_before c.signature c.code c.placed number ≡ Some before → HoldsAt c.signature c.code c.placed number
       → Handled method.rows.now method.frames number before.locals
   has_handled before state h =
       subst (λ (k : Kinds). Handled method.rows.now method.frames number k.locals) (same_before before state h)
@@ -117,7 +117,7 @@ module _ (method : Method) (c : Case) (is : IsCase method c) (number : ℕ) (ins
       (subst (λ (l : List Range). IsTrue (list_all (λ (range : Range). not (covers range number) || locals_flow_to h.before (placed_at c.placed range.handler)) l)) is.ranges h.handled))
 
   pub has_flowing : (before left : Kinds) → state_before c.signature c.code c.placed number ≡ Some before → after c.signature c.code i before ≡ Some left
-      → Holds c.signature c.code c.placed number → Flowing method number left i
+      → HoldsAt c.signature c.code c.placed number → Flowing method number left i
   has_flowing before left state found h =
       subst (λ (k : Kinds). Flowing method number k i) (same_left before left state found h) (subst (λ (x : Instruction). Flowing method number h.left x) (same_instruction h) (record {
         jumps = from_jumps c.code.max_stack c.code.max_locals c.placed method.frames is.frames h.left (targets h.instruction) h.jumps;

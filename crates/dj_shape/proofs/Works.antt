@@ -17,7 +17,7 @@ use Rattle.dj_model.specs.trusted.Instructions.{Instruction, Nop, Push, PushText
 use Rattle.dj_model.specs.trusted.Members.{with_kind, kinds_of}
 use Rattle.dj_model.specs.trusted.Numbers.{is_wide, same_kind}
 use Rattle.dj_model.specs.trusted.Values.{Cut, one_slot, two_slots, under_one, under_two, local_at, moved}
-use Rattle.dj_model.specs.trusted.Kinds.{Signature, signature_with, with_result, call_signature, with_receiver, signature_of, Kinds, kind_slots, depth}
+use Rattle.dj_model.specs.trusted.Kinds.{Signature, signature_with, signature_result, call_signature, with_receiver, signature_of, Kinds, kind_slots, depth}
 use Rattle.dj_model.specs.trusted.Shape as shapes
 use Rattle.dj_model.specs.trusted.Shape.{after, taken, leaving, gives, store_kind, is_kind, same_result, result_list, get_kind, put_kind, counts, is_static_mode, call_kinds}
 use Rattle.dj_model.proofs.MappedNames.{either}
@@ -124,7 +124,7 @@ with_slots types result (Some parameters) signature each e =
     let whole : record { parameters = parameters; result = result } ≡ signature = cc in
     each parameters refl ∙ ap (λ (s : Signature). depth s.parameters) whole
 
-result_slots : (types : List Ty) (result : Option Kind) (signature : Signature) → with_result result (kinds_of types) ≡ Some signature
+result_slots : (types : List Ty) (result : Option Kind) (signature : Signature) → signature_result result (kinds_of types) ≡ Some signature
     → sum_by type_slots types ≡ depth signature.parameters
 result_slots types None signature e = absurd cc
 result_slots types (Some kind) signature e = with_slots types (Some kind) (kinds_of types) signature (kinds_slots types) e

@@ -9,7 +9,7 @@ use Rattle.dj_model.specs.trusted.Program.{Code}
 use Rattle.dj_model.specs.trusted.Instructions.{Instruction, Other, ends, targets}
 use Rattle.dj_model.specs.trusted.Values.{local_at}
 use Rattle.dj_model.specs.trusted.Kinds.{Kinds, Signature, Placed}
-use Rattle.dj_model.specs.trusted.Shape.{after, first_kinds, goes_on_with, state_before, Holds, IsFirstFault}
+use Rattle.dj_model.specs.trusted.Shape.{after, first_kinds, goes_on_with, state_before, HoldsAt, IsFirstFault}
 use Rattle.dj_shape.specs.declared.needs.Changed.{Changed}
 use Rattle.dj_shape.specs.declared.needs.Changed.TheVariants as changes
 use Rattle.dj_shape.specs.declared.pass.Method.{Method}
@@ -119,10 +119,10 @@ pub record Leaving (method : Method) (number : ℕ) (left : Kinds) (going : Bool
 
 -- whether the instruction holds, and what is known before the next one
 abbrev pub Answers : Bool → Method → Case → ℕ → Pass → Type 0
-Answers true method c number pass = Holds c.signature c.code c.placed number × Before method c (suc number) pass
-Answers false method c number pass = Holds c.signature c.code c.placed number → ⊥
+Answers true method c number pass = HoldsAt c.signature c.code c.placed number × Before method c (suc number) pass
+Answers false method c number pass = HoldsAt c.signature c.code c.placed number → ⊥
 
 -- the first instruction that doesn't hold, if there is one
 abbrev pub IsFirst : Case → Option ℕ → Type 0
-IsFirst c None = (number : ℕ) → number < length c.code.instructions → Holds c.signature c.code c.placed number
+IsFirst c None = (number : ℕ) → number < length c.code.instructions → HoldsAt c.signature c.code c.placed number
 IsFirst c (Some number) = IsFirstFault c.signature c.code c.placed number

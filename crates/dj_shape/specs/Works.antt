@@ -156,7 +156,7 @@ class_work op constants.Class =
     else Fails
 class_work op _ = Fails
 
--- ---- of what the code makes of it
+-- ---- the same definitions, of operands as the code cuts and copies them
 
 abbrev pub cut_of : SlotWidth → List Kind → Option (Cut Kind)
 cut_of slots.One stack = one_slot is_wide stack

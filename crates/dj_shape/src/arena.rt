@@ -97,7 +97,7 @@ impl<'a> Locals<'a> {
     }
 }
 
-// Where local variables end whose last one has the slot of this index.
+// The number of slots, where the last one has this index.
 fn next_end(count: usize) -> Result<u32, ShapeError>
     ensures { IfOk result (λ end. (end ≡ count + 1) × (end < 2 ^ 32)) }
 {

@@ -30,3 +30,13 @@ impl<T: Drop> From<AllocFailed<T>> for ShapeError {
         ShapeError::Memory
     }
 }
+
+impl From<ShapeError> for AllocError {
+    ghost use Rattle.std.specs.declared.alloc.AllocError.{AllocError};
+
+    ghost from_gives = { λ _ e. e ≡ record {} };
+
+    fn from(_error: ShapeError) -> AllocError {
+        AllocError
+    }
+}

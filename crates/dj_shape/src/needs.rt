@@ -18,7 +18,7 @@ pub struct Need {
 #[derive(Clone, Copy)]
 pub enum Changed {
     All,
-    /// From the first slot up to the last without it.
+    /// From the first slot up to the second one, which isn't included.
     Some(usize, usize),
 }
 

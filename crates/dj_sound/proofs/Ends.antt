@@ -9,7 +9,7 @@ use Rattle.dj_rules.specs.trusted.Violations.{this_name}
 use Rattle.dj_model.specs.trusted.Program.{Program, Class, class_at}
 use Rattle.dj_model.specs.trusted.Linking.{option_list}
 use Rattle.dj_model.specs.trusted.Libraries.{library_class, library_program}
-use Rattle.dj_model.specs.Sound.{Ends, top, below}
+use Rattle.dj_model.specs.Sound.{ReachesTop, top, below}
 use Rattle.dj_model.proofs.SoundLinks.{class_contained}
 use Rattle.dj_declared.specs.trusted.Files.{declared_class}
 use Rattle.dj_classes.proofs.Orders.{names_from_same, same_from_names}
@@ -68,7 +68,7 @@ module _ {judge : Library} (library : Library) (alike : IsAlike library) (sound 
       let there : Contains program c = subst (Contains program) same (row_there library files classes program accepted.good is row (member_mapped library_class library row own)) in
       at_named library alike files classes program accepted is c name there named
 
-  library_ends : (name : Name) → Ends (library_program library) name → Ends program name
+  library_ends : (name : Name) → ReachesTop (library_program library) name → ReachesTop program name
   library_ends name (top class c at none) = top class c (row_at class c at) none
   library_ends name (below class above c at next more) = below class above c (row_at class c at) next (library_ends above more)
 
@@ -118,25 +118,25 @@ module _ {judge : Library} (library : Library) (alike : IsAlike library) (sound 
       (λ same. not_itself class.name above under (subst (Up above) same up))
 
   of_file : (rest : List Name) (class : Class) → Contains program class → AreAmong rest class.name
-      → ((d : Class) → length (without class.name rest) < length rest → Contains program d → AreAmong (without class.name rest) d.name → Ends program d.name)
-      → IsOfFile files classes class → (o : Option Name) → class.superclass ≡ o → Ends program class.name
+      → ((d : Class) → length (without class.name rest) < length rest → Contains program d → AreAmong (without class.name rest) d.name → ReachesTop program d.name)
+      → IsOfFile files classes class → (o : Option Name) → class.superclass ≡ o → ReachesTop program class.name
   of_file rest class m among more of None e = top class.name class (at_name library alike files classes program accepted is class m) e
   of_file rest class m among more of (Some above) e =
       let (d, at) = super_there library alike files classes program accepted is class above of e in
       let (there, named) = class_contained program above d at in
       let own : Contains rest class.name = subst (Contains rest) (sym (name_read class of)) (among of.read of.listed (Stays (name_read class of))) in
       let next = next_among rest class above of e among in
-      let up : Ends program d.name = more d (shorter class.name rest own) there (subst (AreAmong (without class.name rest)) (sym named) next) in
-      below class.name above class (at_name library alike files classes program accepted is class m) e (subst (Ends program) named up)
+      let up : ReachesTop program d.name = more d (shorter class.name rest own) there (subst (AreAmong (without class.name rest)) (sym named) next) in
+      below class.name above class (at_name library alike files classes program accepted is class m) e (subst (ReachesTop program) named up)
 
-  ends_among : (fuel : ℕ) (rest : List Name) (class : Class) → length rest < fuel → Contains program class → AreAmong rest class.name → Ends program class.name
+  ends_among : (fuel : ℕ) (rest : List Name) (class : Class) → length rest < fuel → Contains program class → AreAmong rest class.name → ReachesTop program class.name
   ends_among zero rest class lt m among = absurd (omega (arith, lt))
   ends_among (suc n) rest class lt m among = elim (origin library files classes program accepted.good is class m) [
     | inl of ↦ of_file rest class m among (λ d less there. ends_among n (without class.name rest) d (omega (arith, lt, less)) there) of class.superclass refl
     | inr row ↦ library_ends class.name (sound.formed.classes class (row_member library class row)).ends
   ]
 
-  pub class_ends : (class : Class) → Contains program class → Ends program class.name
+  pub class_ends : (class : Class) → Contains program class → ReachesTop program class.name
   class_ends class m =
       ends_among (suc (length (map this_name classes))) (map this_name classes) class (omega arith) m (λ c own up. member_mapped this_name classes c own)
 

@@ -8,7 +8,7 @@ use Rattle.dj_report.specs.trusted.Lines.{file_line}
 use Rattle.dj_model.specs.trusted.Libraries.{library_program}
 use Rattle.dj_model.specs.Sound.{IsSound}
 use Rattle.dj_loader.proofs.Lists.{member_first, member_none}
-use Rattle.dj_classes.specs.trusted.Tables.{declared_program}
+use Rattle.dj_declared.specs.trusted.Files.{declared_program}
 use Rattle.dj_sandbox.specs.trusted.Checked.{IsLineBy}
 use Rattle.dj_sandbox.specs.trusted.RawRules.{AreRawViolations}
 use Rattle.dj_sound.specs.Accepted.{IsAcceptedBy, IsAccepted, IsRawAccepted}

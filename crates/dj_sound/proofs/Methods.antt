@@ -27,9 +27,8 @@ use Rattle.dj_check.specs.trusted.Malformed.{IsGood}
 use Rattle.dj_check.specs.trusted.Methods.{InstrViolates, CatchesError, MethodViolates}
 use Rattle.dj_check.specs.trusted.Rules.{line_at}
 use Rattle.dj_check.specs.trusted.Floats.{HasFloat}
-use Rattle.dj_declared.specs.trusted.Files.{name_in, desc_in, declared_class}
+use Rattle.dj_declared.specs.trusted.Files.{name_in, desc_in, declared_class, declared_program}
 use Rattle.dj_declared.specs.trusted.Members.{has_method_named}
-use Rattle.dj_classes.specs.trusted.Tables.{declared_program}
 use Rattle.dj_classes.proofs.Orders.{same_from_names}
 use Rattle.dj_classes.proofs.Joins.{declared_program-joined}
 use Rattle.dj_classes.proofs.Rising.{members_joined}

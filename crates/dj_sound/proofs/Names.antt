@@ -11,9 +11,8 @@ use Rattle.dj_library.specs.trusted.Heads.{Head}
 use Rattle.dj_model.specs.trusted.Program.{Program, Class}
 use Rattle.dj_model.specs.trusted.Libraries.{is_name_before}
 use Rattle.dj_model.specs.Sound.{names_rise}
-use Rattle.dj_declared.specs.trusted.Files.{declared_class}
+use Rattle.dj_declared.specs.trusted.Files.{declared_class, declared_program}
 use Rattle.dj_declared.specs.Files.{bare_class}
-use Rattle.dj_classes.specs.trusted.Tables.{declared_program}
 use Rattle.dj_classes.specs.Tables.{name_of, name_at, IsShared}
 use Rattle.dj_classes.specs.ClassRows.{RiseStrictly}
 use Rattle.dj_classes.proofs.Orders.{names_rise-from_rise, rise-from_names_rise}

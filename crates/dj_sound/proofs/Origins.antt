@@ -8,7 +8,7 @@ use Rattle.dj_model.specs.trusted.Program.{Program, Class}
 use Rattle.dj_model.specs.trusted.Libraries.{library_class, joined}
 use Rattle.dj_check.specs.trusted.Malformed.{IsGood}
 use Rattle.dj_declared.specs.Files.{bare_class}
-use Rattle.dj_classes.specs.trusted.Tables.{declared_program}
+use Rattle.dj_declared.specs.trusted.Files.{declared_program}
 use Rattle.dj_classes.proofs.Joins.{joined-append}
 use Rattle.dj_classes.proofs.Rising.{members_joined}
 use Rattle.dj_loader.proofs.Lists.{member_first, member_later, member_none, member_cases, member_back, member_of_either, of_map}

@@ -15,9 +15,8 @@ use Rattle.dj_model.specs.trusted.Kinds.{Signature, signature_of}
 use Rattle.dj_model.specs.Standing.{IsEntry}
 use Rattle.dj_model.proofs.MappedNames.{either}
 use Rattle.dj_model.proofs.SoundLinks.{method_contained}
-use Rattle.dj_declared.specs.trusted.Files.{no_code}
+use Rattle.dj_declared.specs.trusted.Files.{no_code, declared_program}
 use Rattle.dj_declared.specs.Files.{bare_method, bare_class}
-use Rattle.dj_classes.specs.trusted.Tables.{declared_program}
 use Rattle.dj_image.proofs.Bare.{class_bare}
 use Rattle.dj_loader.proofs.Lists.{member_none}
 use Rattle.dj_sandbox.specs.trusted.Checked.{AreGoodFiles, HoldsHierarchy, IsLineBy}

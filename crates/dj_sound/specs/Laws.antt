@@ -17,7 +17,7 @@ use Rattle.dj_model.specs.trusted.Runs.{plain_run}
 use Rattle.dj_model.specs.Runs.{metered_run}
 use Rattle.dj_model.specs.Standing.{AsksNothing, RunStands, IsEntry, Starves}
 use Rattle.dj_model.specs.trusted.Linking.{chain, superclasses, is_among}
-use Rattle.dj_model.specs.Sound.{names_rise, fields_differ, methods_differ, Ends, is_interface_name, is_object_or_none, IsBody, is_sound_field, IsSoundBody, IsSound}
+use Rattle.dj_model.specs.Sound.{names_rise, fields_differ, methods_differ, ReachesTop, is_interface_name, is_object_or_none, IsBody, is_sound_field, IsSoundBody, IsSound}
 use Rattle.dj_loader.specs.Loads.{all_classes, IsLoadable}
 use Rattle.dj_program.specs.trusted.Programs.{IsProgramIn}
 use Rattle.dj_sandbox.specs.trusted.Checked.{AreGoodFiles, AreCheckViolations}
@@ -50,7 +50,7 @@ MembersDiffer = OfEither HasApartMembers
 
 -- the way upward from each class ends
 abbrev pub HasEnds : Program → Type 0
-HasEnds program = (c : Class) → Contains program c → Ends program c.name
+HasEnds program = (c : Class) → Contains program c → ReachesTop program c.name
 
 abbrev pub HaveEnds : Type 0
 HaveEnds = OfEither HasEnds
@@ -89,7 +89,7 @@ HasBodies program = (c : Class) → Contains program c → (m : Method) → Cont
 abbrev pub HaveBodies : Type 0
 HaveBodies = OfEither HasBodies
 
--- the whole of it
+-- the program is sound: all of these parts together
 abbrev pub IsSoundProgram : Program → Type 0
 IsSoundProgram program = IsSound program []
 

@@ -13,7 +13,7 @@ use Rattle.dj_tokens.specs.trusted.Mnemonics.{mnemonics}
 use Rattle.dj_tokens.specs.WordReading.{row_of}
 use Rattle.dj_source.specs.trusted.Labels.{LabelFault}
 use Rattle.dj_source.specs.LineReading.{lines_read, targets, pairs_after, types_until, types_up_to}
-use Rattle.dj_source.specs.LabelReading.{Mark, marks_from, marks_of, mislabelled_from, mislabelled_in, sections_of, mislabelled_after, first_mislabelled, text_fault}
+use Rattle.dj_source.specs.LabelReading.{LabelMark, marks_from, marks_of, mislabelled_from, mislabelled_in, sections_of, mislabelled_after, first_mislabelled, text_fault}
 use Rattle.dj_source.proofs.LabelTextLaws.{label_fault_is, one_label_fault}
 
 -- ---- tables of labels
@@ -22,7 +22,7 @@ use Rattle.dj_source.proofs.LabelTextLaws.{label_fault_is, one_label_fault}
 abbrev lines : List Line
 lines = Method 9 (codes "m") (codes "()V") ∷ Beside (Labelled (codes "a")) ∷ Does (Plain 0) ∷ Does (Plain 0) ∷ Beside (Labelled (codes "b")) ∷ Does (Plain 0) ∷ Beside (Labelled (codes "a")) ∷ Beside (Labelled (codes "c")) ∷ End ∷ []
 
-abbrev mark : ℕ → ℕ → Option Mark
+abbrev mark : ℕ → ℕ → Option LabelMark
 mark place number = Some (record { place = place; number = number })
 
 rows : map (row_of (marks_of lines)) (codes "a" ∷ codes "b" ∷ codes "c" ∷ codes "d" ∷ codes "A" ∷ codes "aa" ∷ [] ∷ [])

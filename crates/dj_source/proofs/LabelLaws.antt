@@ -11,11 +11,11 @@ use Rattle.dj_bytes.proofs.Options.{some_is}
 use Rattle.dj_source.specs.trusted.Lines.{Label, Labelled, Catch, Line, Beside}
 use Rattle.dj_source.specs.trusted.Labels.{Use, AtInstruction, Range, is_instruction, instruction_count, IsLabelAt, IsInstructionLabel, IsRange, IsMet, IsDoubled, uses_of}
 use Rattle.dj_tokens.specs.WordReading.{row_of}
-use Rattle.dj_source.specs.LabelReading.{Mark, Marks, defined_by, with_mark, number_after, marks_from, marks_of, is_below, is_in_order, is_met, is_before, is_again, is_mislabelled, mislabelled_from, mislabelled_in}
+use Rattle.dj_source.specs.LabelReading.{LabelMark, Marks, defined_by, with_mark, number_after, marks_from, marks_of, is_below, is_in_order, is_met, is_before, is_again, is_mislabelled, mislabelled_from, mislabelled_in}
 
 -- ---- what the rows of a table say
 
-abbrev pub mark : ℕ → ℕ → Mark
+abbrev pub mark : ℕ → ℕ → LabelMark
 mark place number = record { place = place; number = number }
 
 abbrev labelled : Label → Line
@@ -100,7 +100,7 @@ first_row label prefix rest others = row_at label 0 0 prefix rest others ∙ sam
 
 -- ---- what is decided of a body
 
-none_or_some : (m : Mark) → ◌≡◌ {A = Option Mark} None (Some m) → ⊥
+none_or_some : (m : LabelMark) → ◌≡◌ {A = Option LabelMark} None (Some m) → ⊥
 none_or_some m e = absurd cc
 
 module _ (body : List Line) where
@@ -109,7 +109,7 @@ module _ (body : List Line) where
       ap (λ ls. row_of (marks_of ls) label) first.parts ∙ first_row label first.prefix first.rest first.others
 
   -- a row says what the label stands for
-  pub row_sound : (label : Label) (m : Mark) → row_of (marks_of body) label ≡ Some m → IsLabelAt body label m.number
+  pub row_sound : (label : Label) (m : LabelMark) → row_of (marks_of body) label ≡ Some m → IsLabelAt body label m.number
   row_sound label m e = by (first_or_none body label) where
     by : IsFirst body label ⊎ AreOthers label body → IsLabelAt body label m.number
     by (inl first) = record {
@@ -117,7 +117,7 @@ module _ (body : List Line) where
       rest = first.rest;
       parts = first.parts;
       first = first.others;
-      number_is = ap (λ (k : Mark). k.number) (some_is m (mark (length first.prefix) (instruction_count first.prefix)) (sym e ∙ row_first label first));
+      number_is = ap (λ (k : LabelMark). k.number) (some_is m (mark (length first.prefix) (instruction_count first.prefix)) (sym e ∙ row_first label first));
     }
     by (inr none) = absurd (none_or_some m (sym (no_row label 0 0 body none) ∙ e))
 
@@ -129,9 +129,9 @@ module _ (body : List Line) where
 
   pub one_number : (label : Label) (m n : ℕ) → IsLabelAt body label m → IsLabelAt body label n → m ≡ n
   one_number label m n a b =
-      ap (λ (k : Mark). k.number) (some_is (mark (length a.prefix) m) (mark (length b.prefix) n) (sym (row_whole label m a) ∙ row_whole label n b))
+      ap (λ (k : LabelMark). k.number) (some_is (mark (length a.prefix) m) (mark (length b.prefix) n) (sym (row_whole label m a) ∙ row_whole label n b))
 
-  instruction_decides : (label : Label) (o : Option Mark) → row_of (marks_of body) label ≡ o → Decides (is_below (instruction_count body) o) (IsInstructionLabel body label)
+  instruction_decides : (label : Label) (o : Option LabelMark) → row_of (marks_of body) label ≡ o → Decides (is_below (instruction_count body) o) (IsInstructionLabel body label)
   instruction_decides label None e = (
     λ t. absurd (true≢false (sym t)),
     λ met. absurd (none_or_some (mark (length met.defined.prefix) met.number) (sym e ∙ row_whole label met.number met.defined)),
@@ -141,7 +141,7 @@ module _ (body : List Line) where
     λ met. lt-ltb m.number (instruction_count body) (subst (λ n. n < instruction_count body) (one_number label met.number m.number met.defined (row_sound label m e)) met.instruction),
   )
 
-  range_decides : (from to : Label) (o p : Option Mark) → row_of (marks_of body) from ≡ o → row_of (marks_of body) to ≡ p → Decides (is_in_order o p) (IsRange body from to)
+  range_decides : (from to : Label) (o p : Option LabelMark) → row_of (marks_of body) from ≡ o → row_of (marks_of body) to ≡ p → Decides (is_in_order o p) (IsRange body from to)
   range_decides from to None p e f = (
     λ t. absurd (true≢false (sym t)),
     λ met. absurd (none_or_some (mark (length met.from_is.prefix) met.first) (sym e ∙ row_whole from met.first met.from_is)),

@@ -11,7 +11,7 @@ use Rattle.dj_source.specs.trusted.Lines.{Label, Labelled, Line, Beside}
 use Rattle.dj_source.specs.trusted.Labels.{is_instruction, instruction_count, marks, label_number}
 use Rattle.dj_source.specs.LineViews.{line_view}
 use Rattle.dj_tokens.specs.WordReading.{row_of}
-use Rattle.dj_source.specs.LabelReading.{Mark, Marks, number_after, marks_from, marks_of}
+use Rattle.dj_source.specs.LabelReading.{LabelMark, Marks, number_after, marks_from, marks_of}
 use Rattle.dj_source.specs.LabelViews.{mark_view}
 use Rattle.dj_source.proofs.LabelLaws.{same_line, row_past, row_here, number_more}
 
@@ -50,7 +50,7 @@ marks_is label line e = absurd (false≢true e)
 -- ---- by the rows of a table
 
 -- the number of a row, and all instructions where there is none
-abbrev number_in : ℕ → Option Mark → ℕ
+abbrev number_in : ℕ → Option LabelMark → ℕ
 number_in count None = count
 number_in count (Some mark) = mark.number
 

@@ -1,5 +1,5 @@
 -- A table of labels, from its marks: in the order of the lines, and sorted by labels.
-use Rattle.std.proofs.Common.{◌≡◌, ℕ, zero, suc, ◌+◌, ◌<◌, ◌≤◌, Bool, true, false, cond, not, ◌&&◌, List, [], ◌∷◌, ◌++◌, length, map, get_or, drop, Option, Some, None, slice_get, unwrap_or, filter, bytes_eq, refl, sym, ap, ◌∙◌, inl, inr, arith, true≢false}
+use Rattle.std.proofs.Common.{◌≡◌, ℕ, zero, suc, ◌+◌, ◌<◌, ◌≤◌, Bool, true, false, cond, if◌then◌else◌, not, ◌&&◌, List, [], ◌∷◌, ◌++◌, length, map, get_or, drop, Option, Some, None, slice_get, unwrap_or, filter, bytes_eq, refl, sym, ap, ◌∙◌, inl, inr, arith, true≢false}
 use Rattle.std.specs.Cmp.Lexicographic.{slice_cmp}
 use Rattle.std.specs.declared.cmp.Ordering.{Ordering}
 use Rattle.std.specs.declared.cmp.Ordering.TheVariants.{Less, Equal, Greater}
@@ -19,8 +19,9 @@ use Rattle.dj_bytes.proofs.Options.{some_is}
 use Rattle.dj_source.specs.declared.syntax.Line as the_line
 use Rattle.dj_source.specs.declared.label_table.Mark as the_mark
 use Rattle.dj_source.specs.trusted.Lines.{Label, Line}
+use Rattle.dj_source.specs.trusted.Labels.{is_instruction}
 use Rattle.dj_source.specs.LineViews.{line_view}
-use Rattle.dj_source.specs.LabelReading.{Mark, Marks, defined_by, with_mark, number_after, marks_from}
+use Rattle.dj_source.specs.LabelReading.{LabelMark, Marks, defined_by, with_mark, number_after, marks_from}
 use Rattle.dj_tokens.specs.WordReading.{row_of}
 use Rattle.dj_source.specs.LabelViews.{label_of_mark, mark_view, mark_row, is_label_before, marked}
 use denote.Ref.{Bor}
@@ -64,6 +65,13 @@ marked_more lines old new place number line within is e =
     ∙ (append_assoc (map row old) (map row (marked label (at place number))) more
     ∙ ap (λ rs. map row old ++ rs) (here ∙ step)))
 
+-- a line is an instruction at most
+pub number_more : (line : the_line.Line) (number place : ℕ) → number ≤ place → number_after (line_view line) number ≤ place + 1
+number_more line number place most = by (is_instruction (line_view line)) where
+  by : (b : Bool) → (if b then suc number else number) ≤ place + 1
+  by true = omega (arith, most)
+  by false = omega (arith, most)
+
 pub marked_all : (lines : List the_line.Line) (marks : List the_mark.Mark) (place number : ℕ) → length lines ≤ place
     → map (mark_row lines) marks ++ marks_from place number (map line_view (drop place lines)) ≡ map (mark_row lines) marks
 unfolding marks_from
@@ -99,7 +107,7 @@ equal_itself a = tied_itself nat_list_cmp_total a
 
 module _ (lines : List the_line.Line) (label : Label) where
   -- the row of the first of the marks
-  first_mark : List the_mark.Mark → Option Mark
+  first_mark : List the_mark.Mark → Option LabelMark
   first_mark [] = None
   first_mark (mark ∷ marks) = Some (mark_view mark)
 
@@ -140,7 +148,7 @@ module _ (lines : List the_line.Line) (label : Label) where
     same_at : (old new : List the_mark.Mark) → IsStableBy (is_label_before lines) old new → row_of (map (mark_row lines) new) label ≡ row_of (map (mark_row lines) old) label
     same_at old new stable = first_of_ties new ∙ (ap first_mark (stable x) ∙ sym (first_of_ties old))
 
-  with_label : (marks : List the_mark.Mark) (found : Mark) → row_of (map (mark_row lines) marks) label ≡ Some found → (x : the_mark.Mark) × (label_of_mark lines x ≡ label)
+  with_label : (marks : List the_mark.Mark) (found : LabelMark) → row_of (map (mark_row lines) marks) label ≡ Some found → (x : the_mark.Mark) × (label_of_mark lines x ≡ label)
   with_label [] found e = absurd cc
   with_label (m ∷ marks) found e =
       elim (cases_Bool (bytes_eq (label_of_mark lines m) label)) [
@@ -150,7 +158,7 @@ module _ (lines : List the_line.Line) (label : Label) where
 
   stable_at : (old new : List the_mark.Mark) → IsStableBy (is_label_before lines) old new → row_of (map (mark_row lines) new) label ≡ row_of (map (mark_row lines) old) label
   stable_at old new stable = by (row_of (map (mark_row lines) old) label) (row_of (map (mark_row lines) new) label) refl refl where
-    by : (o p : Option Mark) → row_of (map (mark_row lines) old) label ≡ o → row_of (map (mark_row lines) new) label ≡ p → row_of (map (mark_row lines) new) label ≡ row_of (map (mark_row lines) old) label
+    by : (o p : Option LabelMark) → row_of (map (mark_row lines) old) label ≡ o → row_of (map (mark_row lines) new) label ≡ p → row_of (map (mark_row lines) new) label ≡ row_of (map (mark_row lines) old) label
     by None None e f = f ∙ sym e
     by None (Some q) e f = let x = with_label new q f in same_at x.0 x.1 old new stable
     by (Some q) p e f = let x = with_label old q e in same_at x.0 x.1 old new stable

@@ -2,15 +2,15 @@
 use Rattle.std.proofs.Common.{◌≡◌, ◌≢◌, ℕ, zero, suc, ◌<◌, ◌≤◌, Bool, true, false, cond, eqb, leb, ◌&&◌, List, [], ◌∷◌, refl, sym, ap, ◌∙◌, subst, inl, inr, arith}
 use Rattle.std.specs.List.{list_all}
 use Rattle.std.proofs.lemmas.Bool.{and_parts, leb-true, le-leb, cases_lt}
-use Rattle.dj_ops.specs.trusted.Forms.{Form, Bare, SignedByte, SignedShort, ShortLiteral, LongLiteral, Slot, SlotAndByte, ShortOffset, LongOffset, MemberIndex, InterfaceIndex, DynamicIndex, ClassIndex, ArrayType, MultiIndex, TableSwitch, LookupSwitch, WidePrefix, Reserved, form_rows, form_in, form_of}
+use Rattle.dj_ops.specs.trusted.Forms.{OperandForm, Bare, SignedByte, SignedShort, ShortLiteral, LongLiteral, Slot, SlotAndByte, ShortOffset, LongOffset, MemberIndex, InterfaceIndex, DynamicIndex, ClassIndex, ArrayType, MultiIndex, TableSwitch, LookupSwitch, WidePrefix, Reserved, form_rows, form_in, form_of}
 
 -- ---- past the last row
 
-abbrev last_form : Form → List (ℕ × Form) → Form
+abbrev last_form : OperandForm → List (ℕ × OperandForm) → OperandForm
 last_form form [] = form
 last_form form (row ∷ rows) = last_form row.1 rows
 
-past_rows : (form : Form) (rows : List (ℕ × Form)) (op : ℕ) → list_all (λ row. leb row.0 203) rows ≡ true → 203 ≤ op → form_in form rows op ≡ last_form form rows
+past_rows : (form : OperandForm) (rows : List (ℕ × OperandForm)) (op : ℕ) → list_all (λ row. leb row.0 203) rows ≡ true → 203 ≤ op → form_in form rows op ≡ last_form form rows
 past_rows form [] op all l = refl
 past_rows form (row ∷ rows) op all l =
     let a = and_parts (leb row.0 203) (list_all (λ r. leb r.0 203) rows) all in
@@ -44,7 +44,7 @@ one_below (suc n) test k all l =
     ]
 
 -- the opcodes of forms that few have
-abbrev agrees : ℕ → Form → Bool
+abbrev agrees : ℕ → OperandForm → Bool
 agrees op ShortLiteral = eqb op 18
 agrees op LongLiteral = leb 19 op && leb op 20
 agrees op SlotAndByte = eqb op 132
@@ -63,10 +63,10 @@ all_agree : all_below 203 (λ op. agrees op (form_of op)) ≡ true
 unfolding form_of
 all_agree = refl
 
-pub agree : (op : ℕ) (form : Form) → op < 203 → form_of op ≡ form → agrees op form ≡ true
+pub agree : (op : ℕ) (form : OperandForm) → op < 203 → form_of op ≡ form → agrees op form ≡ true
 agree op form l e = subst (λ f. agrees op f ≡ true) e (one_below 203 (λ k. agrees k (form_of k)) op all_agree l)
 
-abbrev is_member : Form → Bool
+abbrev is_member : OperandForm → Bool
 is_member MemberIndex = true
 is_member form = false
 
@@ -76,7 +76,7 @@ member_range = refl
 
 pub member_form : (op : ℕ) → 178 ≤ op → op ≤ 184 → form_of op ≡ MemberIndex
 member_form op low high = from (form_of op) (sym (ap (λ t. cond t (is_member (form_of op)) true) (le-leb 178 op low)) ∙ one_below 185 (λ k. cond (leb 178 k) (is_member (form_of k)) true) op member_range (omega (arith, high))) where
-  from : (form : Form) → is_member form ≡ true → form ≡ MemberIndex
+  from : (form : OperandForm) → is_member form ≡ true → form ≡ MemberIndex
   from MemberIndex e = refl
   from Bare e = absurd cc
   from SignedByte e = absurd cc

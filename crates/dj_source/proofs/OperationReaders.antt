@@ -6,7 +6,7 @@ use Rattle.dj_names.specs.trusted.Types.{Name}
 use Rattle.dj_names.specs.trusted.Names.{IsUnqualifiedName, IsMethodName}
 use Rattle.dj_names.specs.trusted.Descriptors.{IsFieldDescriptor, IsMethodDescriptor, IsArrayDescriptor}
 use Rattle.dj_names.specs.Tests.{unqualified_name_test, method_name_test, field_descriptor_test, method_descriptor_test, array_descriptor_test}
-use Rattle.dj_ops.specs.trusted.Forms.{Form, Bare, SignedByte, SignedShort, ShortLiteral, LongLiteral, Slot, SlotAndByte, ShortOffset, LongOffset, MemberIndex, InterfaceIndex, DynamicIndex, ClassIndex, ArrayType, MultiIndex, TableSwitch, LookupSwitch, WidePrefix, Reserved, form_of}
+use Rattle.dj_ops.specs.trusted.Forms.{OperandForm, Bare, SignedByte, SignedShort, ShortLiteral, LongLiteral, Slot, SlotAndByte, ShortOffset, LongOffset, MemberIndex, InterfaceIndex, DynamicIndex, ClassIndex, ArrayType, MultiIndex, TableSwitch, LookupSwitch, WidePrefix, Reserved, form_of}
 use Rattle.dj_ops.specs.trusted.Instructions.{IsPushed}
 use Rattle.dj_pool.specs.trusted.Pool.{IsClassText}
 use Rattle.dj_source.specs.trusted.Items.{Item, Ended}
@@ -130,7 +130,7 @@ IsWide (Local true op n) = form_of op ≡ Slot
 IsWide (Increment true n by) = ⊤
 IsWide o = ⊥
 
-abbrev pub IsOperationBy : ℕ → Form → Operation → Type 0
+abbrev pub IsOperationBy : ℕ → OperandForm → Operation → Type 0
 IsOperationBy op Bare o = IsMade (plain_of op) all o
 IsOperationBy op SignedByte o = IsMade (push_of op) (λ (x : ℤ × ⊤). ⊤ × ⊤) o
 IsOperationBy op SignedShort o = IsMade (push_of op) (λ (x : ℤ × ⊤). ⊤ × ⊤) o
@@ -158,7 +158,7 @@ done_items o = operation_items o ++ Ended ∷ []
 abbrev pub operand_lang : (Operation → Type 0) → Lang Operation
 operand_lang is = record { items = λ o. drop 1 (done_items o); is = is; fits = IsSizedOperation }
 
-abbrev pub Operands : ℕ → Form → Lang Operation
+abbrev pub Operands : ℕ → OperandForm → Lang Operation
 Operands op form = operand_lang (IsOperationBy op form)
 
 -- ---- readers

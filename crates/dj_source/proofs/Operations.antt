@@ -4,7 +4,7 @@ use Rattle.std.proofs.lemmas.Bool.{and_parts, leb-true, leb-false, le-leb, lt-le
 use Rattle.dj_bytes.proofs.Options.{bind_some, chose_some}
 use Rattle.dj_bytes.specs.trusted.Options.{◌>>=◌}
 use Rattle.dj_names.specs.trusted.Types.{Name}
-use Rattle.dj_ops.specs.trusted.Forms.{Form, Bare, SignedByte, SignedShort, ShortLiteral, LongLiteral, Slot, SlotAndByte, ShortOffset, LongOffset, MemberIndex, InterfaceIndex, DynamicIndex, ClassIndex, ArrayType, MultiIndex, TableSwitch, LookupSwitch, WidePrefix, Reserved, form_of}
+use Rattle.dj_ops.specs.trusted.Forms.{OperandForm, Bare, SignedByte, SignedShort, ShortLiteral, LongLiteral, Slot, SlotAndByte, ShortOffset, LongOffset, MemberIndex, InterfaceIndex, DynamicIndex, ClassIndex, ArrayType, MultiIndex, TableSwitch, LookupSwitch, WidePrefix, Reserved, form_of}
 use Rattle.dj_pool.specs.trusted.Pool.{IsClassText}
 use Rattle.dj_tokens.specs.trusted.Words.{Token, Word, LineEnd}
 use Rattle.dj_source.specs.trusted.Items.{Says}
@@ -42,7 +42,7 @@ wide_sound token op e =
 wide_whole : (token : Token) (op : ℕ) → op < 203 → may_be_wide (form_of op) ≡ true → Says (op_item op) token → wide_start token ≡ Some op
 wide_whole token op l t said = ap (λ o. o >>= tested (λ k. may_be_wide (form_of k))) (opcode_reported.whole token op l said) ∙ ap (λ b. cond b (Some op) None) t
 
-slot_form : (op : ℕ) (form : Form) → op < 203 → form_of op ≡ form → may_be_wide form ≡ true → eqb op 132 ≡ false → form ≡ Slot
+slot_form : (op : ℕ) (form : OperandForm) → op < 203 → form_of op ≡ form → may_be_wide form ≡ true → eqb op 132 ≡ false → form ≡ Slot
 slot_form op Slot l e t n = refl
 slot_form op SlotAndByte l e t n = absurd (true≢false (sym (agree op SlotAndByte l e) ∙ n))
 slot_form op form l e t n = absurd cc
@@ -114,7 +114,7 @@ wide_reads =
 no_reader : (op : ℕ) → op < 203 → form_of op ≡ Reserved → ⊥
 no_reader op l e = absurd cc (agree op Reserved l e)
 
-by_form : (op : ℕ) (form : Form) → op < 203 → form_of op ≡ form → IsReader (Operands op form) (operation_by op form)
+by_form : (op : ℕ) (form : OperandForm) → op < 203 → form_of op ≡ form → IsReader (Operands op form) (operation_by op form)
 by_form op Bare l e = plain_reads op
 by_form op SignedByte l e = byte_reads op e
 by_form op SignedShort l e = short_reads op e
@@ -184,7 +184,7 @@ two_loads op low high = elim (cases_lt op 20) [
   | inr l ↦ inr (omega (arith, high, l))
 ]
 
-whole_by : (op : ℕ) (form : Form) → op < 203 → form_of op ≡ form → (o : Operation) → IsOperationBy op form o → IsWhole op o
+whole_by : (op : ℕ) (form : OperandForm) → op < 203 → form_of op ≡ form → (o : Operation) → IsOperationBy op form o → IsWhole op o
 whole_by op Bare l e o p = subst (IsWhole op) (sym p.1) (e, refl)
 whole_by op SignedByte l e o p = subst (IsWhole op) (sym p.1) (inl e, refl)
 whole_by op SignedShort l e o p = subst (IsWhole op) (sym p.1) (inr e, refl)
@@ -218,7 +218,7 @@ abbrev HasKind : Operation → Type 0
 HasKind o = (op : ℕ) × (op < 203) × IsOperationBy op (form_of op) o
 
 -- an operation of a form that isn't reserved
-of_form : (o : Operation) (op : ℕ) (form : Form) → form_of op ≡ form → form ≢ Reserved → IsOperationBy op form o → HasKind o
+of_form : (o : Operation) (op : ℕ) (form : OperandForm) → form_of op ≡ form → form ≢ Reserved → IsOperationBy op form o → HasKind o
 of_form o op form e n p = (op, below op (λ r. n (sym e ∙ r)), subst (λ f. IsOperationBy op f o) (sym e) p)
 
 method_kind : (op : ℕ) (class name desc : Name) (interface marked : Bool) → may_mark op ≡ marked → IsClassText class → IsMethodUse op name desc interface

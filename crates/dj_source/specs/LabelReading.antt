@@ -13,13 +13,13 @@ use Rattle.dj_source.specs.LineReading.{AreRead, or_else, text_read}
 -- ---- the first pass: the labels of a method
 
 -- how many lines and how many instructions come before a label
-pub record Mark : Type 0 where
+pub record LabelMark : Type 0 where
   pub place : ℕ
   pub number : ℕ
 
 -- in the order of the lines; the first row of a label counts
 abbrev pub Marks : Type 0
-Marks = List (Label × Mark)
+Marks = List (Label × LabelMark)
 
 abbrev pub defined_by : Line → Option Label
 defined_by (Beside (Labelled label)) = Some label
@@ -42,11 +42,11 @@ marks_of lines = marks_from 0 0 lines
 
 -- ---- the second pass: what each line names
 
-abbrev pub is_below : ℕ → Option Mark → Bool
+abbrev pub is_below : ℕ → Option LabelMark → Bool
 is_below count None = false
 is_below count (Some mark) = nat_lt mark.number count
 
-abbrev pub is_in_order : Option Mark → Option Mark → Bool
+abbrev pub is_in_order : Option LabelMark → Option LabelMark → Bool
 is_in_order (Some from) (Some to) = nat_lt from.number to.number
 is_in_order from to = false
 
@@ -55,7 +55,7 @@ abbrev pub is_met : Marks → ℕ → Use → Bool
 is_met marks count (AtInstruction label) = is_below count (row_of marks label)
 is_met marks count (Range from to) = is_in_order (row_of marks from) (row_of marks to)
 
-abbrev pub is_before : ℕ → Option Mark → Bool
+abbrev pub is_before : ℕ → Option LabelMark → Bool
 is_before place None = false
 is_before place (Some mark) = nat_lt mark.place place
 
@@ -87,7 +87,7 @@ abbrev pub is_cut : List Line → Bool
 is_cut [] = true
 is_cut (line ∷ lines) = begins_method line
 
--- a line at the front of the first section, or as one of its own
+-- a line as the first of the first section, or as a section of its own
 abbrev pub with_line_first : Bool → Line → List (List Line) → List (List Line)
 with_line_first false line (section ∷ sections) = (line ∷ section) ∷ sections
 with_line_first cut line sections = (line ∷ []) ∷ sections

@@ -6,7 +6,7 @@ use Rattle.dj_source.specs.declared.syntax.Line as the_line
 use Rattle.dj_source.specs.declared.label_table.Mark as the_mark
 use Rattle.dj_source.specs.trusted.Lines.{Label}
 use Rattle.dj_source.specs.LineViews.{line_view}
-use Rattle.dj_source.specs.LabelReading.{Mark, defined_by}
+use Rattle.dj_source.specs.LabelReading.{LabelMark, defined_by}
 
 -- the label that a line defines, or one of no line
 abbrev pub label_in_line : Option the_line.Line → Label
@@ -16,11 +16,11 @@ label_in_line None = []
 abbrev pub label_of_mark : List the_line.Line → the_mark.Mark → Label
 label_of_mark lines mark = label_in_line (slice_get lines mark.place)
 
-abbrev pub mark_view : the_mark.Mark → Mark
+abbrev pub mark_view : the_mark.Mark → LabelMark
 mark_view mark = record { place = mark.place; number = mark.number }
 
 -- a row of the table, where these are the lines
-abbrev pub mark_row : List the_line.Line → the_mark.Mark → Label × Mark
+abbrev pub mark_row : List the_line.Line → the_mark.Mark → Label × LabelMark
 mark_row lines mark = (label_of_mark lines mark, mark_view mark)
 
 -- one label is before another, by their units

@@ -6,7 +6,7 @@ use Rattle.std.specs.Str.Lines.{lines}
 use Rattle.dj_bytes.specs.trusted.Options.{◌>>=◌}
 use Rattle.dj_names.specs.trusted.Types.{Name}
 use Rattle.dj_names.specs.Tests.{unqualified_name_test, method_name_test, class_name_test, field_descriptor_test, method_descriptor_test, array_descriptor_test}
-use Rattle.dj_ops.specs.trusted.Forms.{Form, Bare, SignedByte, SignedShort, ShortLiteral, LongLiteral, Slot, SlotAndByte, ShortOffset, LongOffset, MemberIndex, InterfaceIndex, DynamicIndex, ClassIndex, ArrayType, MultiIndex, TableSwitch, LookupSwitch, WidePrefix, Reserved, form_of}
+use Rattle.dj_ops.specs.trusted.Forms.{OperandForm, Bare, SignedByte, SignedShort, ShortLiteral, LongLiteral, Slot, SlotAndByte, ShortOffset, LongOffset, MemberIndex, InterfaceIndex, DynamicIndex, ClassIndex, ArrayType, MultiIndex, TableSwitch, LookupSwitch, WidePrefix, Reserved, form_of}
 use Rattle.dj_source.specs.declared.error.AsmError.{AsmError}
 use Rattle.dj_source.specs.declared.error.AsmError.TheVariants as asm_errors
 use Rattle.dj_tokens.specs.trusted.Words.{Token, LineEnd, Placed, line_tokens, end_line}
@@ -227,7 +227,7 @@ abbrev pub multi : Reader Operation
 multi = mapped (λ (x : Name × (ℤ × ⊤)). Multi x.0 x.1.0) (name array_descriptor_test & (number (is_between 0 255) & line_end))
 
 -- an opcode that may come after `wide`
-abbrev pub may_be_wide : Form → Bool
+abbrev pub may_be_wide : OperandForm → Bool
 may_be_wide Slot = true
 may_be_wide SlotAndByte = true
 may_be_wide form = false
@@ -244,7 +244,7 @@ wide = choose wide_start wide_after
 abbrev pub wrong : {A : Type 0} → Reader A
 wrong tokens = Wrong tokens
 
-abbrev pub operation_by : ℕ → Form → Reader Operation
+abbrev pub operation_by : ℕ → OperandForm → Reader Operation
 operation_by op Bare = plain op
 operation_by op SignedByte = push op (is_signed 7)
 operation_by op SignedShort = push op (is_signed 15)

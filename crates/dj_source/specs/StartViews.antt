@@ -32,7 +32,7 @@ abbrev pub ends_types : TypesEnd → Token → Bool
 ends_types type_ends.Slash = is_slash
 ends_types type_ends.LineEnd = is_end
 
--- what follows the token at the front, where it ends the types
+-- what follows the first token, where that ends the types
 abbrev pub AfterEnd : (Token → Bool) → List Placed → Option (List Placed) → Type 0
 AfterEnd ends [] after = after ≡ None
 AfterEnd ends (here ∷ rest) after = after ≡ (if ends here.token then Some rest else None)

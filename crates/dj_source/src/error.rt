@@ -1,6 +1,6 @@
 ghost use Rattle.std.specs.Prelude.{◌≡◌};
 
-use dj_names::NoMemory;
+use std::alloc::AllocError;
 use thiserror::Error;
 
 /// Why a text means no class file. Lines and columns count from 1.
@@ -31,12 +31,12 @@ pub enum AsmError {
     Memory,
 }
 
-impl From<NoMemory> for AsmError {
+impl From<AllocError> for AsmError {
     ghost use Rattle.dj_source.specs.declared.error.AsmError.TheVariants.{Memory};
 
     ghost from_gives = { λ _ e. e ≡ Memory };
 
-    fn from(_error: NoMemory) -> AsmError {
+    fn from(_error: AllocError) -> AsmError {
         AsmError::Memory
     }
 }

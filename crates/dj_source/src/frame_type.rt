@@ -13,11 +13,10 @@ ghost use Rattle.dj_source.specs.Stops.{GivesRead};
 
 use crate::reader::{Stop, word_at};
 use crate::syntax::{FrameType, SimpleType};
-use dj_names::NoMemory;
 use dj_tokens::{
     LineTokens, NameKind, Text, Word, after_prefix, is_of_kind, row_at, spells, text_of, unit_at,
 };
-use std::alloc::Global;
+use std::alloc::{AllocError, Global};
 
 static SIMPLE_TYPES: [(&'static [u8], SimpleType); 7] = [
     (b"top", SimpleType::Top),
@@ -38,7 +37,7 @@ fn simple_type(bytes: &[u8]) -> Option<SimpleType>
 }
 
 /// The type that a word names.
-fn type_of(alloc: Global, bytes: &[u8]) -> Result<Option<FrameType<'_>>, NoMemory>
+fn type_of(alloc: Global, bytes: &[u8]) -> Result<Option<FrameType<'_>>, AllocError>
     ensures { IfOk result (λ ty. option_map type_view ty ≡ type_in (word_units 0 bytes.now)) }
 {
     if let Some(simple) = simple_type(bytes) {
@@ -54,7 +53,7 @@ fn type_of(alloc: Global, bytes: &[u8]) -> Result<Option<FrameType<'_>>, NoMemor
 }
 
 /// The type after `ref:`.
-fn object_type(alloc: Global, bytes: &[u8]) -> Result<Option<FrameType<'_>>, NoMemory>
+fn object_type(alloc: Global, bytes: &[u8]) -> Result<Option<FrameType<'_>>, AllocError>
     ensures { IfOk result (λ ty. option_map type_view ty ≡ option_map (λ name. Object name) (tested class_text_test (units_text (word_units 0 bytes.now)))) }
 {
     let name = text_of(alloc, bytes)?;

@@ -1,8 +1,7 @@
 ghost use Rattle.std.specs.Prelude.{◌≡◌, [], ◌∷◌, ◌++◌, map, OnOk, OnErr};
 
 use crate::syntax::FrameType;
-use dj_names::NoMemory;
-use std::alloc::Global;
+use std::alloc::{AllocError, Global};
 use std::marker::Model;
 
 /// Types of a frame, in their order.
@@ -41,7 +40,7 @@ impl<'t> FrameTypes<'t> {
     }
 
     /// Appends a type.
-    pub(crate) fn push(&mut self, ty: FrameType<'t>) -> Result<(), NoMemory>
+    pub(crate) fn push(&mut self, ty: FrameType<'t>) -> Result<(), AllocError>
         ensures ok { OnOk result (self.new ≡ self.old ++ type_view ty.entry ∷ []) }
     {
         Ok(self.items.push(ty)?)

@@ -11,9 +11,8 @@ ghost use Rattle.dj_source.specs.LabelViews.{label_of_mark, mark_view, mark_row,
 ghost use Rattle.dj_source.specs.LineViews.{line_view};
 
 use crate::syntax::Line;
-use dj_names::NoMemory;
 use dj_tokens::{Word, unit_at};
-use std::alloc::Global;
+use std::alloc::{AllocError, Global};
 use std::cmp::Ordering;
 use std::marker::Model;
 
@@ -49,7 +48,7 @@ impl<'l, 't> LabelTable<'l, 't> {
 
     /// The labels of these lines.
     #[tactic(auto, using(crate::proofs::LabelTables::stable_rows))]
-    pub(crate) fn of(alloc: Global, lines: &'l [Line<'t>]) -> Result<LabelTable<'l, 't>, NoMemory>
+    pub(crate) fn of(alloc: Global, lines: &'l [Line<'t>]) -> Result<LabelTable<'l, 't>, AllocError>
         requires { length lines.now < 2 ^ 32 }
         ensures { IfOk result (λ table. (label : Label) → row_of table label ≡ row_of (marks_of (map line_view lines.now)) label) }
     {
@@ -100,8 +99,8 @@ fn compare_with(lines: &[Line<'_>], mark: Mark, label: &[u8]) -> Ordering
 }
 
 /// The marks of the labels of these lines, in the order of the lines.
-#[tactic(auto, using(crate::proofs::LabelTables::marked_more, crate::proofs::LabelTables::marked_all))]
-fn marks_in(alloc: Global, lines: &[Line<'_>]) -> Result<Vec<Mark>, NoMemory>
+#[tactic(auto, using(crate::proofs::LabelTables::marked_all))]
+fn marks_in(alloc: Global, lines: &[Line<'_>]) -> Result<Vec<Mark>, AllocError>
     requires { length lines.now < 2 ^ 32 }
     ensures { IfOk result (λ marks. map (mark_row lines.now) marks.items ≡ marks_of (map line_view lines.now)) }
 {
@@ -120,7 +119,7 @@ fn marks_in(alloc: Global, lines: &[Line<'_>]) -> Result<Vec<Mark>, NoMemory>
 }
 
 /// Appends the mark of a line, where that defines a label.
-fn push_mark(marks: &mut Vec<Mark>, line: &Line<'_>, mark: Mark) -> Result<(), NoMemory>
+fn push_mark(marks: &mut Vec<Mark>, line: &Line<'_>, mark: Mark) -> Result<(), AllocError>
     ensures { IfOk result (λ x. marks.new.items ≡ marks.old.items ++ marked (defined_by (line_view line.now)) mark) }
 {
     match defined_label(line) {
@@ -194,7 +193,7 @@ pub(crate) fn is_instruction(line: &Line<'_>) -> bool
 }
 
 /// Sorts by labels. Marks of one label keep their order.
-fn sort_by_label(marks: &mut Vec<Mark>, lines: &[Line<'_>]) -> Result<(), NoMemory>
+fn sort_by_label(marks: &mut Vec<Mark>, lines: &[Line<'_>]) -> Result<(), AllocError>
     ensures sorted { IfOk result (λ x. IsSortedBy (is_label_before lines.now) marks.new.items) }
     ensures stable { IsStableBy (is_label_before lines.now) marks.old.items marks.new.items }
 {

@@ -11,16 +11,15 @@ ghost use Rattle.dj_source.specs.LabelReading.{defined_by, is_met, is_again, is_
 use crate::label_table::{LabelTable, defined_label, is_instruction};
 use crate::syntax::{Frame, FrameType, Line, Operation};
 use crate::targets::Pair;
-use dj_names::NoMemory;
 use dj_tokens::Word;
-use std::alloc::Global;
+use std::alloc::{AllocError, Global};
 
 /// How many lines come before the first that uses a label wrongly.
 #[tactic(auto, using(crate::proofs::Labellings::next_section, crate::proofs::Labellings::found_section, crate::proofs::Labellings::no_section))]
 pub(crate) fn first_mislabelled(
     alloc: Global,
     lines: &[Line<'_>],
-) -> Result<Option<usize>, NoMemory>
+) -> Result<Option<usize>, AllocError>
     requires { length lines.now < 2 ^ 32 }
     ensures { IfOk result (λ place. place ≡ first_mislabelled (map line_view lines.now)) }
 {
@@ -73,7 +72,7 @@ fn begins_method(line: &Line<'_>) -> bool
 
 /// The first line of a method that uses a label wrongly.
 #[tactic(auto, using(crate::proofs::Labellings::by_table))]
-fn mislabelled_in(alloc: Global, lines: &[Line<'_>]) -> Result<Option<usize>, NoMemory>
+fn mislabelled_in(alloc: Global, lines: &[Line<'_>]) -> Result<Option<usize>, AllocError>
     requires { length lines.now < 2 ^ 32 }
     ensures first { IfOk result (λ place. place ≡ mislabelled_in (map line_view lines.now)) }
     ensures within { IfOk result (λ place. IfSome place (λ n. n < length lines.now)) }

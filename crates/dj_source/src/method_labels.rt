@@ -8,9 +8,8 @@ ghost use Rattle.dj_source.specs.LabelReading.{marks_of};
 use crate::label_table::LabelTable;
 use crate::labelling::instruction_count;
 use crate::syntax::Line;
-use dj_names::NoMemory;
 use dj_tokens::Word;
-use std::alloc::Global;
+use std::alloc::{AllocError, Global};
 use std::marker::Model;
 
 /// The labels of a method's lines.
@@ -38,7 +37,7 @@ impl<'l, 't> MethodLabels<'l, 't> {
     ghost use Rattle.dj_source.specs.trusted.Labels.{label_number};
 
     /// The labels of these lines.
-    pub fn of(alloc: Global, lines: &'l [Line<'t>]) -> Result<MethodLabels<'l, 't>, NoMemory>
+    pub fn of(alloc: Global, lines: &'l [Line<'t>]) -> Result<MethodLabels<'l, 't>, AllocError>
         requires { length lines.now < 2 ^ 32 }
         ensures { IfOk result (λ labels. labels ≡ map line_view lines.now) }
     {

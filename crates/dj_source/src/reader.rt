@@ -5,12 +5,11 @@ ghost use Rattle.dj_tokens.specs.Views.{units_of, string_units_of, left_of};
 ghost use Rattle.dj_tokens.specs.Texts.{text_view, test_of};
 ghost use Rattle.dj_source.specs.Stops.{GivesRead, IsSpot, field_fits, lowest, highest};
 
-use dj_names::NoMemory;
 use dj_tokens::{
     LineTokens, NameKind, Number, Placed, Quoted, Text, Token, Word, base_of, flags_of, is_of_kind,
     number_of, spells, text_of,
 };
-use std::alloc::Global;
+use std::alloc::{AllocError, Global};
 
 /// Why a line is not read.
 #[derive(Clone, Copy)]
@@ -128,12 +127,12 @@ pub(crate) fn flags<'t>(at: LineTokens<'t>) -> Result<(u16, LineTokens<'t>), Sto
     }
 }
 
-impl From<NoMemory> for Stop {
+impl From<AllocError> for Stop {
     ghost use Rattle.dj_source.specs.declared.reader.Stop.TheVariants.{Memory};
 
     ghost from_gives = { λ _ e. e ≡ Memory };
 
-    fn from(_error: NoMemory) -> Stop {
+    fn from(_error: AllocError) -> Stop {
         Stop::Memory
     }
 }

@@ -6,8 +6,7 @@ ghost use Rattle.dj_source.specs.Readings.{no_lines, with_last};
 use crate::error::AsmError;
 use crate::labelling::first_mislabelled;
 use crate::syntax::Line;
-use dj_names::NoMemory;
-use std::alloc::Global;
+use std::alloc::{AllocError, Global};
 use std::marker::Model;
 
 /// The lines of a text that have words, with their numbers in it.
@@ -43,7 +42,7 @@ impl<'t> SourceLines<'t> {
     }
 
     /// No lines, and room for this many.
-    pub(crate) fn with_room(alloc: Global, room: usize) -> Result<SourceLines<'t>, NoMemory>
+    pub(crate) fn with_room(alloc: Global, room: usize) -> Result<SourceLines<'t>, AllocError>
         ensures { IfOk result (λ read. read ≡ no_lines) }
     {
         Ok(SourceLines {
@@ -53,7 +52,7 @@ impl<'t> SourceLines<'t> {
     }
 
     /// Appends a line and its number.
-    pub(crate) fn push(&mut self, number: u32, line: Line<'t>) -> Result<(), NoMemory>
+    pub(crate) fn push(&mut self, number: u32, line: Line<'t>) -> Result<(), AllocError>
         ensures { IfOk result (λ x. self.new ≡ with_last self.old number (line_view line.entry)) }
     {
         self.lines.push(line)?;
@@ -61,7 +60,7 @@ impl<'t> SourceLines<'t> {
     }
 
     /// The first fault of the labels, where there is one.
-    pub(crate) fn label_fault(&self, alloc: Global) -> Result<Option<AsmError>, NoMemory>
+    pub(crate) fn label_fault(&self, alloc: Global) -> Result<Option<AsmError>, AllocError>
         requires { length self.now.lines < 2 ^ 32 }
         ensures { IfOk result (λ fault. fault ≡ label_error self.now.numbers (first_mislabelled self.now.lines)) }
     {

@@ -1,8 +1,7 @@
 ghost use Rattle.std.specs.Prelude.{◌≡◌, [], ◌∷◌, ◌++◌, map, OnOk};
 
-use dj_names::NoMemory;
 use dj_tokens::Word;
-use std::alloc::Global;
+use std::alloc::{AllocError, Global};
 use std::marker::Model;
 
 /// Labels, in their order.
@@ -41,7 +40,7 @@ impl<'t> Labels<'t> {
     }
 
     /// Appends a label.
-    pub(crate) fn push(&mut self, label: Word<'t>) -> Result<(), NoMemory>
+    pub(crate) fn push(&mut self, label: Word<'t>) -> Result<(), AllocError>
         ensures { OnOk result (self.new ≡ self.old ++ units_of label.entry ∷ []) }
     {
         Ok(self.items.push(label)?)
@@ -92,7 +91,7 @@ impl<'t> Pairs<'t> {
     }
 
     /// Appends a match with its target.
-    pub(crate) fn push(&mut self, key: i32, target: Word<'t>) -> Result<(), NoMemory>
+    pub(crate) fn push(&mut self, key: i32, target: Word<'t>) -> Result<(), AllocError>
         ensures { OnOk result (self.new ≡ self.old ++ (key, units_of target.entry) ∷ []) }
     {
         Ok(self.items.push(Pair { key, target })?)

@@ -56,7 +56,7 @@ impl Spares {
         Ok(stacked)
     }
 
-    /// Keeps what a frame that ended leaves, where the list of such has memory for it.
+    /// Keeps the memory of a frame that ended for later ones, where the list of these has room or memory for it.
     pub(crate) fn keep(&mut self, frame: Frame) {
         let Frame {
             locals,

@@ -19,7 +19,7 @@ impl Sparse {
         Ok(Sparse { places, cells })
     }
 
-    /// Now this many without a value, in place of those that it had.
+    /// From now on there are this many local variables, without a value, in place of the earlier ones.
     pub(crate) fn begin(&mut self, count: u16) -> Result<(), PushError>
         ensures locals { OnOk result (variables_in self.new.places.items (parts_of self.new.cells) ≡ replicate count None) }
         ensures refused { IfErr result (λ e. e ≡ PushError.Memory) }

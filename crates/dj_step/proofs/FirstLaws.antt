@@ -5,7 +5,7 @@ use Rattle.std.specs.Option.{option_map}
 use Rattle.std.proofs.lemmas.List.{length-map}
 use Rattle.std.proofs.lemmas.Option.{slice_get_within, none-some}
 use Rattle.dj_names.specs.declared.descriptor.Ty.{Ty}
-use Rattle.dj_bytes.specs.declared.memory.NoMemory.{NoMemory}
+use Rattle.std.specs.declared.alloc.AllocError.{AllocError}
 use Rattle.dj_names.specs.declared.run.Thresholds.{Thresholds}
 use Rattle.dj_names.specs.trusted.Types.{Name}
 use Rattle.dj_model.specs.trusted.Types.{Prefix, Declared}
@@ -97,7 +97,7 @@ class_there program class name e = by (slice_get program class) refl e where
 pub class_within : (imaged : Imaged) (n : ℕ) (reported : MemberOf) → IsMethodThere (typed_of imaged) n reported → reported.class < length (program_of imaged)
 class_within imaged n reported is = class_there (program_of imaged) reported.class is.found.class is.class
 
-pub entry_prepared : (imaged : Imaged) (n : ℕ) (reported : MemberOf) (before after : Parts) (result : Result Prepared NoMemory) → IsMethodThere (typed_of imaged) n reported
+pub entry_prepared : (imaged : Imaged) (n : ℕ) (reported : MemberOf) (before after : Parts) (result : Result Prepared AllocError) → IsMethodThere (typed_of imaged) n reported
     → IfOk result (λ how. Prepares imaged reported.class before after how) → IfOk result (λ how. PreparesEntry imaged n before after how)
 entry_prepared imaged n reported before after (Err e) is prepares = tt
 entry_prepared imaged n reported before after (Ok how) is prepares = record {
@@ -106,7 +106,7 @@ entry_prepared imaged n reported before after (Ok how) is prepares = record {
   prepares = prepares;
 }
 
-pub known_after : (types : List Ty) (before after : LimitedHeap) (result : Result Prepared NoMemory) → (AreKnown types before → IfOk result (λ _. AreKnown types after))
+pub known_after : (types : List Ty) (before after : LimitedHeap) (result : Result Prepared AllocError) → (AreKnown types before → IfOk result (λ _. AreKnown types after))
     → IfOk result (λ _. AreKnown types before → AreKnown types after)
 known_after types before after (Err e) knows = tt
 known_after types before after (Ok how) knows = knows

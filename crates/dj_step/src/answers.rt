@@ -1,4 +1,4 @@
-use dj_names::NoMemory;
+use std::alloc::AllocError;
 use thiserror::Error;
 
 /// What a step of a machine answers.
@@ -26,13 +26,13 @@ pub enum StartError {
     TooDeep,
 }
 
-impl From<NoMemory> for StartError {
+impl From<AllocError> for StartError {
     ghost use Rattle.std.specs.Prelude.{◌≡◌};
     ghost use Rattle.dj_step.specs.declared.answers.StartError.TheVariants.{Memory};
 
     ghost from_gives = { λ _ e. e ≡ Memory };
 
-    fn from(_e: NoMemory) -> StartError {
+    fn from(_e: AllocError) -> StartError {
         StartError::Memory
     }
 }

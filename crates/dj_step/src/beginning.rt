@@ -15,10 +15,10 @@ use dj_heap::Heap;
 use dj_image::{BaseNames, Image, MethodId};
 use dj_initialising::{Initialised, Prepared, initialise};
 use dj_members::{Literals, Statics};
-use dj_names::{NoMemory, Thresholds};
+use dj_names::Thresholds;
 use dj_stack::Frames;
 use dj_turning::{Run, Tables};
-use std::alloc::Global;
+use std::alloc::{AllocError, Global};
 
 // The run with this heap and these frames, once the entry's class is initialised.
 #[tactic(auto, using(crate::proofs::FirstLaws::flags_first, crate::proofs::FirstLaws::store_first, crate::proofs::FirstLaws::begins_run))]
@@ -30,7 +30,7 @@ pub(crate) fn begin_run(
     limits: Thresholds,
     heap: Heap,
     frames: Frames,
-) -> Result<(Run, Prepared), NoMemory>
+) -> Result<(Run, Prepared), AllocError>
     requires kept { IsKept image.now tables.now }
     requires method { entry.number < length (all_methods (program_of image.now)) }
     requires limits { AreLow limits }
@@ -51,7 +51,7 @@ fn first_run(
     limits: Thresholds,
     heap: Heap,
     frames: Frames,
-) -> Result<Run, NoMemory>
+) -> Result<Run, AllocError>
     requires kept { IsKept image.now tables.now }
     requires limits { AreLow limits }
     ensures { IfOk result (IsFirst image.now limits heap frames) }
@@ -74,7 +74,7 @@ fn first_run(
 
 // No class is initialised.
 #[tactic(auto, using(crate::proofs::FirstLaws::as_many, dj_initialising::proofs::StartLaws::flags_at_start))]
-fn no_flags(alloc: Global, image: &Image) -> Result<Initialised, NoMemory>
+fn no_flags(alloc: Global, image: &Image) -> Result<Initialised, AllocError>
     ensures flags { IfOk result (λ flags. flags ≡ replicate (length (program_of image.now)) false) }
     ensures are { IfOk result (λ flags. AreFlags (program_of image.now) flags) }
 {
@@ -108,7 +108,7 @@ fn initialise_entry(
     tables: &Tables,
     run: &mut Run,
     entry: MethodId,
-) -> Result<Prepared, NoMemory>
+) -> Result<Prepared, AllocError>
     requires kept { IsKept image.now tables.now }
     requires method { entry.number < length (all_methods (program_of image.now)) }
     requires flags { AreFlags (program_of image.now) run.old.parts.flags }

@@ -78,10 +78,7 @@ impl<'a> Machine<'a> {
         ensures begins { IfOk result (Begins image.now (declared_at (program_of image.now) entry.number) input.now limits heap_limit) }
         ensures ends { IfErr result (λ e. EndsAtStart image.now (declared_at (program_of image.now) entry.number) input.now limits heap_limit (start_outcome e)) }
     {
-        let heap = match input_heap(alloc, image, input, heap_limit) {
-            Ok(heap) => heap,
-            Err(e) => return Err(e),
-        };
+        let heap = input_heap(alloc, image, input, heap_limit)?;
         let frames = entry_frames(alloc, image, entry)?;
         begin(alloc, image, entry, input, limits, heap_limit, heap, frames)
     }

@@ -10,7 +10,7 @@ use Rattle.dj_straight.specs.trusted.Program.{Code, Range}
 use Rattle.dj_straight.specs.trusted.Instructions.{Instruction, ends, Nop, Push, Load, Store, LoadElement, StoreElement, Move, Compute, Return, ArrayLength, NewArray, Other}
 use Rattle.dj_straight.specs.trusted.Effects.{slots_of}
 use Rattle.dj_straight.specs.trusted.FrameKinds.{Kinds}
-use Rattle.dj_straight.specs.trusted.Shape.{taken, set_kind, without_long_before, after, StateBefore, Holds}
+use Rattle.dj_straight.specs.trusted.Shape.{taken, set_kind, kinds_without_long_before, after, StateBefore, Holds}
 use Rattle.dj_straight.proofs.Shapes.{one_state}
 use Rattle.dj_straight.specs.declared.program.Action.{Action}
 use Rattle.dj_straight.specs.declared.program.StraightMethod.{StraightMethod}
@@ -47,7 +47,7 @@ slots_past kinds.Ref slot max h = grind (arith, nat_tests)
 
 pub stored : (code : Code) (k now : Kinds) (kind : Kind) (slot : ℕ)
     → taken (kind ∷ []) k.stack ≡ Some now.stack → slot + slots_of kind ≤ code.max_locals
-    → now.locals ≡ set_kind (without_long_before k.locals slot) slot kind
+    → now.locals ≡ set_kind (kinds_without_long_before k.locals slot) slot kind
     → after straight_signature code (Store kind slot) k ≡ Some now
 unfolding after
 stored code k now kind slot t h e = rw t (rw (slots_below kind slot code.max_locals h) (rw e refl))

@@ -129,7 +129,7 @@ lose_has (Some w ∷ vs) (None ∷ ks) (suc slot) l k h = lose_has vs ks slot l 
 lose_has (Some w ∷ vs) (Some kind ∷ ks) (suc slot) l k h = (h.0, lose_has vs ks slot l k h.1)
 
 without_has : (vs : List (Option Value)) (ks : List (Option Kind)) (slot : ℕ) → LocalsHave vs ks
-    → LocalsHave (without_long_before vs slot) (shape.without_long_before ks slot)
+    → LocalsHave (without_long_before vs slot) (shape.kinds_without_long_before ks slot)
 without_has vs ks zero h = h
 without_has vs ks (suc before) h = elim (either (is_kind kinds.Long (kind_at ks before))) [
   | inl is ↦ let r = local_has vs ks before kinds.Long h is in
@@ -141,7 +141,7 @@ without_has vs ks (suc before) h = elim (either (is_kind kinds.Long (kind_at ks 
 ]
 
 stored_has : (vs : List (Option Value)) (ks : List (Option Kind)) (slot : ℕ) (v : Value) → LocalsHave vs ks
-    → LocalsHave (stored vs slot v) (set_kind (shape.without_long_before ks slot) slot (value_kind v))
+    → LocalsHave (stored vs slot v) (set_kind (shape.kinds_without_long_before ks slot) slot (value_kind v))
 stored_has vs ks slot (values.Int z) h = set_has _ _ slot (values.Int z) kinds.Int refl (without_has vs ks slot h)
 stored_has vs ks slot (values.Long z) h =
     clear_has _ _ (slot + 1) (set_has _ _ slot (values.Long z) kinds.Long refl (without_has vs ks slot h))
@@ -207,13 +207,13 @@ record Stored (code : Code) (ks : List (Option Kind)) (slot : ℕ) (kind : Kind)
   below : Kinds
   taken : found ≡ Some below
   fits : nat_lt (slot + slots_of kind - 1) code.max_locals ≡ true
-  left_is : record { locals = set_kind (shape.without_long_before ks slot) slot kind; stack = below.stack } ≡ left
+  left_is : record { locals = set_kind (shape.kinds_without_long_before ks slot) slot kind; stack = below.stack } ≡ left
 
 store_parts : (code : Code) (ks : List (Option Kind)) (slot : ℕ) (kind : Kind) (found : Option Kinds) (left : Kinds)
     → store_kind code ks slot kind found ≡ Some left → Stored code ks slot kind found left
 store_parts code ks slot kind None left e = absurd cc
 store_parts code ks slot kind (Some k) left e =
-    let locals : List (Option Kind) = set_kind (shape.without_long_before ks slot) slot kind in
+    let locals : List (Option Kind) = set_kind (shape.kinds_without_long_before ks slot) slot kind in
     let r = some_if (nat_lt (slot + slots_of kind - 1) code.max_locals) (record k { locals = locals }) left e in
     record { below = k; taken = refl; fits = r.0; left_is = r.1 }
 
@@ -273,7 +273,7 @@ module _ (program : Program) (terms : Terms) (signature : Signature) (code : Cod
       let t = takes_parts (at_kinds (v ∷ rest)) (kind ∷ []) s.below s.taken in
       let r = some_if (same_kind kind (value_kind v)) (map value_kind rest) s.below.stack t.0 in
       let is : kind ≡ value_kind v = same_kind_is kind (value_kind v) r.0 in
-      let kept : LocalsHave (stored locals slot v) (set_kind (shape.without_long_before ks slot) slot kind) =
+      let kept : LocalsHave (stored locals slot v) (set_kind (shape.kinds_without_long_before ks slot) slot kind) =
       rw is (stored_has locals ks slot v has) in
       let length_is : length (stored locals slot v) ≡ code.max_locals = stored_length locals slot v ∙ long in
       let there : HasKinds (stored locals slot v) rest left = rw (← s.left_is) (record { locals = kept; operands = r.1 }) in

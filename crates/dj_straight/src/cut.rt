@@ -6,8 +6,8 @@ ghost use Rattle.dj_straight.specs.trusted.StraightInstrs.{is_straight_op, IsStr
 ghost use Rattle.dj_straight.specs.trusted.Cuts.{AreInstructions};
 
 use crate::program::first_byte;
-use dj_ops::{Instr, Instrs, NoMemory, OpError, read_instr};
-use std::alloc::Global;
+use dj_ops::{Instr, Instrs, OpError, read_instr};
+use std::alloc::{AllocError, Global};
 
 #[tactic(auto, unfolding(crate::specs::trusted::StraightInstrs::is_straight_op))]
 fn is_straight_op(op: u8) -> bool
@@ -54,7 +54,7 @@ fn is_memory(e: OpError) -> bool
 }
 
 /// The instructions of straight code, in order; none where the code can't be cut into straight instructions.
-pub fn read_instrs(alloc: Global, code: &[u8]) -> Result<Option<Instrs>, NoMemory>
+pub fn read_instrs(alloc: Global, code: &[u8]) -> Result<Option<Instrs>, AllocError>
     requires { length code.now < 2 ^ 32 }
     ensures { IfOk result (λ read. MatchOption read
         ((instrs : List Instr) → AreInstructions code.now 0 instrs → ⊥)
@@ -73,7 +73,7 @@ pub fn read_instrs(alloc: Global, code: &[u8]) -> Result<Option<Instrs>, NoMemor
             }
             Err(e) => {
                 if is_memory(e) {
-                    return Err(NoMemory::Memory);
+                    return Err(AllocError);
                 }
                 return Ok(None);
             }

@@ -19,9 +19,8 @@ mod values;
 
 use crate::program::StraightMethod;
 use dj_names::{Costs, Outcome, Thresholds};
-use dj_rules::RulesError;
 use first::first_machine;
-use std::alloc::Global;
+use std::alloc::{AllocError, Global};
 use turns::Advance;
 
 /// How a run went.
@@ -44,7 +43,7 @@ pub fn run_method(
     method: &StraightMethod,
     input: &[u8],
     thresholds: Thresholds,
-) -> Result<StraightEnding, RulesError>
+) -> Result<StraightEnding, AllocError>
     requires some { 0 < length method.now.actions.items }
     requires shape { HasShape straight_signature (code_view method.now) }
     requires input { length input.now ≤ 1048576 }

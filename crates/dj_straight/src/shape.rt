@@ -4,7 +4,7 @@ ghost use Rattle.dj_names.specs.trusted.Values.{value_kind};
 ghost use Rattle.dj_straight.specs.trusted.Instructions as model;
 ghost use Rattle.dj_straight.specs.trusted.Effects.{same_kind, slots_of};
 ghost use Rattle.dj_straight.specs.trusted.Instructions.{ends};
-ghost use Rattle.dj_straight.specs.trusted.Shape.{after, first_kinds, gives, is_kind, kind_at, pushed, set_kind, taken, without_long_before, IsShapeFault, StateBefore};
+ghost use Rattle.dj_straight.specs.trusted.Shape.{after, first_kinds, gives, is_kind, kind_at, pushed, set_kind, taken, kinds_without_long_before, IsShapeFault, StateBefore};
 ghost use Rattle.dj_straight.specs.Shape.{HasShape};
 ghost use Rattle.dj_straight.specs.declared.program.Action.{Action};
 ghost use Rattle.dj_straight.specs.trusted.Methods.{straight_signature};
@@ -13,8 +13,7 @@ ghost use Rattle.dj_straight.specs.Shaping.{room, HasRoomOf, SameRoom, SameLocal
 
 use crate::program::{Action, StraightMethod};
 use dj_names::{Kind, Value};
-use dj_rules::RulesError;
-use std::alloc::Global;
+use std::alloc::{AllocError, Global};
 use std::marker::Model;
 
 // The kinds of the local variables and of the operands, with the room that the code has for them.
@@ -94,7 +93,7 @@ fn kind_at(locals: &[Option<Kind>], slot: usize) -> Option<Kind>
 
 // Where this slot is the second of a long, the long loses its kind.
 fn cut_long_before(locals: &mut [Option<Kind>], slot: usize)
-    ensures { locals.new ≡ without_long_before locals.old slot }
+    ensures { locals.new ≡ kinds_without_long_before locals.old slot }
 {
     if 0 < slot && is_kind(Kind::Long, kind_at(locals, slot - 1)) {
         locals[slot - 1] = None;
@@ -114,7 +113,7 @@ fn set_kind(locals: &mut [Option<Kind>], slot: usize, kind: Kind)
 // The kind is stored in a local variable.
 fn store_kind(locals: &mut [Option<Kind>], slot: usize, kind: Kind)
     requires { slot + slots_of kind ≤ length locals.old }
-    ensures { locals.new ≡ set_kind (without_long_before locals.old slot) slot kind }
+    ensures { locals.new ≡ set_kind (kinds_without_long_before locals.old slot) slot kind }
 {
     cut_long_before(locals, slot);
     set_kind(locals, slot, kind);
@@ -122,7 +121,7 @@ fn store_kind(locals: &mut [Option<Kind>], slot: usize, kind: Kind)
 
 impl KindState {
     // The parameter, and no other kinds.
-    fn new(alloc: Global, method: &StraightMethod) -> Result<KindState, RulesError>
+    fn new(alloc: Global, method: &StraightMethod) -> Result<KindState, AllocError>
         requires { 0 < method.now.max_locals }
         ensures room { IfOk result (λ state. HasRoomOf state method.now) }
         ensures kinds { IfOk result (λ state. state.kinds ≡ first_kinds straight_signature (code_view method.now)) }
@@ -139,7 +138,7 @@ impl KindState {
     }
 
     // Whether there is room for one more operand, which is pushed then.
-    fn push(&mut self, kind: Kind) -> Result<bool, RulesError>
+    fn push(&mut self, kind: Kind) -> Result<bool, AllocError>
         ensures room { SameRoom self.old self.new }
         ensures pushed { IfOk result (λ fits. Leaves fits
             (pushed (room self.old) self.old.kinds.locals self.old.kinds.stack kind) self.new.kinds) }
@@ -198,7 +197,7 @@ impl KindState {
     }
 
     // Whether the operands have the kinds, and there is room for the kind that is pushed then.
-    fn give(&mut self, wanted: &[Kind], kind: Kind) -> Result<bool, RulesError>
+    fn give(&mut self, wanted: &[Kind], kind: Kind) -> Result<bool, AllocError>
         ensures room { SameRoom self.old self.new }
         ensures given { IfOk result (λ fits. Leaves fits
             (gives (room self.old) self.old.kinds wanted.now kind) self.new.kinds) }
@@ -211,7 +210,7 @@ impl KindState {
     }
 
     #[tactic(auto, unfolding(crate::specs::trusted::Shape::after))]
-    fn load(&mut self, kind: Kind, slot: u16) -> Result<bool, RulesError>
+    fn load(&mut self, kind: Kind, slot: u16) -> Result<bool, AllocError>
         ensures room { SameRoom self.old self.new }
         ensures loaded { IfOk result (λ fits. Leaves fits
             (after straight_signature (room self.old) (model.Load kind slot) self.old.kinds) self.new.kinds) }
@@ -249,7 +248,7 @@ impl KindState {
     }
 
     #[tactic(auto, unfolding(crate::specs::trusted::Shape::after))]
-    fn dup(&mut self) -> Result<bool, RulesError>
+    fn dup(&mut self) -> Result<bool, AllocError>
         ensures room { SameRoom self.old self.new }
         ensures pushed { IfOk result (λ fits. Leaves fits
             (after straight_signature (room self.old) (model.Move model.Dup) self.old.kinds) self.new.kinds) }
@@ -262,7 +261,7 @@ impl KindState {
 
     // Whether the action finds what it takes, and what it gives fits. Then the kinds are those after it.
     #[tactic(auto, unfolding(crate::specs::trusted::Shape::after))]
-    fn step(&mut self, action: Action) -> Result<bool, RulesError>
+    fn step(&mut self, action: Action) -> Result<bool, AllocError>
         ensures room { SameRoom self.old self.new }
         ensures left { IfOk result (λ done. Leaves done
             (after straight_signature (room self.old) (action_view action) self.old.kinds) self.new.kinds) }
@@ -290,7 +289,7 @@ impl KindState {
         method: &StraightMethod,
         number: usize,
         action: Action,
-    ) -> Result<bool, RulesError>
+    ) -> Result<bool, AllocError>
         requires at { slice_get method.now.actions.items number ≡ Some action }
         requires room { HasRoomOf self.old method.now }
         requires before { StateBefore straight_signature (code_view method.now) [] number self.old.kinds }
@@ -309,7 +308,7 @@ fn is_end(action: Action) -> bool
 }
 
 /// The number with which code without shape is reported; none where it has shape.
-pub fn shape_fault(alloc: Global, method: &StraightMethod) -> Result<Option<u32>, RulesError>
+pub fn shape_fault(alloc: Global, method: &StraightMethod) -> Result<Option<u32>, AllocError>
     requires { vec_len method.now.actions < 2 ^ 32 }
     ensures { IfOk result (λ fault. MatchOption fault (HasShape straight_signature (code_view method.now))
         (λ number. IsShapeFault straight_signature (code_view method.now) (Some number))) }

@@ -18,9 +18,9 @@ use crate::program::StraightClass;
 use dj_class::ClassView;
 use dj_names::Name;
 use dj_report::PathFile;
-use dj_rules::{FileView, RulesError};
+use dj_rules::FileView;
 use method::distinct_methods;
-use std::alloc::Global;
+use std::alloc::{AllocError, Global};
 
 /// The class of a straight set, or none where there are no files.
 #[derive(Drop)]
@@ -67,7 +67,7 @@ fn is_plain_class(view: &ClassView<'_>) -> bool
 }
 
 // The straight class that the class of the file is.
-fn straight_class(alloc: Global, view: &ClassView<'_>) -> Result<Option<StraightClass>, RulesError>
+fn straight_class(alloc: Global, view: &ClassView<'_>) -> Result<Option<StraightClass>, AllocError>
     requires { IsValid (class_of view.now) }
     ensures { IfOk result (Finds class_view (IsStraightClass (class_of view.now))) }
 {
@@ -89,7 +89,7 @@ fn class_of_file(
     alloc: Global,
     file: &PathFile<'_>,
     view: &FileView<'_>,
-) -> Result<Option<StraightClass>, RulesError>
+) -> Result<Option<StraightClass>, AllocError>
     requires { IsViewOf file.now.bytes.now view.now }
     ensures { IfOk result (Finds class_view (IsStraightFile file.now.bytes.now)) }
 {
@@ -104,7 +104,7 @@ fn set_of(
     alloc: Global,
     files: &[PathFile<'_>],
     only: &Option<FileView<'_>>,
-) -> Result<Option<StraightSet>, RulesError>
+) -> Result<Option<StraightSet>, AllocError>
     requires { IsOnlyView (map path_file_view files.now) only.now }
     ensures straight { IfOk result (λ found. MatchOption found
         (IsNotStraight (map path_file_view files.now))
@@ -129,7 +129,7 @@ pub fn straight_set(
     alloc: Global,
     files: &[PathFile<'_>],
     only: Option<FileView<'_>>,
-) -> Result<Option<StraightSet>, RulesError>
+) -> Result<Option<StraightSet>, AllocError>
     requires { IsOnlyView (map path_file_view files.now) only }
     ensures straight { IfOk result (λ found. MatchOption found
         (IsNotStraight (map path_file_view files.now))

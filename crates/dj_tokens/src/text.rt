@@ -6,10 +6,10 @@ ghost use Rattle.std.specs.List.{list_all};
 
 use crate::unit::unit_at;
 use dj_names::{
-    Name, NoMemory, is_array_descriptor, is_class_name, is_field_descriptor, is_method_descriptor,
+    Name, is_array_descriptor, is_class_name, is_field_descriptor, is_method_descriptor,
     is_method_name, is_unqualified_name,
 };
-use std::alloc::Global;
+use std::alloc::{AllocError, Global};
 
 /// The bytes of a text: those of the source where none is escaped, and else a copy.
 #[derive(Drop)]
@@ -71,7 +71,7 @@ pub fn is_of_kind(kind: NameKind, text: &[u8]) -> bool
 
 /// The text that a word's units are.
 #[tactic(auto, using(crate::proofs::BareTexts::bare_units))]
-pub fn text_of(alloc: Global, bytes: &[u8]) -> Result<Text<'_>, NoMemory>
+pub fn text_of(alloc: Global, bytes: &[u8]) -> Result<Text<'_>, AllocError>
     ensures { IfOk result (λ text. text_view text ≡ units_text (word_units 0 bytes.now)) }
 {
     if is_bare(bytes) {
@@ -90,7 +90,7 @@ fn is_bare(bytes: &[u8]) -> bool
 }
 
 /// The units of a word in modified UTF-8.
-fn encoded(alloc: Global, bytes: &[u8]) -> Result<Name, NoMemory>
+fn encoded(alloc: Global, bytes: &[u8]) -> Result<Name, AllocError>
     ensures { IfOk result (λ name. name ≡ units_text (word_units 0 bytes.now)) }
 {
     let mut text = Name::new(alloc);
@@ -103,7 +103,7 @@ fn encoded(alloc: Global, bytes: &[u8]) -> Result<Name, NoMemory>
 }
 
 /// Appends a unit's spelling.
-pub(crate) fn push_unit(text: &mut Name, unit: u16) -> Result<(), NoMemory>
+pub(crate) fn push_unit(text: &mut Name, unit: u16) -> Result<(), AllocError>
     ensures { OnOk result (text.new ≡ text.old ++ unit_text unit) }
 {
     if 1 <= unit && unit <= 127 {

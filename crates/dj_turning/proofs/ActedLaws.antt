@@ -3,7 +3,7 @@ use Rattle.std.proofs.Common.{◌≡◌, ◌<◌, ℕ, Bool, false, List, [], �
 use Rattle.std.specs.Prelude.{Result, Ok, Err, IfOk, ⊤}
 use Rattle.std.specs.Option.{option_map}
 use Rattle.std.proofs.lemmas.Option.{none-some, same_Some}
-use Rattle.dj_bytes.specs.declared.memory.NoMemory.{NoMemory}
+use Rattle.std.specs.declared.alloc.AllocError.{AllocError}
 use Rattle.dj_names.specs.declared.run.Charge.{Charge}
 use Rattle.dj_names.specs.declared.run.Value.{Value}
 use Rattle.dj_edge.specs.declared.host.HostAnswer.{HostAnswer}
@@ -184,7 +184,7 @@ module _ (imaged : Imaged) (i : Instruction) (flags : List Bool) (st : Store) (c
           stop = inl refl;
         }
 
-  pub acted_then : (fs : List StackFrame) (acted : Acted) (result : Result Settled NoMemory) → 0 < length fs → IsStill imaged (begun fs) → IsActed imaged i (machine fs st) m acted
+  pub acted_then : (fs : List StackFrame) (acted : Acted) (result : Result Settled AllocError) → 0 < length fs → IsStill imaged (begun fs) → IsActed imaged i (machine fs st) m acted
       → IfOk result (ActedSettles imaged (account_of counter).exceeded acted m.store.heap heap m.frames frames) → IfOk result (TurnsBy imaged (doing imaged i) (begun fs) ended [])
   acted_then fs acted (Err e) some still is settles = tt
   acted_then fs acted (Ok result) some still is settles = acted_turns fs acted result some still is settles

@@ -11,14 +11,14 @@ use Rattle.dj_model.specs.trusted.Linking.{member_class}
 use Rattle.dj_model.specs.trusted.State.{Terms, State, Frame, Flow, Way, Next, To, Raise, Back, Goes, Catch, Stop, Call, End}
 use Rattle.dj_model.specs.trusted.Arrays.{passes_limit}
 use Rattle.dj_model.specs.trusted.Performing.{class_at_number}
-use Rattle.dj_model.specs.trusted.Step.{Answer, Ended, ends_with, message_of, handler_of, at_handler, unwound, throw, throw_new, new_exception, new_stop, stop_from, throw_stop_or, settle}
+use Rattle.dj_model.specs.trusted.Step.{StepAnswer, Ended, ends_with, message_of, handler_of, at_handler, unwound, throw, throw_new, new_exception, new_stop, stop_from, throw_stop_or, settle}
 use Rattle.dj_settling.specs.Reported.{reported_of}
 use Rattle.dj_settling.specs.Settling.{top_settled}
 
 module _ (program : Program) (prefix : Prefix) where
   -- ---- an exception on its way up
 
-  either_reported : (b : Bool) (a c d e : Answer) → reported_of a ≡ reported_of d → reported_of c ≡ reported_of e → reported_of (if b then a else c) ≡ reported_of (if b then d else e)
+  either_reported : (b : Bool) (a c d e : StepAnswer) → reported_of a ≡ reported_of d → reported_of c ≡ reported_of e → reported_of (if b then a else c) ≡ reported_of (if b then d else e)
   either_reported true a c d e first second = first
   either_reported false a c d e first second = second
 

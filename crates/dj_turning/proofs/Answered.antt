@@ -2,7 +2,7 @@
 use Rattle.std.proofs.Common.{◌≡◌, ◌<◌, ℕ, Bool, false, List, [], ◌∷◌, ◌++◌, length, drop, Option, Some, None, refl, sym, ap, subst, ◌∙◌, arith}
 use Rattle.std.specs.Prelude.{Result, Ok, Err, IfOk, IfSome}
 use Rattle.dj_names.specs.declared.descriptor.Ty.{Ty}
-use Rattle.dj_bytes.specs.declared.memory.NoMemory.{NoMemory}
+use Rattle.std.specs.declared.alloc.AllocError.{AllocError}
 use Rattle.dj_names.specs.trusted.Types.{Name}
 use Rattle.dj_names.specs.declared.native.NativeId.{NativeId}
 use Rattle.dj_names.specs.declared.run.Charge.{Charge}
@@ -201,7 +201,7 @@ module _ (imaged : Imaged) (i : Instruction) (flags : List Bool) (statics : List
     stop = kept;
   }
 
-  pub native_then : (fs : List StackFrame) (result : Result Settled NoMemory) → 0 < length fs → IsStill imaged (begun fs) → CallsNative imaged i fs heap id count
+  pub native_then : (fs : List StackFrame) (result : Result Settled AllocError) → 0 < length fs → IsStill imaged (begun fs) → CallsNative imaged i fs heap id count
       → AnswersNative imaged heap mid old new gave id (arguments_in fs count) answer → SameButOperands fs taken → top_operands taken ≡ drop count (top_operands fs)
       → IfOk result (NativeSettles imaged (account_of new).exceeded id (arguments_in fs count) answer mid last taken frames) → IfOk result (λ _. KeepsStop imaged last stop next)
       → IfOk result (TurnsBy imaged (doing imaged i) (begun fs) ended gave)
@@ -209,7 +209,7 @@ module _ (imaged : Imaged) (i : Instruction) (flags : List Bool) (statics : List
   native_then fs (Ok result) some still calls answers same operands settles kept = native_turns fs result some still calls answers same operands settles kept
 
 pub settles_then : (imaged : Imaged) (exceeded : Option Charge) (id : NativeId) (args : List Value) (answer : NativeAnswer) (before after : LimitedHeap) (old new : List StackFrame)
-    (result : Result Settled NoMemory) (flow : Flow) → flow_reported id args answer ≡ Some flow
+    (result : Result Settled AllocError) (flow : Flow) → flow_reported id args answer ≡ Some flow
     → IfOk result (λ settled. Settles imaged exceeded (native_settled (program_of imaged) imaged.prefix (given answer) flow) before after old new settled)
     → IfOk result (NativeSettles imaged exceeded id args answer before after old new)
 settles_then imaged exceeded id args answer before after old new (Err e) flow reported settles = tt

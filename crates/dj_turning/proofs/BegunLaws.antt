@@ -3,7 +3,7 @@ use Rattle.std.proofs.Common.{◌≡◌, ◌<◌, ℕ, [], List, length, Option,
 use Rattle.std.specs.Prelude.{Result, Ok, Err, IfOk}
 use Rattle.std.proofs.lemmas.Option.{same_Some}
 use Rattle.dj_names.specs.declared.descriptor.Ty.{Ty}
-use Rattle.dj_bytes.specs.declared.memory.NoMemory.{NoMemory}
+use Rattle.std.specs.declared.alloc.AllocError.{AllocError}
 use Rattle.dj_names.specs.declared.run.Charge.{Charge}
 use Rattle.dj_edge.specs.declared.host.HostAnswer.{HostAnswer}
 use Rattle.dj_model.specs.trusted.Charging.{new_account}
@@ -75,7 +75,7 @@ module _ (imaged : Imaged) (first : Running) (running : IsRunning imaged first) 
   used j reported = subst (λ (k : Instruction). IsUsed imaged k None) (same_Some i j (sym at ∙ reported)) unused
 
   -- and what follows it
-  pub left_steps : (after : LimitedHeap) (frames : List StackFrame) (result : Result Settled NoMemory)
+  pub left_steps : (after : LimitedHeap) (frames : List StackFrame) (result : Result Settled AllocError)
       → IfOk result (ActedSettles imaged (account_of first.counter).exceeded acted heap after left frames) → IfOk result (TurnsBy imaged (stepping imaged) first (with_heap first after frames) [])
   left_steps after frames result settles =
       ready_then imaged first first (with_heap first after frames) [] prepares.Ready result running (prepared_already imaged first method number running top used) refl
@@ -206,7 +206,7 @@ left_frugal imaged sound short first r acted running left needs =
 pub begun_known : (imaged : Imaged) (r : Running) (acted : Acted) → IsBegun imaged r (begins.Left acted) → AreKnown (types_of (typed_of imaged)) r.parts.store.heap
 begun_known imaged r acted begun = (left_again imaged begun.0 r acted begun.1 begun.2).2
 
-pub left_then : (imaged : Imaged) (first r : Running) (acted : Acted) (after : LimitedHeap) (frames : List StackFrame) (result : Result Settled NoMemory) → IsRunning imaged first
+pub left_then : (imaged : Imaged) (first r : Running) (acted : Acted) (after : LimitedHeap) (frames : List StackFrame) (result : Result Settled AllocError) → IsRunning imaged first
     → IsLeft imaged first r acted → IfOk result (ActedSettles imaged (account_of r.counter).exceeded acted r.parts.store.heap after r.parts.frames frames)
     → IfOk result (TurnsBy imaged (stepping imaged) first (with_heap r after frames) [])
 left_then imaged first r acted after frames result running left =
@@ -220,12 +220,12 @@ pub begun_went : (imaged : Imaged) (first r : Running) (begun : Begun) (given : 
 begun_went imaged first r begun given e begins =
     subst (λ (gave : List HostAnswer). MakesStep imaged first r gave settles.Went) (sym (none_given given)) (subst (Begins imaged first r) e begins)
 
-pub nothing_then : (imaged : Imaged) (kept : Kept) (first r new : Running) (gave : List HostAnswer) (result : Result Settled NoMemory) → IsKept imaged kept → IsRunning imaged first → r ≡ first
+pub nothing_then : (imaged : Imaged) (kept : Kept) (first r new : Running) (gave : List HostAnswer) (result : Result Settled AllocError) → IsKept imaged kept → IsRunning imaged first → r ≡ first
     → IfOk result (TurnsBy imaged (stepping imaged) r new gave) → IfOk result (MakesStep imaged first new gave)
 nothing_then imaged kept first r new gave result is running same turns =
     turned imaged kept first new gave result is running (subst (λ (r : Running). IfOk result (TurnsBy imaged (stepping imaged) r new gave)) same turns)
 
-pub settled_then : (imaged : Imaged) (kept : Kept) (first new : Running) (given : List HostAnswer) (result : Result Settled NoMemory) → IsKept imaged kept → IsRunning imaged first
+pub settled_then : (imaged : Imaged) (kept : Kept) (first new : Running) (given : List HostAnswer) (result : Result Settled AllocError) → IsKept imaged kept → IsRunning imaged first
     → IfOk result (TurnsBy imaged (stepping imaged) first new []) → IfOk result (MakesStep imaged first new (given_since given given))
 settled_then imaged kept first new given result is running turns =
     turned imaged kept first new (given_since given given) result is running (none_then imaged (stepping imaged) first new given result turns)

@@ -5,7 +5,7 @@ use Rattle.std.proofs.lemmas.Option.{none-some, same_Some}
 use Rattle.dj_names.specs.declared.descriptor.Desc.{Desc}
 use Rattle.dj_names.specs.declared.descriptor.Kind.{Kind}
 use Rattle.dj_names.specs.declared.descriptor.Kind.TheVariants as tags
-use Rattle.dj_bytes.specs.declared.memory.NoMemory.{NoMemory}
+use Rattle.std.specs.declared.alloc.AllocError.{AllocError}
 use Rattle.dj_names.specs.declared.native.NativeId.{NativeId}
 use Rattle.dj_names.specs.declared.run.Outcome.TheVariants as outcomes
 use Rattle.dj_names.specs.declared.run.Raised.{Raised}
@@ -172,7 +172,7 @@ module _ (imaged : Imaged) (called : Mode) (m : Member) where
     pub raised_stand : (old new : List StackFrame) (raised : Raised) → IsInvoked imaged old called m (run new) (invoked.Raise raised) → AreActivations imaged new
     raised_stand old new raised is = goes_stand old new (Goes (Raise raised)) is.invokes is.still.activations
 
-    pub raised_then : (old new frames : List StackFrame) (heap : LimitedHeap) (raised : Raised) (result : Result Settled NoMemory) → IsInvoked imaged old called m (run new) (invoked.Raise raised)
+    pub raised_then : (old new frames : List StackFrame) (heap : LimitedHeap) (raised : Raised) (result : Result Settled AllocError) → IsInvoked imaged old called m (run new) (invoked.Raise raised)
         → IfOk result (Settles imaged (account_of counter).exceeded (raising imaged raised) st.heap heap new frames)
         → IfOk result (TurnsBy imaged (doing imaged i) (run old) (record { parts = parts flags (store heap st.statics st.literals) frames; counter = counter; stop = stop }) [])
     raised_then old new frames heap raised (Err e) is settles = tt

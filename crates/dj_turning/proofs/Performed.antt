@@ -1,11 +1,11 @@
 -- What is asked before the next instruction is done, and what is reported where the host isn't asked.
 use Rattle.std.proofs.Common.{◌≡◌, ◌<◌, ℕ, List, [], length, sym, ap, subst, ◌∙◌}
 use Rattle.std.specs.Prelude.{Result, IfOk}
-use Rattle.dj_bytes.specs.declared.memory.NoMemory.{NoMemory}
+use Rattle.std.specs.declared.alloc.AllocError.{AllocError}
 use Rattle.dj_edge.specs.declared.host.HostAnswer.{HostAnswer}
 use Rattle.dj_model.specs.trusted.Types.{Declared}
 use Rattle.dj_model.specs.trusted.State.{State, Terms}
-use Rattle.dj_model.specs.trusted.Step.{Answer}
+use Rattle.dj_model.specs.trusted.Step.{StepAnswer}
 use Rattle.dj_stack.specs.Frames.{StackFrame, top_method}
 use Rattle.dj_linking.specs.Linked.{class_name}
 use Rattle.dj_host.specs.trusted.Hosted.{given_since}
@@ -34,10 +34,10 @@ own_class imaged frames method number reported top there =
     )
 
 -- where the host isn't asked it gives nothing
-pub none_turns : (imaged : Imaged) (answer : Terms → State → Answer) (old new : Running) (given : List HostAnswer) (settled : Settled) → TurnsBy imaged answer old new [] settled
+pub none_turns : (imaged : Imaged) (answer : Terms → State → StepAnswer) (old new : Running) (given : List HostAnswer) (settled : Settled) → TurnsBy imaged answer old new [] settled
     → TurnsBy imaged answer old new (given_since given given) settled
 none_turns imaged answer old new given settled turns = subst (λ (gave : List HostAnswer). TurnsBy imaged answer old new gave settled) (sym (none_given given)) turns
 
-pub none_then : (imaged : Imaged) (answer : Terms → State → Answer) (old new : Running) (given : List HostAnswer) (result : Result Settled NoMemory)
+pub none_then : (imaged : Imaged) (answer : Terms → State → StepAnswer) (old new : Running) (given : List HostAnswer) (result : Result Settled AllocError)
     → IfOk result (TurnsBy imaged answer old new []) → IfOk result (TurnsBy imaged answer old new (given_since given given))
 none_then imaged answer old new given result turns = subst (λ (gave : List HostAnswer). IfOk result (TurnsBy imaged answer old new gave)) (sym (none_given given)) turns

@@ -1,7 +1,7 @@
 -- The initialisation before an instruction, and the step that it begins, are what the model has.
 use Rattle.std.proofs.Common.{◌≡◌, ◌<◌, ◌++◌, ℕ, Bool, true, false, List, [], ◌∷◌, length, reverse, Option, Some, None, refl, sym, ap, subst, ◌∙◌, inl, arith, nat_lt, if◌then◌else◌, ◌+◌}
 use Rattle.std.specs.Prelude.{Result, Ok, Err, IfOk}
-use Rattle.dj_bytes.specs.declared.memory.NoMemory.{NoMemory}
+use Rattle.std.specs.declared.alloc.AllocError.{AllocError}
 use Rattle.dj_names.specs.declared.run.Outcome.TheVariants as outcomes
 use Rattle.dj_names.specs.trusted.Types.{Name}
 use Rattle.dj_edge.specs.declared.host.HostAnswer.{HostAnswer}
@@ -59,7 +59,7 @@ prepared_class imaged r method number class after result running top used p know
   stop = refl;
 }
 
-pub prepared_then : (imaged : Imaged) (r : Running) (method number class : ℕ) (after : Parts) (result : Result Prepared NoMemory) → IsRunning imaged r → IsTop imaged r.parts.frames method number
+pub prepared_then : (imaged : Imaged) (r : Running) (method number class : ℕ) (after : Parts) (result : Result Prepared AllocError) → IsRunning imaged r → IsTop imaged r.parts.frames method number
     → ((i : Instruction) → instruction_of_number imaged method number ≡ Some i → IsUsed imaged i (Some class)) → IfOk result (Prepares imaged class r.parts after)
     → IfOk result (λ _. AreKnown (types_of (typed_of imaged)) after.store.heap) → IfOk result (PreparesNext imaged r (with_run_parts r after))
 prepared_then imaged r method number class after (Err e) running top used p known = tt
@@ -246,7 +246,7 @@ ready_turns imaged old mid new gave settled running is turns = record {
   stop = subst (λ (k : ℕ). KeepsStop imaged new.parts.store.heap k new.stop) is.stop turns.stop;
 }
 
-pub ready_then : (imaged : Imaged) (old mid new : Running) (gave : List HostAnswer) (prepared : Prepared) (result : Result Settled NoMemory) → IsRunning imaged old → PreparesNext imaged old mid prepared
+pub ready_then : (imaged : Imaged) (old mid new : Running) (gave : List HostAnswer) (prepared : Prepared) (result : Result Settled AllocError) → IsRunning imaged old → PreparesNext imaged old mid prepared
     → prepared ≡ prepares.Ready → IfOk result (TurnsBy imaged (doing_next imaged) mid new gave) → IfOk result (TurnsBy imaged (stepping imaged) old new gave)
 ready_then imaged old mid new gave prepared (Err e) running is ready turns = tt
 ready_then imaged old mid new gave prepared (Ok settled) running is ready turns =
@@ -254,7 +254,7 @@ ready_then imaged old mid new gave prepared (Ok settled) running is ready turns 
 
 -- ---- the next instruction is that of the top frame
 
-pub next_turns : (imaged : Imaged) (old new : Running) (gave : List HostAnswer) (method number : ℕ) (i : Instruction) (result : Result Settled NoMemory) → IsTop imaged old.parts.frames method number
+pub next_turns : (imaged : Imaged) (old new : Running) (gave : List HostAnswer) (method number : ℕ) (i : Instruction) (result : Result Settled AllocError) → IsTop imaged old.parts.frames method number
     → instruction_of_number imaged method number ≡ Some i → IfOk result (TurnsBy imaged (doing imaged i) old new gave) → IfOk result (TurnsBy imaged (doing_next imaged) old new gave)
 next_turns imaged old new gave method number i (Err e) top at turns = tt
 next_turns imaged old new gave method number i (Ok settled) top at turns = record {

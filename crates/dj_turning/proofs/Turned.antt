@@ -1,7 +1,7 @@
 -- A step by its parts is a step of a run that goes on.
 use Rattle.std.proofs.Common.{◌≡◌, ℕ, ◌++◌, List, [], ◌∷◌, Option, Some, None, refl, sym, ap, subst, ◌∙◌, inl, inr, ℤ}
 use Rattle.std.specs.Prelude.{Result, Ok, Err, IfOk}
-use Rattle.dj_bytes.specs.declared.memory.NoMemory.{NoMemory}
+use Rattle.std.specs.declared.alloc.AllocError.{AllocError}
 use Rattle.dj_names.specs.declared.native.NativeId.{NativeId}
 use Rattle.dj_names.specs.declared.run.Value.{Value}
 use Rattle.dj_edge.specs.declared.host.HostAnswer.{HostAnswer}
@@ -12,7 +12,7 @@ use Rattle.dj_model.specs.trusted.Performing.{native, native_asked, host_asked, 
 use Rattle.dj_model.specs.trusted.Program.{Program}
 use Rattle.dj_model.specs.trusted.State.{Terms, State, Frame, Part, Effect}
 use Rattle.dj_model.specs.trusted.Initialisation.{Initialised}
-use Rattle.dj_model.specs.trusted.Step.{Answer, Went, Ended, IllFormed, act, done, part_of, settled, step, step_of}
+use Rattle.dj_model.specs.trusted.Step.{StepAnswer, Went, Ended, IllFormed, act, done, part_of, settled, step, step_of}
 use Rattle.dj_model.specs.Sound.{IsSound}
 use Rattle.dj_model.specs.Standing.{AreStanding, AnswerStands, IsStarvedAt, IsUnanswered}
 use Rattle.dj_model.specs.Laws.{AnswerGrows}
@@ -56,7 +56,7 @@ starved_step program prefix terms s at =
 
 -- ---- a run that goes on
 
-pub on_went : (a : Answer) (s : State) → reported_of a ≡ On s → a ≡ Went s
+pub on_went : (a : StepAnswer) (s : State) → reported_of a ≡ On s → a ≡ Went s
 on_went (Went t) s e = let same : t ≡ s = cc in ap Went same
 on_went (Ended outcome t) s e = absurd cc
 on_went IllFormed s e = absurd cc
@@ -105,7 +105,7 @@ turned_so imaged old new gave settled sound running turns = record {
   running = λ e. goes_on imaged old new gave sound running (subst (TurnsBy imaged (stepping imaged) old new gave) e turns);
 }
 
-pub turned : (imaged : Imaged) (kept : Kept) (old new : Running) (gave : List HostAnswer) (result : Result Settled NoMemory) → IsKept imaged kept → IsRunning imaged old
+pub turned : (imaged : Imaged) (kept : Kept) (old new : Running) (gave : List HostAnswer) (result : Result Settled AllocError) → IsKept imaged kept → IsRunning imaged old
     → IfOk result (TurnsBy imaged (stepping imaged) old new gave) → IfOk result (MakesStep imaged old new gave)
 turned imaged kept old new gave (Err e) is running turns = tt
 turned imaged kept old new gave (Ok settled) is running turns = turned_so imaged old new gave settled is.sound running turns

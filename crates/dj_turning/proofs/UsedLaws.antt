@@ -7,7 +7,7 @@ use Rattle.std.proofs.lemmas.Option.{none-some, same_Some, slice_get_within}
 use Rattle.dj_names.specs.declared.descriptor.Base.{Base}
 use Rattle.dj_names.specs.declared.descriptor.Ty.{Ty}
 use Rattle.dj_names.specs.declared.run.Element.{Element}
-use Rattle.dj_bytes.specs.declared.memory.NoMemory.{NoMemory}
+use Rattle.std.specs.declared.alloc.AllocError.{AllocError}
 use Rattle.dj_names.specs.trusted.Types.{Name, base_array}
 use Rattle.dj_ops.specs.declared.instruction.Instr.{Instr}
 use Rattle.dj_ops.specs.declared.instruction.Instr.TheVariants as instrs
@@ -272,7 +272,7 @@ operand_named imaged method number instr named operand sound at o = record {
   linked = linked_at imaged sound method number (instruction_of instr named) at.is;
 }
 
-pub named_then : (imaged : Imaged) (method number : ℕ) (instr : Instr) (named : Named) (result : Result (Option ℕ) NoMemory) → IsInstrAt imaged method number instr named
+pub named_then : (imaged : Imaged) (method number : ℕ) (instr : Instr) (named : Named) (result : Result (Option ℕ) AllocError) → IsInstrAt imaged method number instr named
     → IfOk result (IsUsed imaged (instruction_of instr named)) → (i : Instruction) → instruction_of_number imaged method number ≡ Some i → IfOk result (IsUsed imaged i)
 named_then imaged method number instr named result at used i reported =
     subst (λ (j : Instruction). IfOk result (IsUsed imaged j)) (same_Some (instruction_of instr named) i (sym at.is ∙ reported)) used

@@ -6,7 +6,7 @@ use Rattle.dj_model.specs.trusted.Types.{Declared}
 use Rattle.dj_model.specs.trusted.Instructions.{Instruction}
 use Rattle.dj_model.specs.trusted.State.{Terms, Frame, State, Flow, instruction_at}
 use Rattle.dj_model.specs.trusted.Effects.{effect, used_class}
-use Rattle.dj_model.specs.trusted.Step.{Answer, IllFormed, part_of, settled, prepared, step}
+use Rattle.dj_model.specs.trusted.Step.{StepAnswer, IllFormed, part_of, settled, prepared, step}
 use Rattle.dj_heap.specs.Heaps.{LimitedHeap}
 use Rattle.dj_stack.specs.Frames.{StackFrame, top_method, top_number}
 use Rattle.dj_calls.specs.Calls.{counting_of}
@@ -30,15 +30,15 @@ use Rattle.dj_turning.specs.Running.{Counts, Running, state_of, terms_of}
 
 -- ---- in the model
 
-abbrev pub stepping : Imaged → Terms → State → Answer
+abbrev pub stepping : Imaged → Terms → State → StepAnswer
 stepping imaged terms s = step (program_of imaged) imaged.prefix terms s
 
 -- the effect of the instruction on the top one of these frames, and what follows it
-abbrev pub doing_on : Imaged → Instruction → Terms → State → List (Frame Declared) → Answer
+abbrev pub doing_on : Imaged → Instruction → Terms → State → List (Frame Declared) → StepAnswer
 doing_on imaged i terms s [] = IllFormed
 doing_on imaged i terms s (f ∷ below) = settled (program_of imaged) imaged.prefix terms s f below (effect (program_of imaged) imaged.prefix terms f.method.class i (part_of f s))
 
-abbrev pub doing : Imaged → Instruction → Terms → State → Answer
+abbrev pub doing : Imaged → Instruction → Terms → State → StepAnswer
 doing imaged i terms s = doing_on imaged i terms s s.frames
 
 -- the instruction that is next
@@ -46,12 +46,12 @@ abbrev pub next_of : Imaged → List (Frame Declared) → Option Instruction
 next_of imaged [] = None
 next_of imaged (f ∷ below) = instruction_at (program_of imaged) f
 
-abbrev pub doing_some : Imaged → Terms → State → Option Instruction → Answer
+abbrev pub doing_some : Imaged → Terms → State → Option Instruction → StepAnswer
 doing_some imaged terms s None = IllFormed
 doing_some imaged terms s (Some i) = doing imaged i terms s
 
--- the same for it, where its class is initialised
-abbrev pub doing_next : Imaged → Terms → State → Answer
+-- what doing the next instruction gives, where its class is initialised
+abbrev pub doing_next : Imaged → Terms → State → StepAnswer
 doing_next imaged terms s = doing_some imaged terms s (next_of imaged s.frames)
 
 -- ---- what holds of a run whose frames may stand otherwise
@@ -74,7 +74,7 @@ pub record IsTop (imaged : Imaged) (frames : List StackFrame) (method number : �
 -- ---- what is answered
 
 -- the model answers this, where what the host gave comes first among its answers, whatever the others are; and this holds of the run then
-pub record TurnsBy (imaged : Imaged) (answer : Terms → State → Answer) (old new : Running) (gave : List HostAnswer) (settled : Settled) : Type 0 where
+pub record TurnsBy (imaged : Imaged) (answer : Terms → State → StepAnswer) (old new : Running) (gave : List HostAnswer) (settled : Settled) : Type 0 where
   pub says : (rest : List HostAnswer) → reported_of (answer (terms_of old) (state_of imaged (gave ++ rest) old)) ≡ settled_reported settled (state_of imaged rest new)
   pub limit : new.parts.store.heap.limit ≡ old.parts.store.heap.limit
   pub counting : counting_of new.counter ≡ counting_of old.counter

@@ -19,10 +19,10 @@ use crate::tables::Tables;
 use dj_acting::{Acted, act};
 use dj_heap::Heap;
 use dj_image::{Image, MethodId};
-use dj_names::{Charge, NoMemory, Outcome};
+use dj_names::{Charge, Outcome};
 use dj_settling::{Settled, go, throw};
 use dj_stack::Frames;
-use std::alloc::Global;
+use std::alloc::{AllocError, Global};
 
 /// The top frame's instruction, which is no call, is done, and what follows is settled.
 #[tactic(auto, using(crate::proofs::ActedLaws::acted_stand, crate::proofs::ActedLaws::acted_some, crate::proofs::ActedLaws::acted_then))]
@@ -33,7 +33,7 @@ pub(crate) fn act_next(
     run: &mut Run,
     method: MethodId,
     number: u32,
-) -> Result<Settled, NoMemory>
+) -> Result<Settled, AllocError>
     requires kept { IsKept image.now tables.now }
     requires running { IsRunning image.now run.old }
     requires top { IsTop image.now run.old.parts.frames method.number number }
@@ -65,7 +65,7 @@ pub(crate) fn settle_acted(
     heap: &mut Heap,
     exceeded: Option<Charge>,
     acted: Acted,
-) -> Result<Settled, NoMemory>
+) -> Result<Settled, AllocError>
     requires sound { IsSound (program_of image.now) image.now.prefix }
     requires own { HasOwn image.now }
     requires stand { AreActivations image.now frames.old }
@@ -80,8 +80,8 @@ pub(crate) fn settle_acted(
         Acted::Catch(exception) => catch(alloc, image, frames, heap, exceeded, exception),
         Acted::Link => Ok(Settled::Ended(Outcome::Link)),
         Acted::HeapFull { used, size } => Ok(Settled::Ended(Outcome::HeapFull { used, size })),
-        Acted::Call => Err(NoMemory::Memory),
-        Acted::Stuck => Err(NoMemory::Memory),
+        Acted::Call => Err(AllocError),
+        Acted::Stuck => Err(AllocError),
     }
 }
 
@@ -95,7 +95,7 @@ fn catch(
     heap: &mut Heap,
     exceeded: Option<Charge>,
     exception: u32,
-) -> Result<Settled, NoMemory>
+) -> Result<Settled, AllocError>
     requires sound { IsSound (program_of image.now) image.now.prefix }
     requires stand { AreActivations image.now frames.old }
     requires some { 0 < length frames.old }

@@ -26,11 +26,11 @@ use crate::tables::Tables;
 use dj_edge::Host;
 use dj_image::Image;
 use dj_invoking::{CallSite, Invoked, invoke};
-use dj_names::{NoMemory, Outcome};
+use dj_names::Outcome;
 use dj_settling::{Settled, raise};
-use std::alloc::Global;
+use std::alloc::{AllocError, Global};
 
-/// A method is called in a method of the class own, and what follows is settled. There is no memory for a call that lacks what it takes; no sound
+/// A method is called in a method of the class `own`, and what follows is settled. There is no memory for a call that lacks what it takes; no sound
 /// program has one.
 pub(crate) fn call<H: Host>(
     alloc: Global,
@@ -40,7 +40,7 @@ pub(crate) fn call<H: Host>(
     host: &mut H,
     own: u32,
     site: CallSite,
-) -> Result<Settled, NoMemory>
+) -> Result<Settled, AllocError>
     requires kept { IsKept image.now tables.now }
     requires still { IsStill image.now run.old }
     requires some { 0 < length run.old.parts.frames }
@@ -71,7 +71,7 @@ pub(crate) fn call<H: Host>(
     )?;
     match invoked {
         Some(invoked) => settle_call(alloc, image, run, host, invoked),
-        None => Err(NoMemory::Memory),
+        None => Err(AllocError),
     }
 }
 
@@ -82,7 +82,7 @@ fn settle_call<H: Host>(
     run: &mut Run,
     host: &mut H,
     invoked: Invoked,
-) -> Result<Settled, NoMemory>
+) -> Result<Settled, AllocError>
     requires sound { IsSound (program_of image.now) image.now.prefix }
     requires own { HasOwn image.now }
     requires invoked { (old : List StackFrame) × (called : model.Mode) × (m : Member) × IsInvoked image.now old called m run.old invoked }

@@ -15,8 +15,8 @@ use dj_edge::Host;
 use dj_heap::{Heap, Made};
 use dj_host::{call_host, is_hosted};
 use dj_image::Image;
-use dj_names::{Element, NativeId, NoMemory, Value};
-use std::alloc::Global;
+use dj_names::{Element, NativeId, Value};
+use std::alloc::{AllocError, Global};
 
 /// What a native method answers: of the host where it is asked, and else of itself, with the accounter where there is one.
 #[tactic(auto, using(crate::proofs::HostLaws::still_given))]
@@ -28,7 +28,7 @@ pub(crate) fn answer_of<H: Host>(
     host: &mut H,
     id: NativeId,
     args: &[Value],
-) -> Result<NativeAnswer, NoMemory>
+) -> Result<NativeAnswer, AllocError>
     requires known { AreKnown (types_of (typed_of image.now)) heap.old }
     requires kinds { map value_kind args.now ≡ (native_signature id).parameters }
     ensures answers { IfOk result (AnswersNative image.now heap.old heap.new accounter.old accounter.new (given_since (H.given host.old) (H.given host.new)) id args.now) }
@@ -52,7 +52,7 @@ fn ask<H: Host>(
     host: &mut H,
     id: NativeId,
     args: &[Value],
-) -> Result<NativeAnswer, NoMemory>
+) -> Result<NativeAnswer, AllocError>
     requires known { AreKnown (types_of (typed_of image.now)) heap.old }
     requires hosted { is_hosted id ≡ true }
     ensures answers { IfOk result (AnswersNative image.now heap.old heap.new accounter.now accounter.now (given_since (H.given host.old) (H.given host.new)) id args.now) }
@@ -60,7 +60,7 @@ fn ask<H: Host>(
     ensures quiet { IsQuiet id → H.given host.new ≡ H.given host.old }
 {
     match accounter {
-        Some(_) => Err(NoMemory::Memory),
+        Some(_) => Err(AllocError),
         None => Ok(call_host(alloc, image, host, heap, id, args)),
     }
 }
@@ -73,14 +73,14 @@ fn answer_plainly(
     accounter: &mut Option<Accounter>,
     id: NativeId,
     args: &[Value],
-) -> Result<NativeAnswer, NoMemory>
+) -> Result<NativeAnswer, AllocError>
     requires known { AreKnown (types_of (typed_of image.now)) heap.old }
     requires kinds { map value_kind args.now ≡ (native_signature id).parameters }
     requires hosted { is_hosted id ≡ false }
     ensures { IfOk result (AnswersNative image.now heap.old heap.new accounter.old accounter.new [] id args.now) }
 {
     if !is_fitting(heap, id, args) {
-        return Err(NoMemory::Memory);
+        return Err(AllocError);
     }
     match accounter {
         Some(accounter) => Ok(answer_counted(alloc, image, heap, accounter, id, args)),

@@ -19,10 +19,10 @@ use dj_edge::Host;
 use dj_heap::Heap;
 use dj_image::Image;
 use dj_invoking::{copy_operands, drop_operands};
-use dj_names::{Charge, NativeId, NoMemory, Value};
+use dj_names::{Charge, NativeId, Value};
 use dj_settling::{Settled, settle_native};
 use dj_stack::Frames;
-use std::alloc::Global;
+use std::alloc::{AllocError, Global};
 
 /// A native method is called on this many operands, which are taken, and what follows is settled.
 pub(crate) fn call_method<H: Host>(
@@ -32,7 +32,7 @@ pub(crate) fn call_method<H: Host>(
     host: &mut H,
     id: NativeId,
     count: u16,
-) -> Result<Settled, NoMemory>
+) -> Result<Settled, AllocError>
     requires sound { IsSound (program_of image.now) image.now.prefix }
     requires own { HasOwn image.now }
     requires still { IsStill image.now run.old }
@@ -84,7 +84,7 @@ fn settle_answer(
     id: NativeId,
     args: &[Value],
     answer: NativeAnswer,
-) -> Result<Settled, NoMemory>
+) -> Result<Settled, AllocError>
     requires sound { IsSound (program_of image.now) image.now.prefix }
     requires own { HasOwn image.now }
     requires stand { AreActivations image.now frames.old }
@@ -96,7 +96,7 @@ fn settle_answer(
     ensures is { IfOk result (λ _. KeepsStop image.now heap.new stop.old stop.new) }
 {
     if !is_awaited(image, frames, heap, counted, id, args, answer) {
-        return Err(NoMemory::Memory);
+        return Err(AllocError);
     }
     settle_native(alloc, image, frames, heap, exceeded, stop, id, args, answer)
 }

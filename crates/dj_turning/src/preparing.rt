@@ -9,8 +9,7 @@ use crate::tables::Tables;
 use crate::uses::used_class;
 use dj_image::Image;
 use dj_initialising::{Prepared, initialise};
-use dj_names::NoMemory;
-use std::alloc::Global;
+use std::alloc::{AllocError, Global};
 
 /// The class that the top frame's next instruction uses is initialised (JVMS 5.5).
 #[tactic(auto, using(crate::proofs::Prepared::prepared_then, crate::proofs::Prepared::prepared_already))]
@@ -19,7 +18,7 @@ pub(crate) fn prepare(
     image: &Image,
     tables: &Tables,
     run: &mut Run,
-) -> Result<Prepared, NoMemory>
+) -> Result<Prepared, AllocError>
     requires kept { IsKept image.now tables.now }
     requires running { IsRunning image.now run.old }
     ensures prepares { IfOk result (PreparesNext image.now run.old run.new) }

@@ -6,11 +6,11 @@ ghost use Rattle.dj_image.specs.Imaged.{program_of};
 ghost use Rattle.dj_turning.specs.Short.{AreBounded, IsBounded, LoadByKnown, is_known_load};
 
 use dj_image::{Body, Image, MethodCode, MethodId};
-use dj_names::NoMemory;
 use dj_ops::Instr;
+use std::alloc::AllocError;
 
 /// Whether it holds of all code of an image.
-pub(crate) fn are_bounded(image: &Image) -> Result<bool, NoMemory>
+pub(crate) fn are_bounded(image: &Image) -> Result<bool, AllocError>
     ensures { IfOk result (λ bounded. bounded ≡ true → AreBounded image.now) }
 {
     let count = method_count(image)?;
@@ -23,7 +23,7 @@ pub(crate) fn are_bounded(image: &Image) -> Result<bool, NoMemory>
 }
 
 // How many methods the classes of an image have.
-fn method_count(image: &Image) -> Result<u32, NoMemory>
+fn method_count(image: &Image) -> Result<u32, AllocError>
     ensures { IfOk result (λ count. count ≡ length (all_methods (program_of image.now))) }
 {
     let linker = image.linker();
@@ -31,10 +31,10 @@ fn method_count(image: &Image) -> Result<u32, NoMemory>
     let mut count: u32 = 0;
     for class in 0..classes.class_count() {
         let Ok(more) = u32::try_from(classes.method_count(class)) else {
-            return Err(NoMemory::Memory);
+            return Err(AllocError);
         };
         let Some(sum) = count.checked_add(more) else {
-            return Err(NoMemory::Memory);
+            return Err(AllocError);
         };
         count = sum;
     }

@@ -14,9 +14,8 @@ use crate::shortness::are_bounded;
 use dj_image::{BaseNames, Image};
 use dj_initialising::{Initialisers, StaticPlaces};
 use dj_invoking::Natives;
-use dj_names::NoMemory;
 use dj_settling::has_own;
-use std::alloc::Global;
+use std::alloc::{AllocError, Global};
 use std::marker::Model;
 
 /// What is made once of an image.
@@ -45,15 +44,15 @@ impl Model for Tables {
 impl Tables {
     /// What a run needs of an image beside its readers. It isn't made for an image without a class that the machine throws, or without Throwable, and
     /// none with a library lacks one; nor for one with code that no class file has.
-    pub fn of(alloc: Global, image: &Image) -> Result<Tables, NoMemory>
+    pub fn of(alloc: Global, image: &Image) -> Result<Tables, AllocError>
         requires { IsSound (program_of image.now) image.now.prefix }
         ensures { IfOk result (IsKept image.now) }
     {
         if !has_own(image) {
-            return Err(NoMemory::Memory);
+            return Err(AllocError);
         }
         if !are_bounded(image)? {
-            return Err(NoMemory::Memory);
+            return Err(AllocError);
         }
         tables_of(alloc, image)
     }
@@ -74,7 +73,7 @@ impl Tables {
 }
 
 // Of an image with the classes that the machine throws.
-fn tables_of(alloc: Global, image: &Image) -> Result<Tables, NoMemory>
+fn tables_of(alloc: Global, image: &Image) -> Result<Tables, AllocError>
     requires sound { IsSound (program_of image.now) image.now.prefix }
     requires own { HasOwn image.now }
     requires bounded { AreBounded image.now }
@@ -82,7 +81,7 @@ fn tables_of(alloc: Global, image: &Image) -> Result<Tables, NoMemory>
 {
     image.is_numbered();
     let Some(throwable) = throwable(image) else {
-        return Err(NoMemory::Memory);
+        return Err(AllocError);
     };
     let places = StaticPlaces::of(alloc, image)?;
     let initialisers = Initialisers::of(alloc, image)?;
@@ -96,10 +95,10 @@ fn tables_of(alloc: Global, image: &Image) -> Result<Tables, NoMemory>
 }
 
 // The classes of the parameters of native methods. No native method of a library takes references of a class without a number.
-fn natives_of(alloc: Global, image: &Image) -> Result<Natives, NoMemory>
+fn natives_of(alloc: Global, image: &Image) -> Result<Natives, AllocError>
     ensures { IfOk result (AreNatives image.now) }
 {
-    Natives::of(alloc, image).or(Err(NoMemory::Memory))
+    Natives::of(alloc, image).or(Err(AllocError))
 }
 
 // The class Throwable.

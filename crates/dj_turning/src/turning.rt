@@ -16,9 +16,9 @@ use dj_edge::Host;
 use dj_image::Image;
 use dj_initialising::Prepared;
 use dj_invoking::call_at;
-use dj_names::{NoMemory, Outcome};
+use dj_names::Outcome;
 use dj_settling::Settled;
-use std::alloc::Global;
+use std::alloc::{AllocError, Global};
 
 /// The next instruction of the top frame is done (JVMS 2.6 and 6.5).
 #[inline(never)]
@@ -28,7 +28,7 @@ pub(crate) fn take_step<H: Host>(
     tables: &Tables,
     run: &mut Run,
     host: &mut H,
-) -> Result<Settled, NoMemory>
+) -> Result<Settled, AllocError>
     requires kept { IsKept image.now tables.now }
     requires running { IsRunning image.now run.old }
     ensures turns { IfOk result (TurnsBy image.now (stepping image.now) run.old run.new (given_since (H.given host.old) (H.given host.new))) }
@@ -51,7 +51,7 @@ fn perform<H: Host>(
     tables: &Tables,
     run: &mut Run,
     host: &mut H,
-) -> Result<Settled, NoMemory>
+) -> Result<Settled, AllocError>
     requires kept { IsKept image.now tables.now }
     requires running { IsRunning image.now run.old }
     ensures turns { IfOk result (TurnsBy image.now (doing_next image.now) run.old run.new (given_since (H.given host.old) (H.given host.new))) }

@@ -21,9 +21,8 @@ use dj_acting::{Acted, Begun, begin, unnamed_action};
 use dj_activations::instr_of;
 use dj_edge::Host;
 use dj_image::Image;
-use dj_names::NoMemory;
 use dj_settling::Settled;
-use std::alloc::Global;
+use std::alloc::{AllocError, Global};
 
 /// The first part of a step: the next instruction of the top frame is done at once, where it names nothing and makes and throws no object.
 #[inline(always)]
@@ -51,7 +50,7 @@ pub fn end_turn<H: Host>(
     run: &mut Run,
     host: &mut H,
     begun: Begun,
-) -> Result<Settled, NoMemory>
+) -> Result<Settled, AllocError>
     requires kept { IsKept image.now tables.now }
     requires begun { IsBegun image.now run.old begun }
     ensures turns { (first : Running) → IsRunning image.now first → Begins image.now first run.old begun → IfOk result (MakesStep image.now first run.new (given_since (H.given host.old) (H.given host.new))) }
@@ -73,7 +72,7 @@ fn settle_left(
     tables: &Tables,
     run: &mut Run,
     acted: Acted,
-) -> Result<Settled, NoMemory>
+) -> Result<Settled, AllocError>
     requires kept { IsKept image.now tables.now }
     requires left { IsBegun image.now run.old (begins.Left acted) }
     ensures turns { (first : Running) → IsRunning image.now first → IsLeft image.now first run.old acted → IfOk result (TurnsBy image.now (stepping image.now) first run.new []) }

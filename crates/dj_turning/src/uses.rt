@@ -18,15 +18,15 @@ use dj_acting::{ClassUse, FieldUse, class_use, field_use};
 use dj_activations::instr_of;
 use dj_image::{FieldId, Image, MethodId, Operand};
 use dj_invoking::{Mode, call_at};
-use dj_names::NoMemory;
 use dj_ops::Instr;
+use std::alloc::AllocError;
 
 /// The class that the instruction of a number uses, which is initialised before it (JVMS 5.5); none where it uses none.
 pub(crate) fn used_class(
     image: &Image,
     method: MethodId,
     number: u32,
-) -> Result<Option<u32>, NoMemory>
+) -> Result<Option<u32>, AllocError>
     requires sound { IsSound (program_of image.now) image.now.prefix }
     requires there { method.number < length (all_methods (program_of image.now)) }
     requires stands { HasInstruction image.now method.number number }
@@ -56,7 +56,7 @@ fn called_class(image: &Image, mode: Mode, method: MethodId) -> Option<u32>
 }
 
 // The class that an instruction uses, which is no call, by its operand.
-fn operand_class(image: &Image, method: MethodId, number: u32) -> Result<Option<u32>, NoMemory>
+fn operand_class(image: &Image, method: MethodId, number: u32) -> Result<Option<u32>, AllocError>
     requires sound { IsSound (program_of image.now) image.now.prefix }
     requires there { method.number < length (all_methods (program_of image.now)) }
     requires stands { HasInstruction image.now method.number number }
@@ -72,7 +72,11 @@ fn operand_class(image: &Image, method: MethodId, number: u32) -> Result<Option<
 
 // The class that an instruction with this operand uses. There is no memory for the call of a method that isn't there; no sound program has one.
 
-fn class_of_operand(image: &Image, instr: &Instr, operand: Operand) -> Result<Option<u32>, NoMemory>
+fn class_of_operand(
+    image: &Image,
+    instr: &Instr,
+    operand: Operand,
+) -> Result<Option<u32>, AllocError>
     requires { (named : Named) × IsOperandNamed image.now instr.now operand named }
     ensures used { (named : Named) → IsOperandNamed image.now instr.now operand named → IfOk result (IsUsed image.now (instruction_of instr.now named)) }
     ensures frugal { is_given operand ≡ true → IfErr result (λ _. ⊥) }
@@ -84,8 +88,8 @@ fn class_of_operand(image: &Image, instr: &Instr, operand: Operand) -> Result<Op
         Operand::Int(_) => Ok(None),
         Operand::Long(_) => Ok(None),
         Operand::Text(_) => Ok(None),
-        Operand::Method(_) => Err(NoMemory::Memory),
-        Operand::Unresolved => Err(NoMemory::Memory),
+        Operand::Method(_) => Err(AllocError),
+        Operand::Unresolved => Err(AllocError),
     }
 }
 

@@ -8,8 +8,8 @@ use crate::error::TypesError;
 use crate::shapes::{ElementType, Shape};
 use dj_classes::ClassTable;
 use dj_declared::spell_type;
-use dj_names::{Base, Name, NoMemory, Of, Ty};
-use std::alloc::Global;
+use dj_names::{Base, Name, Of, Ty};
+use std::alloc::{AllocError, Global};
 
 const BASES: [Base; 8] = [
     Base::Boolean,
@@ -90,14 +90,14 @@ pub fn text_in(wholes: &[Name], shape: Shape) -> &[u8]
 }
 
 #[tactic(auto, unfolding(crate::specs::Kept::whole_text))]
-fn whole_text(alloc: Global, of: Of) -> Result<Name, NoMemory>
+fn whole_text(alloc: Global, of: Of) -> Result<Name, AllocError>
     ensures { IfOk result (λ text. text ≡ whole_text of) }
 {
     spell_type(alloc, &Ty { dims: 255, of })
 }
 
 // The descriptors of base types under the most dimensions.
-fn base_wholes(alloc: Global) -> Result<Vec<Name>, NoMemory>
+fn base_wholes(alloc: Global) -> Result<Vec<Name>, AllocError>
     ensures { IfOk result (λ wholes. wholes.items ≡ map whole_of_base all_bases) }
 {
     let mut wholes = Vec::new(alloc);
@@ -108,7 +108,7 @@ fn base_wholes(alloc: Global) -> Result<Vec<Name>, NoMemory>
 }
 
 // Appends those of classes.
-fn add_wholes(alloc: Global, wholes: &mut Vec<Name>, table: &ClassTable) -> Result<(), NoMemory>
+fn add_wholes(alloc: Global, wholes: &mut Vec<Name>, table: &ClassTable) -> Result<(), AllocError>
     ensures { OnOk result (wholes.new.items ≡ wholes.old.items ++ map whole_of_class table.now) }
 {
     for class in 0..table.class_count() {
@@ -118,7 +118,7 @@ fn add_wholes(alloc: Global, wholes: &mut Vec<Name>, table: &ClassTable) -> Resu
     Ok(())
 }
 
-fn wholes_of(alloc: Global, table: &ClassTable) -> Result<Vec<Name>, NoMemory>
+fn wholes_of(alloc: Global, table: &ClassTable) -> Result<Vec<Name>, AllocError>
     ensures { IfOk result (λ wholes. wholes.items ≡ wholes_of table.now) }
 {
     let mut wholes = base_wholes(alloc)?;
@@ -187,7 +187,7 @@ fn components_of(
     table: &ClassTable,
     wholes: &[Name],
     shapes: &[Shape],
-) -> Result<Vec<Option<u32>>, NoMemory>
+) -> Result<Vec<Option<u32>>, AllocError>
     requires spelled { wholes.now ≡ wholes_of table.now }
     requires arrays { AreArrays table.now (map (shape_type table.now) shapes.now) }
     requires elements { AreElements table.now shapes.now }
@@ -203,7 +203,7 @@ fn components_of(
 
 impl Arrays {
     /// What is kept of these.
-    pub fn of(alloc: Global, table: &ClassTable, shapes: Vec<Shape>) -> Result<Arrays, NoMemory>
+    pub fn of(alloc: Global, table: &ClassTable, shapes: Vec<Shape>) -> Result<Arrays, AllocError>
         requires arrays { AreArrays table.now (map (shape_type table.now) shapes.items) }
         requires elements { AreElements table.now shapes.items }
         requires few { length table.now + length shapes.items < 2 ^ 32 }

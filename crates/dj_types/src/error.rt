@@ -1,6 +1,5 @@
 ghost use Rattle.std.specs.Prelude.{◌≡◌};
 
-use dj_names::NoMemory;
 use std::alloc::{AllocError, AllocFailed};
 use thiserror::Error;
 
@@ -10,16 +9,6 @@ pub enum TypesError {
     /// There was no memory.
     #[error("out of memory")]
     Memory,
-}
-
-impl From<NoMemory> for TypesError {
-    ghost use Rattle.dj_types.specs.declared.error.TypesError.TheVariants.{Memory};
-
-    ghost from_gives = { λ _ e. e ≡ Memory };
-
-    fn from(_error: NoMemory) -> TypesError {
-        TypesError::Memory
-    }
 }
 
 impl From<AllocError> for TypesError {

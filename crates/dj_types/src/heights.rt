@@ -94,7 +94,7 @@ fn unknown_from(
     Ok(path)
 }
 
-// The classes are known too, each after those that stand behind it.
+// The heights of the classes of a path become known, the last class first.
 fn learn_all(
     heights: &mut [Option<Height>],
     table: &ClassTable,

@@ -65,7 +65,7 @@ fn is_above_arrays(base: BaseNames, name: &[u8]) -> bool
     }
 }
 
-// Whether arrays can be elements of arrays of these elements.
+// Whether an array with elements of this type takes arrays as elements.
 fn takes_arrays(linker: &Linker, of: ElementType) -> bool
     requires { IsElement linker.now.program of }
     ensures { result ≡ takes_arrays linker.now.prefix (element_of linker.now.program of) }

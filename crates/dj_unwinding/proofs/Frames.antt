@@ -13,7 +13,7 @@ use Rattle.dj_model.specs.trusted.Program.{Program, Class, Range, code_of, is_in
 use Rattle.dj_model.specs.trusted.Linking.{option_list, member_class}
 use Rattle.dj_model.specs.trusted.State.{Frame, State}
 use Rattle.dj_model.specs.Sound.{IsSound}
-use Rattle.dj_model.specs.trusted.Step.{Answer, Went, catches, handler_in, handler_of, caught, ends_with, leaves_frame, at_handler, unwound, message_of, resumed}
+use Rattle.dj_model.specs.trusted.Step.{StepAnswer, Went, catches, handler_in, handler_of, caught, ends_with, leaves_frame, at_handler, unwound, message_of, resumed}
 use Rattle.dj_model.proofs.SoundLinks.{here, later}
 use Rattle.dj_stack.specs.Frames.{StackFrame, SameFrames, SameButNumber, SameButOperands, below_top, top_method, top_number, top_locals, top_operands, top_room}
 use Rattle.dj_classes.specs.Tables.{name_of}
@@ -113,7 +113,7 @@ caught_seen program f below (g ∷ rest) exception handler same number locals op
     } ∷ frames_seen program (sym same.below i)
 
 module _ (imaged : Imaged) (class : Ty) (exception : ℕ) where
-  abbrev Below : State → List StackFrame → Answer
+  abbrev Below : State → List StackFrame → StepAnswer
   Below s below = frames_unwound imaged s class exception below
 
   -- the top frame first

@@ -10,7 +10,7 @@ use Rattle.dj_names.specs.declared.run.Outcome.TheVariants as outcomes
 use Rattle.dj_names.specs.trusted.Heaps.{Object, Array, Heap, object_at}
 use Rattle.dj_heap.specs.Heaps.{LimitedHeap, object_in, elements_of}
 
--- an array of bytes, with bytes without signs
+-- the outcome of a returned array: its bytes without their signs where it is one of bytes, else LINK
 abbrev pub array_outcome : Element → List ℤ → Outcome
 array_outcome elements.Byte contents = outcomes.OkBytes (map (cast_unsigned w8) contents)
 array_outcome element contents = outcomes.Link

@@ -7,7 +7,7 @@ use Rattle.dj_model.specs.trusted.Types.{Prefix}
 use Rattle.dj_model.specs.trusted.Program.{Program, Code, Range, code_of}
 use Rattle.dj_model.specs.trusted.Linking.{member_class}
 use Rattle.dj_model.specs.trusted.State.{State}
-use Rattle.dj_model.specs.trusted.Step.{Answer, Went, catches, ends_with, message_of, unwound}
+use Rattle.dj_model.specs.trusted.Step.{StepAnswer, Went, catches, ends_with, message_of, unwound}
 use Rattle.dj_stack.specs.Frames.{StackFrame}
 use Rattle.dj_classes.specs.Tables.{name_at}
 use Rattle.dj_types.specs.Typed.{Typed, types_of, type_at}
@@ -44,14 +44,14 @@ class_name_at program class = unwrap_or (name_at program class) []
 -- ---- where the exception went
 
 -- the run goes on at a handler with these frames, or it ends as the exception left an initialiser or the last frame
-abbrev pub unwound_reported : Imaged → State → Ty → ℕ → List StackFrame → Unwound → Answer
+abbrev pub unwound_reported : Imaged → State → Ty → ℕ → List StackFrame → Unwound → StepAnswer
 unwound_reported imaged s class exception frames unwinds.Caught = Went (record s { frames = frames_seen (program_of imaged) frames })
 unwound_reported imaged s class exception frames (unwinds.Init left) =
     ends_with imaged.prefix s class (outcomes.Init (class_name_at (program_of imaged) left) (member_class imaged.prefix class) (message_of s.heap exception))
 unwound_reported imaged s class exception frames unwinds.Threw = ends_with imaged.prefix s class (outcomes.Threw (member_class imaged.prefix class) (message_of s.heap exception))
 
 -- what the model answers where the exception leaves these frames
-abbrev pub frames_unwound : Imaged → State → Ty → ℕ → List StackFrame → Answer
+abbrev pub frames_unwound : Imaged → State → Ty → ℕ → List StackFrame → StepAnswer
 frames_unwound imaged s class exception frames = unwound (program_of imaged) imaged.prefix s class exception (frames_seen (program_of imaged) frames)
 
 -- in each state

@@ -7,19 +7,23 @@ ghost use Rattle.dj_model.specs.trusted.Step as model;
 ghost use Rattle.dj_unwinding.specs.Results.{HasElements, array_outcome, contents_at, reference_outcome, value_outcome};
 
 use dj_heap::{Heap, Made};
-use dj_names::{Bytes, Element, NoMemory, Outcome, Value};
-use std::alloc::Global;
+use dj_names::{Bytes, Element, Outcome, Value};
+use std::alloc::{AllocError, Global};
 
 /// How a run ends with the last return, by what is returned: null, an array of bytes, or anything else.
 #[tactic(auto, using(crate::proofs::Outcomes::outcome_reported))]
-pub fn result_outcome(alloc: Global, heap: &Heap, value: Option<Value>) -> Result<Outcome, NoMemory>
+pub fn result_outcome(
+    alloc: Global,
+    heap: &Heap,
+    value: Option<Value>,
+) -> Result<Outcome, AllocError>
     ensures { (type_of : ℕ → Ty) → IfOk result (λ outcome. outcome ≡ model.result_outcome (heap_map type_of heap.now.heap) value) }
 {
     value_outcome(alloc, heap, value)
 }
 
 // The same, by the numbers of classes.
-fn value_outcome(alloc: Global, heap: &Heap, value: Option<Value>) -> Result<Outcome, NoMemory>
+fn value_outcome(alloc: Global, heap: &Heap, value: Option<Value>) -> Result<Outcome, AllocError>
     ensures { IfOk result (λ outcome. outcome ≡ value_outcome heap.now.heap value) }
 {
     match value {
@@ -31,7 +35,7 @@ fn value_outcome(alloc: Global, heap: &Heap, value: Option<Value>) -> Result<Out
 }
 
 #[tactic(auto, using(crate::proofs::Outcomes::object_there, crate::proofs::Outcomes::null_outcome, crate::proofs::Outcomes::no_object, crate::proofs::Outcomes::instance_outcome, crate::proofs::Outcomes::text_outcome, crate::proofs::Outcomes::elements_there, crate::proofs::Outcomes::outcome_of_array))]
-fn reference_outcome(alloc: Global, heap: &Heap, r: u32) -> Result<Outcome, NoMemory>
+fn reference_outcome(alloc: Global, heap: &Heap, r: u32) -> Result<Outcome, AllocError>
     ensures { IfOk result (λ outcome. outcome ≡ reference_outcome heap.now.heap r) }
 {
     if r == 0 {
@@ -48,7 +52,12 @@ fn reference_outcome(alloc: Global, heap: &Heap, r: u32) -> Result<Outcome, NoMe
 }
 
 // The outcome where an array of such elements is returned.
-fn array_outcome(alloc: Global, heap: &Heap, r: u32, element: Element) -> Result<Outcome, NoMemory>
+fn array_outcome(
+    alloc: Global,
+    heap: &Heap,
+    r: u32,
+    element: Element,
+) -> Result<Outcome, AllocError>
     requires { HasElements heap.now r element }
     ensures { IfOk result (λ outcome. outcome ≡ array_outcome element (contents_at heap.now r)) }
 {
@@ -65,7 +74,7 @@ fn array_outcome(alloc: Global, heap: &Heap, r: u32, element: Element) -> Result
 
 // The elements of an array of bytes, without their sign.
 #[tactic(auto, using(crate::proofs::Outcomes::length_reported))]
-fn bytes_at(alloc: Global, heap: &Heap, r: u32) -> Result<Bytes, NoMemory>
+fn bytes_at(alloc: Global, heap: &Heap, r: u32) -> Result<Bytes, AllocError>
     requires { HasElements heap.now r elements.Byte }
     ensures { IfOk result (λ bytes. bytes ≡ map (cast_unsigned w8) (contents_at heap.now r)) }
 {

@@ -7,8 +7,9 @@ ghost use Rattle.dj_unwinding.specs.Short.{HasNumberBelow};
 use crate::top::{resume, top_method};
 use dj_activations::is_initialiser;
 use dj_image::{Image, MethodId};
-use dj_names::{NoMemory, Value};
+use dj_names::Value;
 use dj_stack::Frames;
+use std::alloc::AllocError;
 
 /// How the run goes on where a method returns.
 #[derive(Clone, Copy, Debug, PartialEq, Eq)]
@@ -26,7 +27,7 @@ pub fn go_back(
     image: &Image,
     frames: &mut Frames,
     value: Option<Value>,
-) -> Result<Returned, NoMemory>
+) -> Result<Returned, AllocError>
     requires stand { AreActivations image.now frames.old }
     requires some { 0 < length frames.old }
     requires room { HasRoomBelow (program_of image.now) frames.old value }

@@ -14,8 +14,8 @@ ghost use Rattle.dj_unwinding.specs.Unwinding.{IsClassNumber, is_handling, range
 use dj_activations::code_of;
 use dj_image::{Image, MethodCode, MethodId};
 use dj_labels::Protected;
-use dj_names::NoMemory;
 use dj_natives::Classes;
+use std::alloc::AllocError;
 
 /// The handler of the first row of a method that covers the instruction and catches the class.
 #[tactic(auto, using(crate::proofs::Catching::handler_by_ranges, crate::proofs::Catching::no_code_handles))]
@@ -24,7 +24,7 @@ pub(crate) fn handler_of(
     method: MethodId,
     number: u32,
     class: u32,
-) -> Result<Option<u32>, NoMemory>
+) -> Result<Option<u32>, AllocError>
     requires sound { IsSound (program_of image.now) image.now.prefix }
     requires there { method.number < length (all_methods (program_of image.now)) }
     requires class { IsClassNumber (typed_of image.now) class }
@@ -44,7 +44,7 @@ fn handler_in(
     code: &MethodCode,
     number: u32,
     class: u32,
-) -> Result<Option<u32>, NoMemory>
+) -> Result<Option<u32>, AllocError>
     requires sound { IsSound (program_of image.now) image.now.prefix }
     requires there { method.number < length (all_methods (program_of image.now)) }
     requires reported { IsCodeOf image.now method.number code.now }
@@ -69,7 +69,7 @@ fn handles(
     at: usize,
     number: u32,
     class: u32,
-) -> Result<bool, NoMemory>
+) -> Result<bool, AllocError>
     requires sound { IsSound (program_of image.now) image.now.prefix }
     requires there { method.number < length (all_methods (program_of image.now)) }
     requires row { IsRowOf image.now method.number at row.now }
@@ -85,7 +85,7 @@ fn handles(
         return Ok(true);
     }
     let Ok(at) = u32::try_from(at) else {
-        return Err(NoMemory::Memory);
+        return Err(AllocError);
     };
     Ok(is_caught(image, method, at, class))
 }

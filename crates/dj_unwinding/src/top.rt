@@ -2,8 +2,9 @@ ghost use Rattle.std.specs.Prelude.{◌≡◌, ◌<◌, ◌+◌, ◌^◌, length
 ghost use Rattle.dj_stack.specs.Frames as tops;
 ghost use Rattle.dj_unwinding.specs.Resuming.{HasRoom, Resumes};
 
-use dj_names::{NoMemory, Value};
+use dj_names::Value;
 use dj_stack::Frames;
+use std::alloc::AllocError;
 
 /// The method of the top frame.
 #[tactic(auto, using(crate::proofs::Tops::top_there, crate::proofs::Tops::method_on_top))]
@@ -25,14 +26,14 @@ pub(crate) fn top_number(frames: &Frames) -> u32
 
 /// The instruction of the top frame is done, and its result pushed where there is one. There is no memory for the number after the greatest.
 #[tactic(auto, using(crate::proofs::Tops::resumed_with, crate::proofs::Tops::resumed_without, crate::proofs::Tops::room_left))]
-pub(crate) fn resume(frames: &mut Frames, given: Option<Value>) -> Result<(), NoMemory>
+pub(crate) fn resume(frames: &mut Frames, given: Option<Value>) -> Result<(), AllocError>
     requires some { 0 < length frames.old }
     requires room { HasRoom frames.old given }
     ensures resumes { OnOk result (Resumes frames.old frames.new given) }
     ensures frugal { tops.top_number frames.old + 1 < 2 ^ 32 → IfErr result (λ _. ⊥) }
 {
     let Some(next) = top_number(frames).checked_add(1) else {
-        return Err(NoMemory::Memory);
+        return Err(AllocError);
     };
     frames.set_number(next);
     if let Some(value) = given {

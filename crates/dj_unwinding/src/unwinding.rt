@@ -11,8 +11,9 @@ use crate::rows::handler_of;
 use crate::top::{top_method, top_number};
 use dj_activations::initialised_by;
 use dj_image::{Image, MethodId};
-use dj_names::{NoMemory, Value};
+use dj_names::Value;
 use dj_stack::Frames;
+use std::alloc::AllocError;
 
 /// Where an exception went.
 #[derive(Clone, Copy, Debug, PartialEq, Eq)]
@@ -31,7 +32,7 @@ pub fn unwind(
     frames: &mut Frames,
     class: u32,
     exception: u32,
-) -> Result<Unwound, NoMemory>
+) -> Result<Unwound, AllocError>
     requires sound { IsSound (program_of image.now) image.now.prefix }
     requires stand { AreActivations image.now frames.old }
     requires class { IsClassNumber (typed_of image.now) class }
@@ -55,7 +56,7 @@ fn pass(
     frames: &mut Frames,
     class: u32,
     exception: u32,
-) -> Result<Option<Unwound>, NoMemory>
+) -> Result<Option<Unwound>, AllocError>
     requires sound { IsSound (program_of image.now) image.now.prefix }
     requires stand { AreActivations image.now frames.old }
     requires class { IsClassNumber (typed_of image.now) class }

@@ -17,11 +17,11 @@ settings a = on_top (λ s. record s { no_binary_name = true; disable_help_flag =
 abbrev pub plain_app : App
 plain_app = with_rule (with_rule (settings (new_app (codes "djvm"))) (new_rule (codes "command"))) (record (new_rule (codes "words")) { action = Some Append })
 
-abbrev pub with_option : App → Text → App
-with_option a name = with_rule a (option_rule name)
+abbrev pub app_with_option : App → Text → App
+app_with_option a name = with_rule a (option_rule name)
 
 abbrev pub app : App
-app = with_option (with_option (with_option (with_option (with_option plain_app (codes "alloc")) (codes "invoke")) (codes "jump")) (codes "throw")) (codes "steps")
+app = app_with_option (app_with_option (app_with_option (app_with_option (app_with_option plain_app (codes "alloc")) (codes "invoke")) (codes "jump")) (codes "throw")) (codes "steps")
 
 -- ---- the job of what clap found
 

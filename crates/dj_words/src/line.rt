@@ -4,18 +4,18 @@ ghost use Rattle.std.specs.Prelude.{◌≡◌, [], IfOk, MatchOption, map, strin
 ghost use Rattle.clap.specs.Words.{app_of, matches_of, fault_of, found_of, rows_of};
 ghost use Rattle.std.specs.Prelude.{◌≢◌};
 ghost use Rattle.clap.specs.Words.{new_app};
-ghost use Rattle.dj_words.specs.WordsApp.{app, plain_app, with_option, option_rule, settings};
+ghost use Rattle.dj_words.specs.WordsApp.{app, plain_app, app_with_option, option_rule, settings};
 
 use clap::error::ErrorKind;
 use clap::{Arg, ArgAction, ArgMatches, Command};
 use std::alloc::{AllocError, Global};
 
-fn with_option<'a>(
+fn app_with_option<'a>(
     alloc: Global,
     command: Command<'a>,
     name: &'a str,
 ) -> Result<Command<'a>, AllocError>
-    ensures { IfOk result (λ r. app_of r ≡ with_option (app_of command.entry) name.entry.now) }
+    ensures { IfOk result (λ r. app_of r ≡ app_with_option (app_of command.entry) name.entry.now) }
 {
     command.arg(Arg::new(alloc, name).long(name))
 }
@@ -41,11 +41,11 @@ fn command<'a>(alloc: Global) -> Result<Command<'a>, AllocError>
     ensures { IfOk result (λ r. app_of r ≡ app) }
 {
     let command = plain_words(alloc)?;
-    let command = with_option(alloc, command, "alloc")?;
-    let command = with_option(alloc, command, "invoke")?;
-    let command = with_option(alloc, command, "jump")?;
-    let command = with_option(alloc, command, "throw")?;
-    with_option(alloc, command, "steps")
+    let command = app_with_option(alloc, command, "alloc")?;
+    let command = app_with_option(alloc, command, "invoke")?;
+    let command = app_with_option(alloc, command, "jump")?;
+    let command = app_with_option(alloc, command, "throw")?;
+    app_with_option(alloc, command, "steps")
 }
 
 /// The matches of the words, or none where they are refused.

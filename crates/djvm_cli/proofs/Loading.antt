@@ -1,5 +1,5 @@
 -- Listing and reading: what is listed where a store's contents are known, and a step of the reading loop.
-use Rattle.std.proofs.Common.{◌≡◌, ℕ, ◌+◌, ◌<◌, ◌≤◌, false, List, [], ◌∷◌, ◌++◌, length, take, drop, map, get_or, All, IsTrue, Option, Some, None, IfSome, string_bytes, unwrap_or, sym, ap, ◌∙◌, subst, take-append-drop, arith}
+use Rattle.std.proofs.Common.{◌≡◌, ℕ, ◌+◌, ◌<◌, ◌≤◌, false, List, [], ◌∷◌, ◌++◌, length, take, drop, map, get_or, All, IsTrue, Option, Some, None, IfSome, string_bytes, unwrap_or, refl, Err, sym, ap, ◌∙◌, subst, take-append-drop, arith}
 use Rattle.std.specs.declared.string.String.{String}
 use Rattle.std.specs.List.Sorted.{IsPermutation, IsSorted}
 use Rattle.std.specs.Ordering.{nat_cmp, is_lt}
@@ -13,7 +13,9 @@ use Rattle.std.proofs.lemmas.List.Sums.{sum_by-append}
 use Rattle.std.proofs.lemmas.List.Sorted.{All-permutation, length_permutation, ranks_by, IsPermutation-map}
 use Rattle.dj_edge.specs.trusted.Held.{File, Held, class_files, is_class_path, bytes_at}
 use Rattle.dj_edge.specs.trusted.Counts.{AllDiffer, GrowsByPrefix, IsPrefix}
-use Rattle.dj_edge.specs.trusted.Calls.{IsListing}
+use Rattle.dj_edge.specs.trusted.Calls.{IsListing, ListCounts}
+use Rattle.dj_edge.specs.declared.files.ListError.{ListError}
+use Rattle.dj_edge.specs.declared.files.ListError.TheVariants as list_errors
 use Rattle.dj_edge.proofs.Growth.{GrowsByPrefix-after, GrowsByPrefix-within, IsPrefix-more, grown_more}
 use Rattle.dj_edge.proofs.Listings.{sorted_listing}
 use Rattle.dj_edge.proofs.Pairs.{AllPairs-map}
@@ -21,13 +23,15 @@ use Rattle.dj_edge.proofs.Sorting.{pairs_from_sorted}
 use Rattle.dj_report.specs.declared.report.Limit.{Limit}
 use Rattle.dj_report.specs.declared.report.Limit.TheVariants as limits
 use Rattle.djvm_cli.specs.declared.load.SourceFile.{SourceFile}
+use Rattle.djvm_cli.specs.declared.load.Stop.{Stop}
+use Rattle.djvm_cli.specs.declared.load.Stop.TheVariants as stops
 use Rattle.djvm_cli.specs.declared.load.NextFile.{NextFile}
 use Rattle.djvm_cli.specs.declared.load.NextFile.TheVariants as next_files
 use Rattle.djvm_cli.specs.declared.load.Loaded.TheVariants as loads
 use Rattle.dj_sandbox.specs.ClassSets.{TextsRise}
 use Rattle.dj_sandbox.specs.trusted.Limits.{most_file_bytes, most_total_bytes, total_bytes, AreWithin}
 use Rattle.dj_sandbox.proofs.ByPath.{texts_rise}
-use Rattle.djvm_cli.specs.Steps.{files_at, IsLoaded}
+use Rattle.djvm_cli.specs.Steps.{files_at, Counted, IsLoaded}
 use Rattle.djvm_cli.specs.Next.{IsNextRead, IsNext}
 use Rattle.djvm_cli.specs.Views.{source_view}
 use Rattle.dj_edge.proofs.Lists.{both_reported, All-unmap, mapped_at, mapped_more}
@@ -68,6 +72,12 @@ listed_all {Z} (Some h) folder found paths listing few moved sorted =
     let size : length texts ≡ length found = length-map found string_bytes in
     let short : length texts ≤ 4096 = omega arith in
     sorted_listing folder h 4097 found paths listing (few_in folder h texts listing short) moved sorted
+
+-- the store failed where a failed listing stops the step
+pub listing_stopped : (before now : ℕ) (error : ListError) (stop : Stop) → (stop ≡ stops.Fault → error ≡ list_errors.Failed) → before ≤ now
+    → ListCounts {T = ℕ} before now (Err error) → Counted {T = ℕ} before now (Err stop)
+listing_stopped before now error stops.Memory is falls counts = falls
+listing_stopped before now error stops.Fault is falls counts = subst (λ (e : ListError). ListCounts {T = ℕ} before now (Err e)) (is refl) counts
 
 -- a sort keeps what holds of each path
 pub moved_class_paths : {Z : Type 0} (folder : List ℕ) (found paths : List (String Z)) → All (λ path. IsTrue (is_class_path folder path)) (map string_bytes found)

@@ -15,7 +15,7 @@ use std::rt::Clock;
 use std::test::Fail;
 use std::time::Duration;
 
-/// Clocks that go on by so many nanoseconds whenever one of them is read.
+/// Clocks that go on by this many nanoseconds whenever one of them is read.
 #[derive(Drop)]
 pub struct Rising {
     nanos: Cell<u64>,
@@ -48,7 +48,7 @@ impl Clock for Rising {
     }
 }
 
-// A standard output that takes so many bytes at a write, and so many in all, and keeps them.
+// A standard output that takes this many bytes at a write, and this many in all, and keeps them.
 #[derive(Drop)]
 struct Narrow {
     at_once: usize,
@@ -128,7 +128,7 @@ fn are_same(some: &[u8], other: &[u8]) -> bool {
     some == other
 }
 
-// Whether the run under such clocks is reported so, through the adapters that the program has.
+// Whether the run under such clocks has this report, through the adapters that the program has.
 fn is_reported(alloc: Global, run: &Run) -> Result<bool, AllocError> {
     let held = held(alloc)?;
     if !paths_differ(&held) {

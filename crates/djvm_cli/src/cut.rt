@@ -8,15 +8,15 @@ ghost use Rattle.djvm_cli.specs.Views.{source_view};
 ghost use Rattle.djvm_cli.specs.declared.load.Stop.TheVariants.{Memory};
 
 use crate::load::{SourceFile, Stop};
-use dj_sandbox::{ClassSet, SandboxError};
-use std::alloc::Global;
+use dj_sandbox::ClassSet;
+use std::alloc::{AllocError, Global};
 
 /// The file under its path within the folder. Its bytes aren't copied.
 fn cut_folder(
     alloc: Global,
     folder: &str,
     file: SourceFile,
-) -> Result<(String, Vec<u8>), SandboxError>
+) -> Result<(String, Vec<u8>), AllocError>
     requires { IsTrue (is_class_path folder.now (string_bytes file.path)) }
     ensures { IfOk result (λ within. file_in within ≡ within_folder folder.now (source_view file)) }
 {
@@ -30,7 +30,7 @@ fn cut_folders(
     alloc: Global,
     folder: &str,
     files: Vec<SourceFile>,
-) -> Result<Vec<(String, Vec<u8>)>, SandboxError>
+) -> Result<Vec<(String, Vec<u8>)>, AllocError>
     requires { All (λ file. IsTrue (is_class_path folder.now (string_bytes file.path))) files.items }
     ensures { IfOk result (λ within. files_in within.items ≡ map (within_folder folder.now) (map source_view files.items)) }
 {

@@ -165,10 +165,9 @@ fn report_of<F: Files, H: Host, E: Engine>(
     ensures status { IfOk result (λ report. IsReportStatus (done_job_of (map string_bytes words.now)) (F.held files.old) (report_status report)) }
     ensures leaves { LeavesJob (done_job_of (map string_bytes words.now)) (F.held files.old) (H.given host.old) (H.given host.new) (E.runs engine.old) (E.runs engine.new) result }
 {
-    match command_of(alloc, words) {
-        Ok(Some(command)) => report_of_job(alloc, command, files, host, engine),
-        Ok(None) => Ok(Report::Usage),
-        Err(_) => Err(Stop::Memory),
+    match command_of(alloc, words)? {
+        Some(command) => report_of_job(alloc, command, files, host, engine),
+        None => Ok(Report::Usage),
     }
 }
 
@@ -180,9 +179,8 @@ fn write_report<S: Sink>(alloc: Global, report: &Report, sink: &mut S) -> u8
     ensures write_fault { result ≡ write_fault → Rose (S.faults sink.old) (S.faults sink.new) }
     ensures broken { WritesPrefix (S.written sink.old) (S.written sink.new) (report_text report.now) }
 {
-    let bytes = match bytes_of(alloc, report) {
-        Ok(bytes) => bytes,
-        Err(_) => return 67,
+    let Ok(bytes) = bytes_of(alloc, report) else {
+        return 67;
     };
     match put_all(sink, bytes.as_slice()) {
         Ok(()) => status_of(report),

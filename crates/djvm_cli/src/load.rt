@@ -13,10 +13,9 @@ ghost use Rattle.djvm_cli.specs.Next.{IsNextRead, IsNext};
 use dj_edge::{Files, ListError, ReadError};
 use dj_names::Name;
 use dj_report::Limit;
-use dj_rules::RulesError;
 use dj_sandbox::SandboxError;
 use dj_words::FolderCommand;
-use std::alloc::Global;
+use std::alloc::{AllocError, AllocFailed, Global};
 
 /// Why a job has no report.
 #[derive(Clone, Copy)]
@@ -27,13 +26,39 @@ pub enum Stop {
     Memory,
 }
 
-impl From<RulesError> for Stop {
+impl From<ListError> for Stop {
+    ghost use Rattle.std.specs.Prelude.{◌≡◌};
+    ghost use Rattle.dj_edge.specs.declared.files.ListError.TheVariants.{Failed};
+    ghost use Rattle.djvm_cli.specs.declared.load.Stop.TheVariants.{Fault};
+
+    ghost from_gives = { λ error stop. stop ≡ Fault → error ≡ Failed };
+
+    fn from(error: ListError) -> Stop {
+        match error {
+            ListError::Failed => Stop::Fault,
+            ListError::Memory => Stop::Memory,
+        }
+    }
+}
+
+impl From<AllocError> for Stop {
     ghost use Rattle.std.specs.Prelude.{◌≡◌};
     ghost use Rattle.djvm_cli.specs.declared.load.Stop.TheVariants.{Memory};
 
     ghost from_gives = { λ _ e. e ≡ Memory };
 
-    fn from(_error: RulesError) -> Stop {
+    fn from(_error: AllocError) -> Stop {
+        Stop::Memory
+    }
+}
+
+impl<T: Drop> From<AllocFailed<T>> for Stop {
+    ghost use Rattle.std.specs.Prelude.{◌≡◌};
+    ghost use Rattle.djvm_cli.specs.declared.load.Stop.TheVariants.{Memory};
+
+    ghost from_gives = { λ _ e. e ≡ Memory };
+
+    fn from(_error: AllocFailed<T>) -> Stop {
         Stop::Memory
     }
 }
@@ -113,18 +138,12 @@ pub fn list_paths<F: Files>(alloc: Global, files: &mut F, folder: &str) -> Resul
     ensures rise { IfOk result AreRising }
     ensures reported { IfSome (F.held files.old) (λ h. IfOk result (IsListed folder.now h)) }
 {
-    let mut paths = match files.list(alloc, folder, MOST_FILES + 1) {
-        Ok(paths) => paths,
-        Err(ListError::Failed) => return Err(Stop::Fault),
-        Err(ListError::Memory) => return Err(Stop::Memory),
-    };
+    let mut paths = files.list(alloc, folder, MOST_FILES + 1)?;
     if paths.len() > MOST_FILES as usize {
         return Ok(Listing::TooMany);
     }
-    match paths.sort() {
-        Ok(()) => Ok(Listing::Paths(paths)),
-        Err(_) => Err(Stop::Memory),
-    }
+    paths.sort()?;
+    Ok(Listing::Paths(paths))
 }
 
 /// The answer that there is no file of this path.
@@ -132,10 +151,7 @@ fn absent(alloc: Global, path: &str) -> Result<Input, Stop>
     ensures absent { IfOk result (λ input. input ≡ Absent path.now) }
     ensures no_fault { IfErr result (λ stop. stop ≡ Memory) }
 {
-    match Name::from_slice(alloc, path.as_bytes()) {
-        Ok(path) => Ok(Input::Absent(path)),
-        Err(_) => Err(Stop::Memory),
-    }
+    Ok(Input::Absent(Name::from_slice(alloc, path.as_bytes())?))
 }
 
 /// Reads the file of the path, which may have at most `most` bytes.
@@ -210,10 +226,8 @@ fn read_next<F: Files>(
     if bytes.as_slice().len() as u64 > MOST_TOTAL_BYTES - total {
         return Ok(NextFile::Passed(Limit::Total));
     }
-    match String::from_str(alloc, path) {
-        Ok(path) => Ok(NextFile::Read(SourceFile { path, bytes })),
-        Err(_) => Err(Stop::Memory),
-    }
+    let path = String::from_str(alloc, path)?;
+    Ok(NextFile::Read(SourceFile { path, bytes }))
 }
 
 /// Reads the files of these paths in their order, until a limit is passed.
@@ -232,10 +246,7 @@ pub fn read_files<F: Files>(alloc: Global, files: &mut F, paths: &[String]) -> R
             NextFile::Passed(limit) => return Ok(Loaded::Passed(limit)),
             NextFile::Read(file) => {
                 total += file.bytes.as_slice().len() as u64;
-                match read.push(file) {
-                    Ok(()) => {}
-                    Err(_) => return Err(Stop::Memory),
-                }
+                read.push(file)?;
             }
         }
     }

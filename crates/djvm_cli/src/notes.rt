@@ -162,7 +162,9 @@ impl<R: Eprint + Drop> Notes<R> {
                 }
             }
             // A walk ends with 65 where a folder is too deep or an entry too many, though no call of the system failed.
-            65 => self.say_folder(&"it has a folder of level 65 or the 1048577th entry"),
+            65 => self.say_folder(
+                &"it has a folder at level 65, or there are more than 1048576 entries",
+            ),
             66 => self.say_output(&"it takes no more bytes"),
             67 => self.say("there was not enough memory"),
             _ => {}

@@ -61,11 +61,6 @@ fn list_error(error: io::Error) -> ListError
     }
 }
 
-/// A copy of the path.
-fn owned(alloc: Global, path: &str) -> Result<String, ListError> {
-    String::from_str(alloc, path).map_err(|_| ListError::Memory)
-}
-
 /// The entry at the path.
 fn entry_at<R: System>(rt: &R, alloc: Global, path: &str) -> io::Result<FolderEntry> {
     let path = String::from_str(alloc, path)?;
@@ -86,7 +81,7 @@ impl<R: System + Eprint + AllocGlobal + Clone + Drop> Folders for SystemFiles<R>
     ghost left = { λ _. None };
 
     fn open(&mut self, folder: &str) -> Result<(), ListError> {
-        let path = owned(self.rt.alloc(), folder)?;
+        let path = String::from_str(self.rt.alloc(), folder)?;
         match fs::read_dir(&self.rt, folder) {
             Ok(open) => {
                 self.notes.see_folder(path);

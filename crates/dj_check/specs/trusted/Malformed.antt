@@ -70,7 +70,7 @@ FitsField (Double bits) text = text ≡ codes "D"
 FitsField (Text index) text = text ≡ codes "Ljava/lang/String;"
 FitsField _ text = ⊥
 
--- JVMS 4.7.2: the constant at the index fits a field whose descriptor is the text at desc
+-- JVMS 4.7.2: the constant at the index fits a field whose descriptor is the text at the index `desc`
 pub record NamesValue (pool : List Constant) (desc index : ℕ) : Type 0 where
   pub constant : Constant
   pub found : constant_at pool index ≡ Some constant

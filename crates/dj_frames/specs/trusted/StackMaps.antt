@@ -77,7 +77,7 @@ IsHead delta form head =
 
 -- ---- frames
 
--- a frame, where least is the least address that it can have
+-- a frame, where `least` is the least address that it can have
 pub record SpellsFrame (starts : List ℕ) (least : ℕ) (frame : Frame) (text : List ℕ) : Type 0 where
   pub number : frame.at < length starts
   pub delta : ℕ

@@ -24,7 +24,7 @@ head_bytes delta form = head_with delta form (short_tag delta form)
 abbrev pub frame_bytes : (starts : List ℕ) → ℕ → Frame → List ℕ
 frame_bytes starts delta frame = head_bytes delta frame.form ++ form_bytes starts frame.form
 
--- frames, where least is the least address that the first can have
+-- frames, where `least` is the least address that the first can have
 unfoldable pub frames_bytes : (starts : List ℕ) → ℕ → List Frame → List ℕ
 frames_bytes starts least [] = []
 frames_bytes starts least (frame ∷ frames) =

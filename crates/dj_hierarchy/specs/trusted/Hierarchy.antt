@@ -14,7 +14,7 @@ IsInterface head = IsBitSet head.flags access.interface
 
 -- ---- classes by their names
 
--- a class of this name is such
+-- a class of this name meets the condition
 abbrev pub HasSuch : (Head → Type 0) → (Head → Type 0) → List ℕ → Type 0
 HasSuch IsThere IsSuch name = (head : Head) × IsThere head × (head.name ≡ name) × IsSuch head
 

@@ -31,7 +31,7 @@ abbrev pub LinkViolates : Program → Name → List Constant → Instr → ℕ �
 LinkViolates program own pool instr rule =
     IsUnreported pool instr × IsFirstOf (IsForeign program pool instr) (IsUnlinked program own pool instr) rule
 
--- rule 17 or 18, for the instruction of this number in a method of the class own
+-- rule 17 or 18, for the instruction of this number in a method of the class `own`
 pub record LinkViolatesAt (program : Program) (own : Name) (pool : List Constant) (labelled : Labelled) (number rule : ℕ) : Type 0 where
   pub instr : Instr
   pub stands : slice_get labelled.code number ≡ Some instr

@@ -104,7 +104,7 @@ IsInitialiser m = m.name ≡ initialiser_name
 abbrev pub is_own_or_above : Program → Name → Ty → Bool
 is_own_or_above program own ty = nat_eq ty.dims 0 && is_among (chain program own) (class_of_type ty)
 
--- invokespecial, in a method of the class own: it names a method that is no constructor, of a class that is neither own nor one of its superclasses
+-- invokespecial, in a method of the class `own`: it names a method that is no constructor, of a class that is neither `own` nor one of its superclasses
 abbrev pub IsFarSpecial : Program → Name → Instr → Member → Type 0
 IsFarSpecial program own instr m =
     IsTrue (is_special instr) × (m.name ≢ constructor_name) × IsFalse (is_own_or_above program own m.class)
@@ -147,7 +147,7 @@ IsUnlinkedType program instr k ty = HasWrongKind program k ty ⊎ IsTooDeep inst
 
 -- ---- the rule
 
--- rule 18, for the constant of an instruction in a method of the class own
+-- rule 18, for the constant of an instruction in a method of the class `own`
 abbrev pub IsUnlinkedConstant : Program → Name → Instr → List Constant → Constant → Type 0
 IsUnlinkedConstant program own instr pool k =
     NamesNoClass program pool k
@@ -155,7 +155,7 @@ IsUnlinkedConstant program own instr pool k =
     ⊎ (IsSomeAnd (named_member pool k) (IsUnlinkedMember program own instr k)
     ⊎ IsSomeAnd (named_type pool k) (IsUnlinkedType program instr k)))
 
--- rule 18, for an instruction in a method of the class own
+-- rule 18, for an instruction in a method of the class `own`
 abbrev pub IsUnlinked : Program → Name → List Constant → Instr → Type 0
 IsUnlinked program own pool instr =
     HasWrongTag pool instr

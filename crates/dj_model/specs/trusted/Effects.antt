@@ -30,7 +30,7 @@ heap_effect p e = record { part = record p { heap = e.heap; operands = e.operand
 abbrev pub new_object : Program → Prefix → Ty → Object Ty
 new_object program prefix class = Instance class (replicate (field_count program (member_class prefix class)) 0)
 
--- the effect, in a method of the class own. None where the instruction lacks the kinds that it takes, names a member that doesn't resolve, or isn't supported
+-- the effect, in a method of the class `own`. None where the instruction lacks the kinds that it takes, names a member that doesn't resolve, or isn't supported
 unfoldable pub effect : Program → Prefix → Terms → Name → Instruction → Part → Option Effect
 effect program prefix terms own (PushText units) p = Some (push_kept p units (with_literal terms.limit prefix p.heap p.literals units))
 effect program prefix terms own (LoadElement access) p = option_map (heap_effect p) (load_element access p.heap p.operands)

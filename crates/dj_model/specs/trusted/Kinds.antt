@@ -13,7 +13,7 @@ use Rattle.dj_ops.specs.declared.frames.Frame.{Frame}
 use Rattle.dj_model.specs.trusted.Instructions.{Instruction, makes_uninitialised}
 use Rattle.dj_model.specs.trusted.Program.{Code}
 use Rattle.dj_model.specs.trusted.Numbers.{is_wide}
-use Rattle.dj_model.specs.trusted.Members.{kinds_of}
+use Rattle.dj_model.specs.trusted.Members.{kinds_of, with_kind}
 use Rattle.dj_model.specs.trusted.Initialisation.{padded}
 
 -- ---- descriptors
@@ -27,15 +27,15 @@ abbrev pub signature_with : Option Kind → Option (List Kind) → Option Signat
 signature_with result None = None
 signature_with result (Some parameters) = Some (record { parameters = parameters; result = result })
 
-abbrev pub with_result : Option Kind → Option (List Kind) → Option Signature
-with_result None parameters = None
-with_result (Some kind) parameters = signature_with (Some kind) parameters
+abbrev pub signature_result : Option Kind → Option (List Kind) → Option Signature
+signature_result None parameters = None
+signature_result (Some kind) parameters = signature_with (Some kind) parameters
 
 -- the signature of a call without its receiver; none where a type is a float or a double
 abbrev pub call_signature : Desc → Option Signature
 call_signature (descs.Field ty) = None
 call_signature (descs.Method params None) = signature_with None (kinds_of params)
-call_signature (descs.Method params (Some ret)) = with_result (type_kind ret) (kinds_of params)
+call_signature (descs.Method params (Some ret)) = signature_result (type_kind ret) (kinds_of params)
 
 abbrev pub with_receiver : Bool → Option Signature → Option Signature
 with_receiver static None = None
@@ -100,10 +100,6 @@ abbrev pub entries_of : Code → List VType → Option (List (Option Kind))
 entries_of code [] = Some []
 entries_of code (type ∷ others) = with_entry (entry_of code type) (entries_of code others)
 
-abbrev pub with_kind : Option Kind → Option (List Kind) → Option (List Kind)
-with_kind (Some kind) (Some stack) = Some (kind ∷ stack)
-with_kind _ _ = None
-
 -- the operands, where each entry has a kind
 abbrev pub stack_of : List (Option Kind) → Option (List Kind)
 stack_of [] = Some []
@@ -153,7 +149,7 @@ pub record Placed : Type 0 where
 pub data Map : Type 0 where
   -- every frame has kinds, and they fit
   Read : List Placed → Map
-  -- the frame at the instruction of this number has none that fit, and all frames before it do
+  -- the frame at the instruction of this number has no kinds that fit, and all frames before it have such
   Faulty : ℕ → Map
   -- the code's attribute is no stack map
   NoMap : Map

@@ -157,7 +157,7 @@ select program prefix resolved class =
     with_body (if is_private resolved.method.flags then Some resolved
     else first_method program is_plain resolved.method.name resolved.method.desc (chain program (member_class prefix class)))
 
--- JVMS 6.5, invokespecial: the method that is called, in a method of the class own
+-- JVMS 6.5, invokespecial: the method that is called, in a method of the class `own`
 unfoldable pub special_method : Program → Name → FoundMethod → Option FoundMethod
 special_method program own resolved =
     if not (same_name resolved.method.name constructor_name) && is_among (superclasses (chain program own)) resolved.class

@@ -49,9 +49,9 @@ abbrev pub is_text_in : Option (Object Ty) → Bool
 is_text_in (Some (Text class units)) = true
 is_text_in _ = false
 
-abbrev pub field_in : Option (Object Ty) → ℕ → ℕ
-field_in (Some (Instance class fields)) place = slice_index fields place
-field_in _ place = 0
+abbrev pub object_field : Option (Object Ty) → ℕ → ℕ
+object_field (Some (Instance class fields)) place = slice_index fields place
+object_field _ place = 0
 
 abbrev pub elements_in : Option (Object Ty) → Option Elements
 elements_in (Some (Array class element contents)) = Some (record { element = element; contents = contents })
@@ -65,7 +65,7 @@ abbrev pub seen : Program → Prefix → Heap Ty → Seen
 seen program prefix heap = record {
   units = λ r. units_in (object_at heap.objects r);
   is_text = λ r. is_text_in (object_at heap.objects r);
-  field = λ r place. field_in (object_at heap.objects r) place;
+  field = λ r place. object_field (object_at heap.objects r) place;
   elements = λ r. elements_in (object_at heap.objects r);
   takes = λ array r. takes program prefix heap array r;
   class_text = λ r. shown_in prefix (object_at heap.objects r);

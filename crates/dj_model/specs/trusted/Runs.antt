@@ -18,7 +18,7 @@ use Rattle.dj_model.specs.trusted.State.{Terms, State}
 use Rattle.dj_model.specs.trusted.Charging.{new_account}
 use Rattle.dj_model.specs.trusted.Arrays.{passes_limit}
 use Rattle.dj_model.specs.trusted.Initialisation.{Initialised, Ready, Waits, Fails, new_frame, initialise}
-use Rattle.dj_model.specs.trusted.Step.{Answer, Went, Ended, IllFormed, step}
+use Rattle.dj_model.specs.trusted.Step.{StepAnswer, Went, Ended, IllFormed, step}
 
 -- ---- the start
 
@@ -44,13 +44,13 @@ start_state program entry heap answers = record {
   answers = answers;
 }
 
-abbrev pub begun : Initialised → Answer
+abbrev pub begun : Initialised → StepAnswer
 begun (Ready s) = Went s
 begun (Waits s) = Went s
 begun (Fails outcome s) = Ended outcome s
 
 -- the start of a run of the entry on the input, on these terms: the entry's class is initialised first
-unfoldable pub begin : Program → Prefix → Terms → Declared → List ℕ → List HostAnswer → Answer
+unfoldable pub begin : Program → Prefix → Terms → Declared → List ℕ → List HostAnswer → StepAnswer
 begin program prefix terms entry input answers =
     if passes_limit terms.limit (object_size (input_array input))
     then Ended (outcomes.HeapFull 0 (object_size (input_array input))) (start_state program entry empty_heap answers)
@@ -71,7 +71,7 @@ one_more (Going s) = Going s
 one_more (Finished outcome s n) = Finished outcome s (suc n)
 one_more NoStep = NoStep
 
-abbrev pub then_steps : (State → Ran) → Answer → Ran
+abbrev pub then_steps : (State → Ran) → StepAnswer → Ran
 then_steps more (Went s) = one_more (more s)
 then_steps more (Ended outcome s) = Finished outcome s 1
 then_steps more IllFormed = NoStep
@@ -81,7 +81,7 @@ unfoldable pub steps : Program → Prefix → Terms → ℕ → State → Ran
 steps program prefix terms zero s = Going s
 steps program prefix terms (suc n) s = then_steps (steps program prefix terms n) (step program prefix terms s)
 
-abbrev pub from_start : (State → Ran) → Answer → Ran
+abbrev pub from_start : (State → Ran) → StepAnswer → Ran
 from_start more (Went s) = more s
 from_start more (Ended outcome s) = Finished outcome s 0
 from_start more IllFormed = NoStep

@@ -171,7 +171,7 @@ covers range number = nat_le range.start number && nat_lt number range.end
 
 -- the instruction of this number has kinds before it, and finds there what it takes; wherever the run may go on after it, it goes on at a frame that
 -- fits what is left, or at the next instruction; and it isn't the last instruction unless the run never goes on after it
-pub record Holds (signature : Signature) (code : Code) (placed : List Placed) (number : ℕ) : Type 0 where
+pub record HoldsAt (signature : Signature) (code : Code) (placed : List Placed) (number : ℕ) : Type 0 where
   pub before : Kinds
   pub left : Kinds
   pub instruction : Instruction
@@ -190,8 +190,8 @@ pub record Holds (signature : Signature) (code : Code) (placed : List Placed) (n
 -- the first instruction that doesn't hold
 pub record IsFirstFault (signature : Signature) (code : Code) (placed : List Placed) (number : ℕ) : Type 0 where
   pub within : number < length code.instructions
-  pub before : (other : ℕ) → other < number → Holds signature code placed other
-  pub fault : Holds signature code placed number → ⊥
+  pub before : (other : ℕ) → other < number → HoldsAt signature code placed other
+  pub fault : HoldsAt signature code placed number → ⊥
 
 abbrev pub IsFrameOrFault : Signature → Code → Map → ℕ → Type 0
 IsFrameOrFault signature code (Read placed) number = IsFirstFault signature code placed number

@@ -20,17 +20,17 @@ use Rattle.dj_model.specs.trusted.Program.{Program, Code, Range, code_of, is_ini
 use Rattle.dj_model.specs.trusted.Linking.{is_subtype, member_class, option_list}
 use Rattle.dj_model.specs.trusted.State.{Terms, Frame, State, instruction_at, Part, Way, Next, To, Raise, Back, Flow, Goes, Catch, Stop, Call, End, Effect}
 use Rattle.dj_model.specs.trusted.Arrays.{Found, IsArray, array_at, passes_limit}
-use Rattle.dj_model.specs.trusted.Performing.{class_at_number, field_in}
+use Rattle.dj_model.specs.trusted.Performing.{class_at_number, object_field}
 use Rattle.dj_model.specs.trusted.Effects.{effect, used_class}
 use Rattle.dj_model.specs.trusted.Initialisation.{Initialised, Ready, Waits, Fails, new_frame, most_frames, initialise}
 
-pub data Answer : Type 0 where
+pub data StepAnswer : Type 0 where
   -- the run goes on in this state
-  Went : State → Answer
+  Went : State → StepAnswer
   -- the run has ended with this outcome, in this state
-  Ended : Outcome → State → Answer
+  Ended : Outcome → State → StepAnswer
   -- no step can be made: the program isn't sound, or the host's answer is missing or of another kind
-  IllFormed : Answer
+  IllFormed : StepAnswer
 
 -- ---- exceptions
 
@@ -40,7 +40,7 @@ text_in _ = messages.Null
 
 -- the first field of an exception is its message
 abbrev pub message_of : Heap Ty → ℕ → Message
-message_of heap exception = text_in (object_at heap.objects (field_in (object_at heap.objects exception) 0))
+message_of heap exception = text_in (object_at heap.objects (object_field (object_at heap.objects exception) 0))
 
 abbrev pub catches_named : Program → Prefix → Ty → Named → Bool
 catches_named program prefix class (AClass caught) = is_subtype program prefix class caught
@@ -70,32 +70,32 @@ abbrev pub stopped_by : Option Charge → Outcome → Outcome
 stopped_by None otherwise = otherwise
 stopped_by (Some charge) otherwise = outcomes.Stopped charge
 
-abbrev pub ends_with : Prefix → State → Ty → Outcome → Answer
+abbrev pub ends_with : Prefix → State → Ty → Outcome → StepAnswer
 ends_with prefix s class outcome = Ended (if is_stop prefix class then stopped_by s.account.exceeded outcome else outcome) s
 
 -- an exception that leaves an initialiser ends the run; any other goes on to the frame below
-abbrev pub leaves_frame : Prefix → State → Ty → ℕ → Frame Declared → Answer → Answer
+abbrev pub leaves_frame : Prefix → State → Ty → ℕ → Frame Declared → StepAnswer → StepAnswer
 leaves_frame prefix s class exception f below =
     if is_initialiser f.method
     then ends_with prefix s class (outcomes.Init f.method.class (member_class prefix class) (message_of s.heap exception)) else below
 
-abbrev pub at_handler : Prefix → State → Ty → ℕ → Frame Declared → List (Frame Declared) → Option ℕ → Answer → Answer
+abbrev pub at_handler : Prefix → State → Ty → ℕ → Frame Declared → List (Frame Declared) → Option ℕ → StepAnswer → StepAnswer
 at_handler prefix s class exception f below (Some handler) otherwise = Went (record s { frames = caught f exception handler ∷ below })
 at_handler prefix s class exception f below None otherwise = leaves_frame prefix s class exception f otherwise
 
 -- JVMS 2.10: frames are left, the top one first, up to the first that has a handler for the exception
-unfoldable pub unwound : Program → Prefix → State → Ty → ℕ → List (Frame Declared) → Answer
+unfoldable pub unwound : Program → Prefix → State → Ty → ℕ → List (Frame Declared) → StepAnswer
 unwound program prefix s class exception [] = ends_with prefix s class (outcomes.Threw (member_class prefix class) (message_of s.heap exception))
 unwound program prefix s class exception (f ∷ below) =
     at_handler prefix s class exception f below (handler_of program prefix class f.number (code_of program f.method))
     (unwound program prefix s class exception below)
 
 -- the object of this number is thrown
-abbrev pub throw : Program → Prefix → State → ℕ → Answer
+abbrev pub throw : Program → Prefix → State → ℕ → StepAnswer
 throw program prefix s exception = unwound program prefix s (class_at_number s.heap exception) exception s.frames
 
 -- the object is made and thrown
-abbrev pub throw_new : Program → Prefix → Terms → State → Object Ty → Answer
+abbrev pub throw_new : Program → Prefix → Terms → State → Object Ty → StepAnswer
 throw_new program prefix terms s object =
     if passes_limit terms.limit (s.heap.used + object_size object) then Ended (outcomes.HeapFull s.heap.used (object_size object)) s
     else throw program prefix (record s { heap = with_new s.heap object }) (next_number s.heap)
@@ -114,13 +114,13 @@ abbrev pub stop_from : Prefix → ℕ → List (Object Ty) → Option ℕ
 stop_from prefix r [] = None
 stop_from prefix r (object ∷ objects) = if is_stop prefix (class_of object) then Some r else stop_from prefix (r + 1) objects
 
-abbrev pub throw_stop_or : Program → Prefix → Terms → State → Option ℕ → Answer
+abbrev pub throw_stop_or : Program → Prefix → Terms → State → Option ℕ → StepAnswer
 throw_stop_or program prefix terms s None = throw_new program prefix terms s new_stop
 throw_stop_or program prefix terms s (Some r) = throw program prefix s r
 
 -- ---- calls and returns
 
-abbrev pub called : Program → State → Declared → List Value → Answer
+abbrev pub called : Program → State → Declared → List Value → StepAnswer
 called program s method arguments =
     if nat_le most_frames (length s.frames) then Ended outcomes.TooDeep s
     else Went (record s { frames = new_frame program method arguments ∷ s.frames })
@@ -140,7 +140,7 @@ resumed f result caller =
     if is_initialiser f.method then caller
     else record caller { number = caller.number + 1; operands = option_list result ++ caller.operands; paid = false }
 
-abbrev pub returned : State → Frame Declared → Option Value → List (Frame Declared) → Answer
+abbrev pub returned : State → Frame Declared → Option Value → List (Frame Declared) → StepAnswer
 returned s f result [] = Ended (result_outcome s.heap result) s
 returned s f result (caller ∷ below) = Went (record s { frames = resumed f result caller ∷ below })
 
@@ -150,13 +150,13 @@ returned s f result (caller ∷ below) = Went (record s { frames = resumed f res
 abbrev pub at_number : Frame Declared → ℕ → Frame Declared
 at_number f number = record f { number = number; paid = false }
 
-abbrev pub settle_way : Program → Prefix → Terms → State → Frame Declared → List (Frame Declared) → Way → Answer
+abbrev pub settle_way : Program → Prefix → Terms → State → Frame Declared → List (Frame Declared) → Way → StepAnswer
 settle_way program prefix terms s f below Next = Went (record s { frames = at_number f (f.number + 1) ∷ below })
 settle_way program prefix terms s f below (To number) = Went (record s { frames = at_number f number ∷ below })
 settle_way program prefix terms s f below (Raise raised) = throw_new program prefix terms (record s { frames = f ∷ below }) (new_exception prefix raised)
 settle_way program prefix terms s f below (Back result) = returned s f result below
 
-unfoldable pub settle : Program → Prefix → Terms → State → Frame Declared → List (Frame Declared) → Flow → Answer
+unfoldable pub settle : Program → Prefix → Terms → State → Frame Declared → List (Frame Declared) → Flow → StepAnswer
 settle program prefix terms s f below (Goes way) = settle_way program prefix terms s f below way
 settle program prefix terms s f below (Catch exception) = throw program prefix (record s { frames = f ∷ below }) exception
 settle program prefix terms s f below Stop = throw_stop_or program prefix terms (record s { frames = f ∷ below }) (stop_from prefix 1 s.heap.objects)
@@ -181,7 +181,7 @@ with_part s p = record s { heap = p.heap; statics = p.statics; literals = p.lite
 abbrev pub frame_with : Frame Declared → Part → Frame Declared
 frame_with f p = record f { locals = p.locals; operands = p.operands }
 
-abbrev pub settled : Program → Prefix → Terms → State → Frame Declared → List (Frame Declared) → Option Effect → Answer
+abbrev pub settled : Program → Prefix → Terms → State → Frame Declared → List (Frame Declared) → Option Effect → StepAnswer
 settled program prefix terms s f below None = IllFormed
 settled program prefix terms s f below (Some e) = settle program prefix terms (with_part s e.part) (frame_with f e.part) below e.flow
 
@@ -192,19 +192,19 @@ prepared program prefix terms None s = Ready s
 prepared program prefix terms (Some class) s = initialise program prefix terms class s
 
 -- where initialisers have to run first, the instruction is done after them
-abbrev pub done : Program → Prefix → Terms → Frame Declared → List (Frame Declared) → Instruction → Initialised → Answer
+abbrev pub done : Program → Prefix → Terms → Frame Declared → List (Frame Declared) → Instruction → Initialised → StepAnswer
 done program prefix terms f below i (Ready s) = settled program prefix terms s f below (effect program prefix terms f.method.class i (part_of f s))
 done program prefix terms f below i (Waits s) = Went s
 done program prefix terms f below i (Fails outcome s) = Ended outcome s
 
-abbrev pub act : Program → Prefix → Terms → State → Frame Declared → List (Frame Declared) → Option Instruction → Answer
+abbrev pub act : Program → Prefix → Terms → State → Frame Declared → List (Frame Declared) → Option Instruction → StepAnswer
 act program prefix terms s f below None = IllFormed
 act program prefix terms s f below (Some i) = done program prefix terms f below i (prepared program prefix terms (used_class program prefix i) s)
 
-abbrev pub step_of : Program → Prefix → Terms → State → List (Frame Declared) → Answer
+abbrev pub step_of : Program → Prefix → Terms → State → List (Frame Declared) → StepAnswer
 step_of program prefix terms s [] = IllFormed
 step_of program prefix terms s (f ∷ below) = act program prefix terms s f below (instruction_at program f)
 
 -- one step, on these terms
-unfoldable pub step : Program → Prefix → Terms → State → Answer
+unfoldable pub step : Program → Prefix → Terms → State → StepAnswer
 step program prefix terms s = step_of program prefix terms s s.frames

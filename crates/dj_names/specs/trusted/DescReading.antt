@@ -28,7 +28,7 @@ unfoldable pub dims_read : ℕ → List ℕ → Option (ℕ × List ℕ)
 dims_read n [] = Some (n, [])
 dims_read n (b ∷ more) = if nat_eq b 91 then (if nat_lt n 255 then dims_read (n + 1) more else None) else Some (n, b ∷ more)
 
--- the bytes up to the first semicolon, with front before them, and those after it
+-- the bytes up to the first semicolon, with `prefix` before them, and those after it
 unfoldable pub name_read : List ℕ → List ℕ → Option (List ℕ × List ℕ)
 name_read prefix [] = None
 name_read prefix (b ∷ more) = if nat_eq b 59 then Some (prefix, more) else name_read (prefix ++ b ∷ []) more

@@ -5,12 +5,12 @@ use Rattle.std.specs.Int.{w8, w16, w32}
 use Rattle.dj_bytes.specs.trusted.Spelling.{u2, s1, s2, s4}
 use Rattle.dj_ops.specs.declared.instruction.Instr.{Instr}
 use Rattle.dj_ops.specs.declared.instruction.Instr.TheVariants as instrs
-use Rattle.dj_ops.specs.trusted.Forms.{Form, Bare, SignedByte, SignedShort, ShortLiteral, LongLiteral, Slot, ShortOffset, LongOffset, MemberIndex, ClassIndex, form_of}
+use Rattle.dj_ops.specs.trusted.Forms.{OperandForm, Bare, SignedByte, SignedShort, ShortLiteral, LongLiteral, Slot, ShortOffset, LongOffset, MemberIndex, ClassIndex, form_of}
 
 -- ---- operands, by the form of the opcode
 
 -- a signed number
-abbrev pub signed_bytes : Form → ℤ → List ℕ
+abbrev pub signed_bytes : OperandForm → ℤ → List ℕ
 signed_bytes SignedByte z = s1 z
 signed_bytes SignedShort z = s2 z
 signed_bytes ShortOffset z = s2 z
@@ -18,24 +18,24 @@ signed_bytes LongOffset z = s4 z
 signed_bytes _ z = []
 
 -- a number that this form can push
-abbrev pub IsPushed : Form → ℤ → Type 0
+abbrev pub IsPushed : OperandForm → ℤ → Type 0
 IsPushed SignedByte z = FitsSigned w8 z
 IsPushed SignedShort z = FitsSigned w16 z
 IsPushed _ z = ⊥
 
 -- the distance to a target, which fits this form
-abbrev pub IsOffset : Form → ℤ → Type 0
+abbrev pub IsOffset : OperandForm → ℤ → Type 0
 IsOffset ShortOffset z = FitsSigned w16 z
 IsOffset LongOffset z = FitsSigned w32 z
 IsOffset _ z = ⊥
 
 -- the index of a constant
-abbrev pub literal_bytes : Form → ℕ → List ℕ
+abbrev pub literal_bytes : OperandForm → ℕ → List ℕ
 literal_bytes ShortLiteral index = index ∷ []
 literal_bytes LongLiteral index = u2 index
 literal_bytes _ index = []
 
-abbrev pub IsLiteral : Form → ℕ → Type 0
+abbrev pub IsLiteral : OperandForm → ℕ → Type 0
 IsLiteral ShortLiteral index = index < 2 ^ 8
 IsLiteral LongLiteral index = index < 2 ^ 16
 IsLiteral _ index = ⊥

@@ -8,7 +8,7 @@ use Rattle.dj_report.specs.declared.report.Violation.{Violation}
 use Rattle.dj_report.specs.trusted.Lines.{AreExactly}
 use Rattle.dj_check.specs.trusted.Malformed.{IsGood}
 use Rattle.dj_check.specs.trusted.Rules.{IsEarlyLine}
-use Rattle.dj_classes.specs.trusted.Tables.{declared_program}
+use Rattle.dj_declared.specs.trusted.Files.{declared_program}
 use Rattle.dj_judge.specs.trusted.Lines.{IsLinkedLine}
 
 -- the class files of the files, each at its file's place; none of them violates rule 1

@@ -122,7 +122,7 @@ pub record Placed : Type 0 where
 pub data Frames : Type 0 where
   -- every frame has kinds, and they fit
   Read : List Placed → Frames
-  -- the frame at the instruction of this number has none that fit, and all frames before it do
+  -- the frame at the instruction of this number has no kinds that fit, and all frames before it have such
   Faulty : ℕ → Frames
   -- the code's attribute is no stack map
   NoMap : Frames

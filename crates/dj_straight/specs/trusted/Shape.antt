@@ -33,9 +33,9 @@ kind_at locals slot = kind_in (slice_get locals slot) where
   kind_in (Some kind) = kind
 
 -- where this slot is the second of a long, the long loses its kind
-abbrev pub without_long_before : List (Option Kind) → ℕ → List (Option Kind)
-without_long_before locals zero = locals
-without_long_before locals (suc before) = if is_kind kinds.Long (kind_at locals before) then set locals before None else locals
+abbrev pub kinds_without_long_before : List (Option Kind) → ℕ → List (Option Kind)
+kinds_without_long_before locals zero = locals
+kinds_without_long_before locals (suc before) = if is_kind kinds.Long (kind_at locals before) then set locals before None else locals
 
 abbrev pub set_kind : List (Option Kind) → ℕ → Kind → List (Option Kind)
 set_kind locals slot kinds.Long = set (set locals slot (Some kinds.Long)) (slot + 1) None
@@ -70,7 +70,7 @@ abbrev pub store_kind : Code → List (Option Kind) → ℕ → Kind → Option 
 store_kind code locals slot kind None = None
 store_kind code locals slot kind (Some k) =
     if nat_lt (slot + slots_of kind - 1) code.max_locals
-    then Some (record k { locals = set_kind (without_long_before locals slot) slot kind }) else None
+    then Some (record k { locals = set_kind (kinds_without_long_before locals slot) slot kind }) else None
 
 -- pop and dup take no long
 abbrev pub moved : Code → Kinds → StackOperation → List Kind → Option Kinds

@@ -4,13 +4,12 @@ ghost use Rattle.dj_straight.specs.Machines.{machine_view, Does};
 
 use crate::machine::parts::{Progress, StraightMachine};
 use crate::program::Action;
-use dj_rules::RulesError;
-use std::alloc::Global;
+use std::alloc::{AllocError, Global};
 
 #[tactic(auto, unfolding(crate::specs::trusted::Effects::effect))]
 impl StraightMachine {
     /// An instruction is done.
-    pub fn act(&mut self, alloc: Global, action: Action) -> Result<Progress, RulesError>
+    pub fn act(&mut self, alloc: Global, action: Action) -> Result<Progress, AllocError>
         ensures { IfOk result (Does (action_view action) (machine_view self.old) (machine_view self.new)) }
     {
         match action {

@@ -12,13 +12,12 @@ use crate::machine::parts::{Progress, StraightMachine};
 use crate::machine::values::{computed, is_of_kind, last_slot, low_byte, store_local};
 use crate::program::IntOperation;
 use dj_names::{Kind, Raised, Value};
-use dj_rules::RulesError;
-use std::alloc::Global;
+use std::alloc::{AllocError, Global};
 
 #[tactic(auto, unfolding(crate::specs::trusted::Effects::effect))]
 impl StraightMachine {
     /// A value is pushed.
-    pub fn push(&mut self, value: Value) -> Result<Progress, RulesError>
+    pub fn push(&mut self, value: Value) -> Result<Progress, AllocError>
         ensures { IfOk result (Does (model.Push value) (machine_view self.old) (machine_view self.new)) }
     {
         self.operands.push(value)?;
@@ -26,7 +25,7 @@ impl StraightMachine {
     }
 
     /// A local variable is pushed.
-    pub fn load(&mut self, kind: Kind, slot: u16) -> Result<Progress, RulesError>
+    pub fn load(&mut self, kind: Kind, slot: u16) -> Result<Progress, AllocError>
         ensures { IfOk result (Does (model.Load kind slot) (machine_view self.old) (machine_view self.new)) }
     {
         let Some(Some(value)) = self.locals.get(slot as usize).copied() else {
@@ -63,7 +62,7 @@ impl StraightMachine {
     }
 
     /// The value on top, which is no long, is pushed once more.
-    pub fn dup(&mut self) -> Result<Progress, RulesError>
+    pub fn dup(&mut self) -> Result<Progress, AllocError>
         ensures { IfOk result (Does (model.Move model.Dup) (machine_view self.old) (machine_view self.new)) }
     {
         let Some(value) = self.operands.pop() else {
@@ -78,7 +77,7 @@ impl StraightMachine {
     }
 
     /// Two ints are taken, and what is computed of them is pushed.
-    pub fn compute(&mut self, operation: IntOperation) -> Result<Progress, RulesError>
+    pub fn compute(&mut self, operation: IntOperation) -> Result<Progress, AllocError>
         ensures { IfOk result (Does (model.Compute (operation_view operation)) (machine_view self.old) (machine_view self.new)) }
     {
         let (Some(Value::Int(b)), Some(Value::Int(a))) = (self.operands.pop(), self.operands.pop())
@@ -99,7 +98,7 @@ impl StraightMachine {
     }
 
     /// An index and an array are taken, and the array's element is pushed.
-    pub fn load_byte(&mut self) -> Result<Progress, RulesError>
+    pub fn load_byte(&mut self) -> Result<Progress, AllocError>
         ensures { IfOk result (Does (model.LoadElement model.Bytes) (machine_view self.old) (machine_view self.new)) }
     {
         let (Some(Value::Int(index)), Some(Value::Ref(reference))) = (
@@ -145,7 +144,7 @@ impl StraightMachine {
     }
 
     /// An array is taken, and its length is pushed.
-    pub fn array_length(&mut self) -> Result<Progress, RulesError>
+    pub fn array_length(&mut self) -> Result<Progress, AllocError>
         ensures { IfOk result (Does model.ArrayLength (machine_view self.old) (machine_view self.new)) }
     {
         let Some(Value::Ref(reference)) = self.operands.pop() else {
@@ -162,7 +161,7 @@ impl StraightMachine {
     }
 
     /// A length is taken, and an array of as many zeros is made.
-    pub fn new_byte_array(&mut self, alloc: Global) -> Result<Progress, RulesError>
+    pub fn new_byte_array(&mut self, alloc: Global) -> Result<Progress, AllocError>
         ensures { IfOk result (Does (model.NewArray model.byte_array_class Byte) (machine_view self.old) (machine_view self.new)) }
     {
         let Some(Value::Int(count)) = self.operands.pop() else {

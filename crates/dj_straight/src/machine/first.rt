@@ -7,11 +7,10 @@ use crate::machine::heap::Heap;
 use crate::machine::operands::Operands;
 use crate::machine::parts::StraightMachine;
 use dj_names::{Bytes, Value};
-use dj_rules::RulesError;
-use std::alloc::Global;
+use std::alloc::{AllocError, Global};
 
 // The bytes as elements of an array.
-fn signed_bytes(alloc: Global, bytes: &[u8]) -> Result<Vec<i8>, RulesError>
+fn signed_bytes(alloc: Global, bytes: &[u8]) -> Result<Vec<i8>, AllocError>
     ensures { IfOk result (λ signed. signed.items ≡ map (cast_signed w8) bytes.now) }
 {
     let mut signed = Vec::with_capacity(alloc, bytes.len())?;
@@ -22,7 +21,7 @@ fn signed_bytes(alloc: Global, bytes: &[u8]) -> Result<Vec<i8>, RulesError>
 }
 
 /// The elements of an array as bytes.
-pub fn unsigned_bytes(alloc: Global, bytes: &[i8]) -> Result<Bytes, RulesError>
+pub fn unsigned_bytes(alloc: Global, bytes: &[i8]) -> Result<Bytes, AllocError>
     ensures { IfOk result (λ unsigned. unsigned ≡ map (cast_unsigned w8) bytes.now) }
 {
     let mut unsigned = Vec::with_capacity(alloc, bytes.len())?;
@@ -33,7 +32,7 @@ pub fn unsigned_bytes(alloc: Global, bytes: &[i8]) -> Result<Bytes, RulesError>
 }
 
 // The array of the input, and then local variables without values.
-fn first_locals(alloc: Global, max_locals: u16) -> Result<Vec<Option<Value>>, RulesError>
+fn first_locals(alloc: Global, max_locals: u16) -> Result<Vec<Option<Value>>, AllocError>
     requires { 0 < max_locals }
     ensures { IfOk result (λ locals. locals.items ≡ Some (values.Ref 1) ∷ replicate (max_locals - 1) None) }
 {
@@ -47,7 +46,7 @@ pub fn first_machine(
     alloc: Global,
     max_locals: u16,
     input: &[u8],
-) -> Result<StraightMachine, RulesError>
+) -> Result<StraightMachine, AllocError>
     requires locals { 0 < max_locals }
     requires input { length input.now ≤ 1048576 }
     ensures locals { IfOk result (λ m. m.locals.items ≡ Some (values.Ref 1) ∷ replicate (max_locals - 1) None) }

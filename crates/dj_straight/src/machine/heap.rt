@@ -6,8 +6,7 @@ ghost use Rattle.dj_straight.specs.trusted.Effects.{array_at, array_size, elemen
 ghost use Rattle.dj_straight.specs.Arrays.{byte_array, heap_of};
 ghost use Rattle.dj_straight.specs.Machines.{found_view, IsShort};
 
-use dj_rules::RulesError;
-use std::alloc::Global;
+use std::alloc::{AllocError, Global};
 use std::marker::Model;
 
 /// The objects of a run, which are arrays of bytes.
@@ -48,7 +47,7 @@ pub fn element(bytes: &[i8], index: i32) -> Option<i8>
 
 impl Heap {
     /// A heap with this array alone.
-    pub fn with_array(alloc: Global, bytes: Vec<i8>) -> Result<Heap, RulesError>
+    pub fn with_array(alloc: Global, bytes: Vec<i8>) -> Result<Heap, AllocError>
         requires { length bytes.items < 2 ^ 31 }
         ensures { IfOk result (λ heap. heap ≡ heap_of (bytes ∷ [])) }
     {
@@ -72,13 +71,13 @@ impl Heap {
     }
 
     /// An array of this many zeros is made.
-    pub fn make(&mut self, alloc: Global, count: u32) -> Result<u32, RulesError>
+    pub fn make(&mut self, alloc: Global, count: u32) -> Result<u32, AllocError>
         requires { count < 2 ^ 31 }
         ensures heap { OnOk result (self.new ≡ with_new self.old (array_size Byte count) (byte_array (new_contents count))) }
         ensures reference { IfOk result (λ reference. reference ≡ next_number self.old) }
     {
         let Ok(reference) = u32::try_from(self.arrays.len() + 1) else {
-            return Err(RulesError::Memory);
+            return Err(AllocError);
         };
         let bytes = vec![in alloc; 0i8; count as usize]?;
         self.arrays.push(bytes)?;

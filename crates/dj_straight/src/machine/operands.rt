@@ -2,8 +2,7 @@ ghost use Rattle.std.specs.Prelude.{◌≡◌, List, [], ◌∷◌, IfSome, IfNo
 ghost use Rattle.dj_names.specs.declared.run.Value.{Value as RunValue};
 
 use dj_names::Value;
-use dj_rules::RulesError;
-use std::alloc::Global;
+use std::alloc::{AllocError, Global};
 use std::marker::Model;
 
 /// The operands of a frame (JVMS 2.6.2).
@@ -33,7 +32,7 @@ impl Operands {
     }
 
     /// The value is on top.
-    pub fn push(&mut self, value: Value) -> Result<(), RulesError>
+    pub fn push(&mut self, value: Value) -> Result<(), AllocError>
         ensures { OnOk result (self.new ≡ value ∷ self.old) }
     {
         Ok(self.values.push(value)?)

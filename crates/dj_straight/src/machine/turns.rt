@@ -18,8 +18,7 @@ use crate::machine::parts::{Progress, StraightMachine};
 use crate::machine::pay::{Payment, pay};
 use crate::program::Action;
 use dj_names::{Charge, Costs, Message, Name, Outcome, Raised, Thresholds};
-use dj_rules::RulesError;
-use std::alloc::Global;
+use std::alloc::{AllocError, Global};
 
 /// How a run goes on after an instruction.
 #[derive(Drop)]
@@ -46,7 +45,7 @@ fn raised_text(raised: Raised) -> &'static [u8]
 }
 
 // The outcome where the entry returns this reference.
-fn returned(alloc: Global, heap: &Heap, reference: u32) -> Result<Outcome, RulesError>
+fn returned(alloc: Global, heap: &Heap, reference: u32) -> Result<Outcome, AllocError>
     ensures { IfOk result (λ outcome. outcome ≡ result_outcome heap.now (Some (values.Ref reference))) }
 {
     match heap.array(reference) {
@@ -56,7 +55,7 @@ fn returned(alloc: Global, heap: &Heap, reference: u32) -> Result<Outcome, Rules
     }
 }
 
-fn end(outcome: Outcome, costs: Costs) -> Result<Advance, RulesError>
+fn end(outcome: Outcome, costs: Costs) -> Result<Advance, AllocError>
     ensures { result ≡ Ok (turns.End (record { outcome = outcome; costs = costs })) }
 {
     Ok(Advance::End(StraightEnding { outcome, costs }))
@@ -64,7 +63,7 @@ fn end(outcome: Outcome, costs: Costs) -> Result<Advance, RulesError>
 
 impl StraightMachine {
     // The instruction is done, after its charges were added.
-    fn done(&mut self, alloc: Global, action: Action, costs: Costs) -> Result<Advance, RulesError>
+    fn done(&mut self, alloc: Global, action: Action, costs: Costs) -> Result<Advance, AllocError>
         requires { IsSome (straight_effect (action_view action) (machine_view self.old)) }
         ensures { IfOk result (IsDone costs (action_view action) (machine_view self.old) (machine_view self.new)) }
     {
@@ -87,7 +86,7 @@ impl StraightMachine {
         action: Action,
         costs: Costs,
         most: &Thresholds,
-    ) -> Result<Advance, RulesError>
+    ) -> Result<Advance, AllocError>
         requires sound { IsSome (straight_effect (action_view action) (machine_view self.old)) }
         requires costs { costs.alloc ≤ 1073741824 }
         ensures turns { IfOk result (TurnsDo most.now costs (action_view action) (machine_view self.old) (machine_view self.new)) }

@@ -13,8 +13,8 @@ use crate::program::{Action, action_of};
 use dj_class::{Attribute, CodeView, read_code};
 use dj_ops::Instr;
 use dj_pool::Pool;
-use dj_rules::{RulesError, is_memory};
-use std::alloc::Global;
+use dj_rules::is_memory;
+use std::alloc::{AllocError, Global};
 
 /// Straight code.
 #[derive(Drop)]
@@ -39,7 +39,7 @@ fn bodies_named<'a>(
     pool: &Pool<'_>,
     name: &[u8],
     attributes: &[Attribute<'a>],
-) -> Result<Vec<&'a [u8]>, RulesError>
+) -> Result<Vec<&'a [u8]>, AllocError>
     ensures { IfOk result (λ bodies. map (λ body. body.now) bodies.items
         ≡ bodies_of pool.now name.now (map attribute_of attributes.now)) }
 {
@@ -53,7 +53,7 @@ fn bodies_named<'a>(
 }
 
 // What the instructions do.
-fn actions_of(alloc: Global, instrs: &[Instr]) -> Result<Vec<Action>, RulesError>
+fn actions_of(alloc: Global, instrs: &[Instr]) -> Result<Vec<Action>, AllocError>
     ensures { IfOk result (λ actions. map action_view actions.items ≡ map instruction_of instrs.now) }
 {
     let mut actions = Vec::with_capacity(alloc, instrs.len())?;
@@ -64,7 +64,7 @@ fn actions_of(alloc: Global, instrs: &[Instr]) -> Result<Vec<Action>, RulesError
 }
 
 // Whether there are neither handlers nor a stack map.
-fn is_plain(alloc: Global, pool: &Pool<'_>, code: &CodeView<'_>) -> Result<bool, RulesError>
+fn is_plain(alloc: Global, pool: &Pool<'_>, code: &CodeView<'_>) -> Result<bool, AllocError>
     ensures { IfOk result (λ plain. IsTrue plain
         ↔ ((code.now.table ≡ []) × (bodies_of pool.now (codes "StackMapTable") code.now.attributes ≡ []))) }
 {
@@ -80,14 +80,14 @@ fn straight_code(
     alloc: Global,
     pool: &Pool<'_>,
     code: &CodeView<'_>,
-) -> Result<Option<StraightCode>, RulesError>
+) -> Result<Option<StraightCode>, AllocError>
     requires { length code.now.code.now < 2 ^ 32 }
     ensures { IfOk result (Finds found_code (IsStraightCode pool.now (code_of code.now))) }
 {
     if !is_plain(alloc, pool, code)? {
         return Ok(None);
     }
-    match read_instrs(alloc, code.code).or(Err(RulesError::Memory))? {
+    match read_instrs(alloc, code.code).or(Err(AllocError))? {
         Some(instrs) => Ok(Some(StraightCode {
             max_stack: code.max_stack,
             max_locals: code.max_locals,
@@ -102,7 +102,7 @@ fn code_of_body(
     alloc: Global,
     pool: &Pool<'_>,
     body: &[u8],
-) -> Result<Option<StraightCode>, RulesError>
+) -> Result<Option<StraightCode>, AllocError>
     requires { length body.now < 2 ^ 32 }
     ensures { IfOk result (Finds found_code (IsStraightBody pool.now body.now)) }
 {
@@ -110,7 +110,7 @@ fn code_of_body(
         Ok(code) => straight_code(alloc, pool, &code),
         Err(error) => {
             if is_memory(error) {
-                Err(RulesError::Memory)
+                Err(AllocError)
             } else {
                 Ok(None)
             }
@@ -123,7 +123,7 @@ pub fn code_of_attributes(
     alloc: Global,
     pool: &Pool<'_>,
     attributes: &[Attribute<'_>],
-) -> Result<Option<StraightCode>, RulesError>
+) -> Result<Option<StraightCode>, AllocError>
     requires { AllByRecursion (IsAttribute pool.now) (map attribute_of attributes.now) }
     ensures { IfOk result (Finds found_code (HasStraightCode pool.now (map attribute_of attributes.now))) }
 {

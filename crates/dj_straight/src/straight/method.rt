@@ -17,8 +17,7 @@ use crate::straight::code::code_of_attributes;
 use dj_class::{AccessFlags, MemberView};
 use dj_names::Name;
 use dj_pool::Pool;
-use dj_rules::RulesError;
-use std::alloc::Global;
+use std::alloc::{AllocError, Global};
 use std::collections::BTreeSet;
 
 // Whether a method of these flags is static, and may have code.
@@ -62,7 +61,7 @@ fn straight_method(
     alloc: Global,
     pool: &Pool<'_>,
     method: &MemberView<'_>,
-) -> Result<Option<StraightMethod>, RulesError>
+) -> Result<Option<StraightMethod>, AllocError>
     requires { AllByRecursion (IsAttribute pool.now) method.now.attributes }
     ensures { IfOk result (Finds method_view (IsStraightMethod pool.now (member_of method.now))) }
 {
@@ -86,7 +85,7 @@ fn straight_methods(
     alloc: Global,
     pool: &Pool<'_>,
     methods: &[MemberView<'_>],
-) -> Result<Option<Vec<StraightMethod>>, RulesError>
+) -> Result<Option<Vec<StraightMethod>>, AllocError>
     requires { AllByRecursion (IsMethod pool.now) (map member_of methods.now) }
     ensures { IfOk result (Finds methods_view (AreStraightMethods pool.now (map member_of methods.now))) }
 {
@@ -100,12 +99,12 @@ fn straight_methods(
     Ok(Some(found))
 }
 
-// The names of the methods, where all are straight as far as their code isn't looked at.
+// The names of the methods, where all are straight apart from their code, which isn't looked at.
 fn plain_names<'a>(
     alloc: Global,
     pool: &Pool<'a>,
     methods: &[MemberView<'_>],
-) -> Result<Option<Vec<&'a [u8]>>, RulesError>
+) -> Result<Option<Vec<&'a [u8]>>, AllocError>
     ensures { IfOk result (Finds names_view (ArePlainNames pool.now (map member_of methods.now))) }
 {
     let mut names = Vec::with_capacity(alloc, methods.len())?;
@@ -119,7 +118,7 @@ fn plain_names<'a>(
 }
 
 // Whether no two of the names are equal.
-fn names_differ(alloc: Global, names: &[&[u8]]) -> Result<bool, RulesError>
+fn names_differ(alloc: Global, names: &[&[u8]]) -> Result<bool, AllocError>
     ensures { IfOk result (λ differ. IsTrue differ ↔ AllDiffer (map now_of names.now)) }
 {
     let mut seen = BTreeSet::new(alloc);
@@ -137,7 +136,7 @@ pub fn distinct_methods(
     alloc: Global,
     pool: &Pool<'_>,
     methods: &[MemberView<'_>],
-) -> Result<Option<Vec<StraightMethod>>, RulesError>
+) -> Result<Option<Vec<StraightMethod>>, AllocError>
     requires { AllByRecursion (IsMethod pool.now) (map member_of methods.now) }
     ensures { IfOk result (Finds methods_view (AreDistinctMethods pool.now (map member_of methods.now))) }
 {

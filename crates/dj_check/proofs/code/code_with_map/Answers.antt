@@ -4,7 +4,7 @@ use Rattle.dj_labels.specs.declared.labelled.Labelling.{Labelling}
 use Rattle.dj_check.specs.Passes.{IsLabelling}
 use Rattle.dj_check.proofs.code.code_with_map.Goals as goal
 
-pub returns-in-Ok-None : goal.returns-in-Ok-None
-returns-in-Ok-None c =
+pub returns-in-None : goal.returns-in-None
+returns-in-None c =
     subst (λ (rows : List CatchRow). IsLabelling c.args.view.now.code.now rows None) c.as_slice.ensures
-    (subst (λ (found : Option Labelling). IsLabelling c.args.view.now.code.now c.as_slice.result.now found) c.in-Ok-None.field-0-is c.in-Ok-None.ensures)
+    (subst (λ (found : Option Labelling). IsLabelling c.args.view.now.code.now c.as_slice.result.now found) c.in-None.is c.in_ok-labelling.ensures)

@@ -1,10 +1,10 @@
-use Rattle.dj_check.specs.Gathered.{texts_of, IsOwnText}
+use Rattle.dj_check.specs.Gathered.{texts_of, HasText}
 use Rattle.dj_check.proofs.HeadLaws.{one_more_of, all_of}
 use Rattle.dj_check.proofs.heads.texts_at.Goals as goal
 
 pub loop-index-preserved : goal.loop-index-preserved
 loop-index-preserved c =
-    one_more_of (IsOwnText c.args.pool.now) c.args.indexes.now c.loop-index.index-index _ (texts_of c.loop-index.names.items) (texts_of c.add_text.new.names.items) c.loop-index-test.true c.loop-index.invariant c.in_ok-add_text.ensures
+    one_more_of (HasText c.args.pool.now) c.args.indexes.now c.loop-index.index-index _ (texts_of c.loop-index.names.items) (texts_of c.add_text.new.names.items) c.loop-index-test.true c.loop-index.invariant c.in_ok-add_text.ensures
 
 pub returns : goal.returns
-returns c = all_of (IsOwnText c.args.pool.now) c.args.indexes.now c.loop-index.index-index (texts_of c.loop-index.names.items) c.loop-index-test.false c.loop-index.invariant
+returns c = all_of (HasText c.args.pool.now) c.args.indexes.now c.loop-index.index-index (texts_of c.loop-index.names.items) c.loop-index-test.false c.loop-index.invariant

@@ -1,9 +1,7 @@
 use Rattle.std.proofs.Common.{◌≡◌, Bool, Some, sym, subst}
-use Rattle.std.proofs.lemmas.Result.{IfOk-weaker}
 use Rattle.dj_shape.specs.trusted.Rule.{signature_at}
 use Rattle.dj_image_rules.proofs.shaped.fault_of.Goals as goal
 
 pub returns : goal.returns
-returns c =
-    IfOk-weaker c.shape.result _ _ (λ fault is pool signature kinds described signs. is pool signature kinds described
-    (subst (λ (static : Bool). signature_at pool static c.args.parts.now.desc ≡ Some signature) (sym c.is_static.ensures) signs)) c.shape.ensures
+returns c = λ pool signature kinds described signs. c.in_ok-shape.ensures pool signature kinds described
+    (subst (λ (static : Bool). signature_at pool static c.args.parts.now.desc ≡ Some signature) (sym c.is_static.ensures) signs)

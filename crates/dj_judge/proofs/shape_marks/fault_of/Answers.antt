@@ -6,11 +6,11 @@ use Rattle.dj_shape.specs.trusted.Rule.{signature_at}
 use Rattle.dj_judge.proofs.ShapeLaws.{described, signed, fault_is}
 use Rattle.dj_judge.proofs.shape_marks.fault_of.Goals as goal
 
-pub returns-in-Ok : goal.returns-in-Ok
-returns-in-Ok c =
+pub returns : goal.returns
+returns c =
     let pool = c.args.pool.now in
     let method = member_of c.args.method.now in
     let signature = signed pool method c.requires.method c.requires.plain in
-    fault_is pool method c.args.code (parts_of c.code_of-read.result) c.requires.code c.code_of-read.ensures.code signature.0 signature.1 c.in-Ok.fault
-    (c.in-Ok.ensures pool signature.0 c.requires.kinds (described pool method c.requires.method)
+    fault_is pool method c.args.code (parts_of c.code_of-read.result) c.requires.code c.code_of-read.ensures.code signature.0 signature.1 c.in_ok-shape.field-0
+    (c.in_ok-shape.ensures pool signature.0 c.requires.kinds (described pool method c.requires.method)
     (subst (λ (static : Bool). signature_at pool static method.desc ≡ Some signature.0) (sym c.is_static.ensures) signature.1))

@@ -1,6 +1,6 @@
 use Rattle.std.proofs.Common.{◌≡◌, ◌+◌, ◌-◌, ◌<◌, ◌≤◌, ◌∷◌, ◌++◌, [], List, ℕ, length, ap, ◌∙◌, arith}
 use Rattle.std.proofs.lemmas.Result.{err_from_is_err_and}
-use Rattle.dj_bytes.specs.Options.{Fails}
+use Rattle.dj_bytes.specs.Options.{FailsRead}
 use Rattle.dj_names.specs.declared.descriptor.Ty.{Ty}
 use Rattle.dj_names.specs.trusted.Descriptors.{type_slots}
 use Rattle.dj_names.specs.trusted.DescReading.{params_read}
@@ -23,7 +23,7 @@ loop-preserved c =
 
 pub returns-in_err-ty : goal.returns-in_err-ty
 returns-in_err-ty c =
-    let fails : Fails (is_memory c.in_err-ty.field-0.0) (params_read (length c.args.bytes.now) 0 c.args.bytes.now) =
+    let fails : FailsRead (is_memory c.in_err-ty.field-0.0) (params_read (length c.args.bytes.now) 0 c.args.bytes.now) =
     read_fails c.in_err-ty.field-0.0 c.loop.params (length c.args.bytes.now) c.loop.counter c.loop.slots c.loop.rest.now (params_read (length c.args.bytes.now) 0 c.args.bytes.now) (omega arith) c.in_default.ensures.other c.in_err-ty.ensures c.loop.invariant.reads in
     let p = err_from_is_err_and c.from_residual.result c.from_residual.ensures.1 in
     rw (p.1, p.2) fails

@@ -14,8 +14,8 @@ returns-in-Passed-clause-asks g c =
     (g.F.Files.asked c.args.files.now) (g.F.Files.asked c.loop-path.files) (g.F.Files.asked c.read_next.new.files)
     c.loop-path-test.true c.path-item.is c.as_str.ensures.value c.loop-path.invariant.asked c.read_next.ensures.asks
 
-pub returns-in-Err-clause-asks : goal.returns-in-Err-clause-asks
-returns-in-Err-clause-asks g c =
+pub returns-in_err-push-in-Read-clause-asks : goal.returns-in_err-push-in-Read-clause-asks
+returns-in_err-push-in-Read-clause-asks g c =
     asked_prefix string_bytes c.args.paths.now c.loop-path.path-index c.path-item.result c.as_str.result.now
     (g.F.Files.asked c.args.files.now) (g.F.Files.asked c.loop-path.files) (g.F.Files.asked c.read_next.new.files)
     c.loop-path-test.true c.path-item.is c.as_str.ensures.value c.loop-path.invariant.asked c.read_next.ensures.asks
@@ -30,7 +30,7 @@ pub loop-path-preserved : goal.loop-path-preserved
 loop-path-preserved g c =
     let before = c.loop-path.invariant in
     let kept = read_within c.as_str.result.now c.loop-path.read.items c.push.new.self.items c.in-Read.file c.loop-path.total c.in_ok-limit.field-0
-    c.in-Ok.ensures.items before.within before.total c.in-Read.is c.in_ok-limit.ensures.read in
+    c.in_ok-push-in-Read.ensures.items before.within before.total c.in-Read.is c.in_ok-limit.ensures.read in
     record {
       held = c.read_next.ensures.held ∙ before.held;
       counted = omega (arith, before.counted, c.in_ok-limit.ensures.counts);
@@ -38,10 +38,10 @@ loop-path-preserved g c =
           (g.F.Files.asked c.args.files.now) (g.F.Files.asked c.loop-path.files) (g.F.Files.asked c.read_next.new.files)
           c.loop-path-test.true c.path-item.is c.as_str.ensures.value before.asked c.in_ok-limit.ensures.asked;
       paths = read_paths c.args.paths.now c.loop-path.path-index c.path-item.result c.as_str.result.now c.loop-path-test.true c.path-item.is c.as_str.ensures.value
-          c.loop-path.read.items c.push.new.self.items c.in-Read.file c.loop-path.total c.in_ok-limit.field-0 c.in-Ok.ensures.items before.paths c.in-Read.is c.in_ok-limit.ensures.read;
+          c.loop-path.read.items c.push.new.self.items c.in-Read.file c.loop-path.total c.in_ok-limit.field-0 c.in_ok-push-in-Read.ensures.items before.paths c.in-Read.is c.in_ok-limit.ensures.read;
       within = kept.0;
       total = ap (λ n. c.loop-path.total + length n) c.as_slice.ensures.value ∙ kept.1;
       reported = read_reported c.args.paths.now c.loop-path.path-index c.path-item.result c.as_str.result.now c.loop-path-test.true c.path-item.is c.as_str.ensures.value
           (g.F.Files.held c.args.files.now) (g.F.Files.held c.loop-path.files) c.loop-path.read.items c.push.new.self.items c.in-Read.file c.loop-path.total c.in_ok-limit.field-0
-          before.held c.in-Ok.ensures.items before.reported c.in-Read.is c.in_ok-limit.ensures.reported;
+          before.held c.in_ok-push-in-Read.ensures.items before.reported c.in-Read.is c.in_ok-limit.ensures.reported;
     }

@@ -2,7 +2,7 @@ use Rattle.std.proofs.Common.{◌<◌, IfSome, List, length, sym, subst}
 use Rattle.dj_classes.specs.Tables.{methods_at}
 use Rattle.dj_directory.specs.declared.rows.MemberRow.{MemberRow}
 use Rattle.dj_directory.specs.Numberings.{Numbering}
-use Rattle.dj_directory.specs.DirectoryRows.{IsReported}
+use Rattle.dj_directory.specs.DirectoryRows.{IsLeastOrNone}
 use Rattle.dj_directory.proofs.PlaceLaws.{IsFirstMethod, first_method, method_within}
 use Rattle.dj_directory.proofs.directory.Directory.method_in.Goals as goal
 
@@ -11,10 +11,10 @@ returns-clause-first c =
     subst (λ (d : Numbering). IsFirstMethod c.args.class c.args.name c.args.desc c.place_in.result d) c.self.view_is
     (first_method c.self.inside.table.now c.self.inside.numbers c.self.inside.methods.items c.self.inside.fields.items c.self.inside.first_methods.items c.self.inside.first_fields.items c.self.invariant c.args.class c.args.name c.args.desc c.place_in.result
     (subst (λ (d : Numbering). c.args.class < length d.program) (sym c.self.view_is) c.requires)
-    (subst (λ (rows : List MemberRow). IsReported rows c.args.name c.args.desc c.args.class c.place_in.result) c.deref.ensures.value c.place_in.ensures))
+    (subst (λ (rows : List MemberRow). IsLeastOrNone rows c.args.name c.args.desc c.args.class c.place_in.result) c.deref.ensures.value c.place_in.ensures))
 
 pub returns-clause-within : goal.returns-clause-within
 returns-clause-within c =
     subst (λ (d : Numbering). IfSome c.place_in.result (λ place. place < length (methods_at d.program c.args.class))) c.self.view_is
     (method_within c.self.inside.table.now c.self.inside.numbers c.self.inside.methods.items c.self.inside.fields.items c.self.inside.first_methods.items c.self.inside.first_fields.items c.self.invariant c.args.class c.args.name c.args.desc c.place_in.result
-    (subst (λ (rows : List MemberRow). IsReported rows c.args.name c.args.desc c.args.class c.place_in.result) c.deref.ensures.value c.place_in.ensures))
+    (subst (λ (rows : List MemberRow). IsLeastOrNone rows c.args.name c.args.desc c.args.class c.place_in.result) c.deref.ensures.value c.place_in.ensures))

@@ -1,6 +1,6 @@
 use Rattle.std.proofs.Common.{◌≡◌, ℕ, List, Option, Some, length, [], ap, sym, ◌∙◌, arith}
 use Rattle.dj_names.specs.declared.descriptor.Kind.{Kind}
-use Rattle.dj_straight.specs.trusted.Shape.{set_kind, without_long_before}
+use Rattle.dj_straight.specs.trusted.Shape.{set_kind, kinds_without_long_before}
 use Rattle.dj_straight.specs.Shaping.{Standing, room}
 use Rattle.dj_straight.proofs.Shaping.{seam, stored, not_stored, stored_past}
 use Rattle.dj_straight.proofs.shape.KindState.store.Goals as goal
@@ -26,5 +26,5 @@ returns-clause-stored c =
     (c.if-not-take.ensures.taken [] ∙ ap (λ (s : Standing). Some s.kinds.stack) (sym c.self-2.view_is))
     (omega (arith, ap (λ s. s.max_locals) c.self.view_is))
     (seam c.self-2.inside.locals.len c.store_kind.new.locals _ len ∙ c.store_kind.ensures
-    ∙ ap (λ (locals : List (Option Kind)). set_kind (without_long_before locals c.from-2.result) c.from-2.result kind) before
-    ∙ ap (λ (slot : ℕ). set_kind (without_long_before old.locals slot) slot kind) c.from-2.ensures)
+    ∙ ap (λ (locals : List (Option Kind)). set_kind (kinds_without_long_before locals c.from-2.result) c.from-2.result kind) before
+    ∙ ap (λ (slot : ℕ). set_kind (kinds_without_long_before old.locals slot) slot kind) c.from-2.ensures)
