@@ -52,6 +52,16 @@ impl<T: Drop> From<AllocFailed<T>> for EngineError {
     }
 }
 
+impl From<EngineError> for AllocError {
+    ghost use Rattle.std.specs.declared.alloc.AllocError.{AllocError};
+
+    ghost from_gives = { λ _ e. e ≡ record {} };
+
+    fn from(_error: EngineError) -> AllocError {
+        AllocError
+    }
+}
+
 /// What makes runs of programs.
 pub trait Engine {
     /// The costs and steps of its runs so far.

@@ -52,10 +52,8 @@ fn run_files<H: Host, E: Engine>(
     ensures gave { H.given host.new ≡ H.given host.old ++ given_since (H.given host.old) (H.given host.new) }
 {
     let image = image_of_files(alloc, files)?;
-    match run_image(alloc, &image, entry, input, steps, host, engine) {
-        Ok(ending) => Ok(report_of(ending)),
-        Err(_) => Err(AllocError),
-    }
+    let ending = run_image(alloc, &image, entry, input, steps, host, engine)?;
+    Ok(report_of(ending))
 }
 
 // The report on a run of the class of this name. Each file is under its path within the folder.
