@@ -54,15 +54,15 @@ def read_list(found, close):
 
 
 def read(found):
-    kind, told = found.pop(0)
+    kind, content = found.pop(0)
     if kind == "value":
-        return told
+        return content
     if kind == "mark":
-        return read_list(found, {"(": ")", "[": "]"}[told])
+        return read_list(found, {"(": ")", "[": "]"}[content])
     if found and found[0] == ("mark", "("):
         found.pop(0)
-        return [told, *read_list(found, ")")]
-    return None if told == "None" else told
+        return [content, *read_list(found, ")")]
+    return None if content == "None" else content
 
 
 def tables(name):
@@ -103,20 +103,20 @@ def units(text):
 
 def made(heap, values, argument):
     """The value of an argument, whose objects are made, first those that it holds."""
-    what, *told = argument if isinstance(argument, list) else [argument]
+    what, *parts = argument if isinstance(argument, list) else [argument]
     if what in ("Int", "Long"):
-        return told[0]
+        return parts[0]
     if what in ("Null", "Same"):
-        return values[told[0]] if told else 0
+        return values[parts[0]] if parts else 0
     if what == "Text":
-        return heap.put(native_calls.STRING, "Text", units(told[0]))
+        return heap.put(native_calls.STRING, "Text", units(parts[0]))
     if what == "Numbers":
-        return heap.put(*told)
+        return heap.put(*parts)
     if what == "References":
-        return heap.put(told[0], "Ref", [made(heap, values, item) for item in told[1]])
+        return heap.put(parts[0], "Ref", [made(heap, values, item) for item in parts[1]])
     if what == "Object":
-        return heap.put(told[0], "Instance", [0] * told[1])
-    name, text, rest = (told[0], told[1], [0]) if what == "Throwable" else (native_calls.BUILDER, told[0], [])
+        return heap.put(parts[0], "Instance", [0] * parts[1])
+    name, text, rest = (parts[0], parts[1], [0]) if what == "Throwable" else (native_calls.BUILDER, parts[0], [])
     first = made(heap, values, ["Text", text[1]]) if text else 0
     return heap.put(name, "Instance", [first, *rest])
 
@@ -125,9 +125,9 @@ def with_all(kind, row):
     """A row of any table as one of those that have all: the method, what is left, arguments, answer, bytes used, bytes charged, and an object."""
     if kind == "LimitedCall":
         return row
-    name, arguments, told, used, *after = row
+    name, arguments, wanted, used, *after = row
     used = [used, used] if kind == "AskedCall" else used
-    return [name, ENOUGH, arguments, told, used, used[1] - used[0], *(after or ["Any"])]
+    return [name, ENOUGH, arguments, wanted, used, used[1] - used[0], *(after or ["Any"])]
 
 
 def is_text(heap, number, text):
@@ -138,30 +138,29 @@ def is_after(heap, after):
     """Whether an object is what the row says."""
     if after == "Any":
         return True
-    what, number, *told = after
+    what, number, *wanted = after
     held = heap.at(number).held
     if what == "ElementsAre":
-        return held == told[0]
-    return is_text(heap, held[0], told[0]) and (what == "FirstIs" or held[1] == told[1])
+        return held == wanted[0]
+    return is_text(heap, held[0], wanted[0]) and (what == "FirstIs" or held[1] == wanted[1])
 
 
-def told_plainly(told):
+def with_units(answer):
     """An answer of a row, its text as units."""
-    told = told if isinstance(told, list) else [told]
-    return [*told[:2], units(told[2])] if told[0] == "GivesText" else told
+    parts = answer if isinstance(answer, list) else [answer]
+    return [*parts[:2], units(parts[2])] if parts[0] == "GivesText" else parts
 
 
 def misdone(kind, row):
     """How a call differs from its row."""
-    name, (most, limit), arguments, told, used, charged, after = with_all(kind, row)
+    name, (most, limit), arguments, wanted, used, charged, after = with_all(kind, row)
     heap, values = native_calls.Heap(), []
     for argument in arguments:
         values.append(made(heap, values, argument))
     machine = native_calls.Machine(above, component, heap, most and most[1], limit)
     before, answer = heap.used(), native_calls.called(machine, name, values)
     found = [list(answer), [before, heap.used()], machine.charged]
-    wanted = [told_plainly(told), used, charged]
-    if found != wanted:
+    if found != [with_units(wanted), used, charged]:
         return ["%r: %r is meant" % (row, found)]
     return [] if is_after(heap, after) else ["%r: the object is another one" % row]
 
@@ -181,32 +180,32 @@ ORDER = ["Alloc", "Invoke", "Jump", "Throw"]
 
 def amount(call):
     """What a call adds, and to which sum."""
-    what, *told = call if isinstance(call, list) else [call]
+    what, *numbers = call if isinstance(call, list) else [call]
     charge = CHARGES[what]
     if charge != "Alloc":
         return charge, 1
-    if min(told) < 0:
+    if min(numbers) < 0:
         return charge, 0
-    return charge, native_calls.array_size(*told, *([2] if what == "Text" else [])) if what != "Allocation" else told[0]
+    return charge, native_calls.array_size(*numbers, *([2] if what == "Text" else [])) if what != "Allocation" else numbers[0]
 
 
 def misanswered(sequence):
     """The steps of a sequence that aren't so."""
     thresholds, steps = sequence
     sums, exceeded, lines = [0, 0, 0, 0], None, []
-    for what, *told in steps:
+    for what, *parts in steps:
         if what in ("Fine", "Stop"):
-            charge, more = amount(told[0])
+            charge, more = amount(parts[0])
             at = ORDER.index(charge)
             if exceeded is None:
                 sums[at] += more
                 exceeded = charge if sums[at] > thresholds[at] else None
             is_so = (what == "Stop") == (exceeded is not None)
         elif what == "Costs":
-            is_so = told == sums
+            is_so = parts == sums
         else:
-            is_so = told == [exceeded and ["Some", exceeded]]
-        lines += [] if is_so else ["%r: %r is another" % (sequence, [what, *told])]
+            is_so = parts == [exceeded and ["Some", exceeded]]
+        lines += [] if is_so else ["%r: %r is another" % (sequence, [what, *parts])]
     return lines
 
 
@@ -228,13 +227,13 @@ def went(is_right, size, limit):
 
 
 def array_made(row):
-    (kind, length), limit, *told = row
-    return told == went(kind == "Int", native_calls.array_size(length, 4) if length >= 0 else None, limit)
+    (kind, length), limit, *wanted = row
+    return wanted == went(kind == "Int", native_calls.array_size(length, 4) if length >= 0 else None, limit)
 
 
 def object_made(row):
-    limit, fields, *told = row
-    return told == went(True, 16 + 8 * fields, limit)
+    limit, fields, *wanted = row
+    return wanted == went(True, 16 + 8 * fields, limit)
 
 
 def is_below(name, other):
@@ -243,17 +242,17 @@ def is_below(name, other):
 
 def cast(row):
     """Null is of each class."""
-    name, other, told = row
-    return told == (name is None or is_below(name[1], other))
+    name, other, wanted = row
+    return wanted == (name is None or is_below(name[1], other))
 
 
 def put(row):
-    name, declaring, kind, value, told = row
+    name, declaring, kind, value, wanted = row
     if name is None:
-        return told == ["Raised", "NullPointer"]
+        return wanted == ["Raised", "NullPointer"]
     if kind != value[0]:
-        return told == "Nowhere"
-    return told == ("Next" if is_below(name[1], declaring) else "Link")
+        return wanted == "Nowhere"
+    return wanted == ("Next" if is_below(name[1], declaring) else "Link")
 
 
 def check_objects(results):

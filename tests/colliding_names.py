@@ -2,7 +2,7 @@
 """The names of bench/colliding.txt, which collide in the table of texts of the assembler's pool.
 
 That table is an IndexSet of the toolchain's `indexmap`: groups of slots, nine texts a group on average. It takes 32 bits of a text's hash: the low
-ones say in which group a search begins, and the top eight are the tag by which texts of a group are told apart. A pool has at most 65,534 texts,
+ones say in which group a search begins, and the top eight are the tag by which texts of a group are distinguished. A pool has at most 65,534 texts,
 for which there are 8,192 groups, so that 13 low bits count. The hash is that of the toolchain's `FoldHasher`, whose seed is fixed. The names
 are the first 500 with seven letters, in the order of LETTERS, that have the tag 128 and begin in group 0: in smaller tables they begin in one group too.
 

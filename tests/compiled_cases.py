@@ -20,7 +20,7 @@ SOURCES = os.path.join(HERE, "javac", "source")
 RAW = os.path.join(HERE, "raw")
 EXAMPLES = os.path.join(os.path.dirname(HERE), "examples")
 
-# The options: with `-g` a class file tells all that it may of its source, and with `-g:none` nothing.
+# The options: with `-g` a class file says all that it may of its source, and with `-g:none` nothing.
 OPTIONS = (["-g:none"], ["-g"], [])
 # The examples with each option, below the folder of the examples and below its `source`.
 OF_EXAMPLES = {"-g:none": [("raw", "accepted"), ("raw", "clocks")], "": [("javac", "accepted"), ("javac", "rejected")]}
@@ -43,10 +43,10 @@ def sets(option):
 
 def has_javac():
     try:
-        told = subprocess.run(["javac", "-version"], stdout=subprocess.PIPE, stderr=subprocess.STDOUT).stdout
+        version = subprocess.run(["javac", "-version"], stdout=subprocess.PIPE, stderr=subprocess.STDOUT).stdout
     except OSError:
         return False
-    return told.startswith(b"javac 17.")
+    return version.startswith(b"javac 17.")
 
 
 def compiled(option, sources):

@@ -417,8 +417,8 @@ def name_of_check(drawn, report):
     # Where the words are wrong, the class files of all folders count.
     folder = "" if report.status == USAGE else drawn.words[1].rstrip("/") + "/"
     count = len([path for path in drawn.files if path.startswith(folder) and path.endswith(".class")])
-    told = {USAGE: "usage", 0: "accepted"}.get(report.status) or rule_words(report)
-    return "check-%s-%s-%s" % (count or "no", "file" if count == 1 else "files", told)
+    ending = {USAGE: "usage", 0: "accepted"}.get(report.status) or rule_words(report)
+    return "check-%s-%s-%s" % (count or "no", "file" if count == 1 else "files", ending)
 
 
 def name_of_fault(report):
@@ -429,10 +429,10 @@ def name_of_fault(report):
 
 def name_of_end(report):
     """How a run ended: the class of an exception, or how many bytes were returned, and what was charged."""
-    _, *told = report.lines[0].split(" ")
+    _, *parts = report.lines[0].split(" ")
     if report.status == EXCEPTION:
-        return re.sub(r"(?<!^)([A-Z])", r"-\1", told[0].rpartition("/")[2][: -len("Exception")]).lower()
-    made = {"null": "ok-null", "0": "ok-no-bytes", "1": "ok-1-byte"}.get(told[0], "ok-%s-bytes" % told[0])
+        return re.sub(r"(?<!^)([A-Z])", r"-\1", parts[0].rpartition("/")[2][: -len("Exception")]).lower()
+    made = {"null": "ok-null", "0": "ok-no-bytes", "1": "ok-1-byte"}.get(parts[0], "ok-%s-bytes" % parts[0])
     charged = report.lines[1].split(" ")[2]
     return made if charged == "0" else made + "-alloc-" + charged
 
@@ -440,8 +440,8 @@ def name_of_end(report):
 def name_of_verify(drawn, report):
     if report.status == REJECTED:
         return "verify-" + name_of_fault(report)
-    told = {USAGE: "usage", LATER: "later-" + drawn.more, THRESHOLD: "threshold"}.get(report.status)
-    return "verify-" + (told or name_of_end(report))
+    ending = {USAGE: "usage", LATER: "later-" + drawn.more, THRESHOLD: "threshold"}.get(report.status)
+    return "verify-" + (ending or name_of_end(report))
 
 
 def name_of(drawn, report):

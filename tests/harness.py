@@ -58,8 +58,8 @@ def tree(folder):
     for inside, folders, files in os.walk(os.fsencode(folder)):
         for name in folders + files:
             path = os.path.join(inside, name)
-            told = os.lstat(path)
-            found[path] = (told.st_mode, told.st_size, told.st_mtime_ns)
+            entry = os.lstat(path)
+            found[path] = (entry.st_mode, entry.st_size, entry.st_mtime_ns)
     return found
 
 

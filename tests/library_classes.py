@@ -64,8 +64,8 @@ def methods_of(name, more):
     if is_thrown(name):
         kinds += [(THROWN, 0), (WITH_CAUSE if name in CAUSED else "", 0)]
     found = {}
-    for told, flags in kinds:
-        for text in told.split():
+    for texts, flags in kinds:
+        for text in texts.split():
             method, parenthesis, rest = with_packages(text).partition("(")
             assert (method.encode(), (parenthesis + rest).encode()) not in found
             found[method.encode(), (parenthesis + rest).encode()] = flags

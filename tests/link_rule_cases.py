@@ -55,15 +55,15 @@ def of_class(pool, op, text):
     return uses(op, pool.class_name(text))
 
 
-def members(pool, **told):
+def members(pool, **named):
     """For each name a method with an instruction on a member, by an opcode, the member and a tag. None of them is such a member."""
-    assert not any(each[1].endswith(" %s ()V" % name) for name in told for each in told.values())
-    return [method(name, member(pool, *each), RETURN) for name, each in told.items()]
+    assert not any(each[1].endswith(" %s ()V" % name) for name in named for each in named.values())
+    return [method(name, member(pool, *each), RETURN) for name, each in named.items()]
 
 
-def classes(pool, **told):
+def classes(pool, **named):
     """For each name a method with an instruction on a class, by an opcode and the class."""
-    return [method(name, of_class(pool, *each), RETURN) for name, each in told.items()]
+    return [method(name, of_class(pool, *each), RETURN) for name, each in named.items()]
 
 
 def handled(pool, name, *catch_types, body=NOP + RETURN, flags=PUBLIC | STATIC):
@@ -73,10 +73,10 @@ def handled(pool, name, *catch_types, body=NOP + RETURN, flags=PUBLIC | STATIC):
     return method(name, body, POP, RETURN, handlers=[(0, len(body), len(body), index) for index in catch_types], listed=listed, flags=flags)
 
 
-def declared(name, *told, flags=PUBLIC | STATIC):
+def declared(name, *others, flags=PUBLIC | STATIC):
     """Methods with code, given as name and descriptor."""
     ends = {"V": RETURN, "I": instructions("iconst_0, ireturn"), "J": instructions("lconst_0, lreturn")}
-    parted = [(text[: text.index("(")], text[text.index("(") :]) for text in (name, *told)]
+    parted = [(text[: text.index("(")], text[text.index("(") :]) for text in (name, *others)]
     return [method(each, ends.get(text[-1], instructions("aconst_null, areturn")), flags=flags, descriptor=text) for each, text in parted]
 
 
@@ -180,7 +180,7 @@ def whole(text):
     return re.sub(r"L([A-Z]\w*);", r"Ljava/lang/\1;", text)
 
 
-def told(kinds):
+def each_member(kinds):
     """Each method as a member of its class."""
     for name, texts in kinds.items():
         for text in texts.split():
@@ -201,10 +201,10 @@ case(
     one(
         "A",
         pool,
-        method("near", *(makes(pool, text) for text in told(METHODS_OF) if "<init>" in text), RETURN),
-        method("nearObjects", *(member(pool, VIRTUAL, text) for text in told(METHODS_OF) if "<init>" not in text), RETURN),
-        method("nearStatics", *(member(pool, STATICALLY, text) for text in told(STATICS_OF)), RETURN),
-        method("nearInterfaces", *(member(pool, INTERFACE, text) for text in told(INTERFACES_OF)), RETURN),
+        method("near", *(makes(pool, text) for text in each_member(METHODS_OF) if "<init>" in text), RETURN),
+        method("nearObjects", *(member(pool, VIRTUAL, text) for text in each_member(METHODS_OF) if "<init>" not in text), RETURN),
+        method("nearStatics", *(member(pool, STATICALLY, text) for text in each_member(STATICS_OF)), RETURN),
+        method("nearInterfaces", *(member(pool, INTERFACE, text) for text in each_member(INTERFACES_OF)), RETURN),
     ),
 )
 pool = Pool()
@@ -441,9 +441,9 @@ case(
 ITS_ARGUMENT = instructions("aload_0, areturn")
 
 
-def first_class(*told, **more):
+def first_class(*called, **more):
     pool = Pool()
-    body = [member(pool, STATICALLY, text) for text in told]
+    body = [member(pool, STATICALLY, text) for text in called]
     return one("A", pool, method("verify", *body, ITS_ARGUMENT, descriptor="([B)[B"), **more)
 
 

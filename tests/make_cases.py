@@ -527,7 +527,7 @@ def outcome_of(inside, words):
         os.chdir(before)
 
 
-def told_lines(text):
+def lines_of_report(text):
     """The lines of a report as rule_cases.py writes them."""
     first, *lines = text.decode().splitlines()
     found = []
@@ -547,13 +547,13 @@ def make(target, name, files, words, folders):
         write(os.path.join(inside, folder, ".keep"), b"")
     text, status = outcome_of(inside, words)
     if name in rule_cases.found:
-        told, wanted = told_lines(text), list(rule_cases.found[name][1])
-        if sorted(told) != sorted(wanted):
-            sys.exit("%s: reported %s, wanted %s" % (name, sorted(set(told) - set(wanted)), sorted(set(wanted) - set(told))))
-    if (text, status) == (b"", reference.NO_RUN) or name in raw_cases.told:
+        reported, wanted = lines_of_report(text), list(rule_cases.found[name][1])
+        if sorted(reported) != sorted(wanted):
+            sys.exit("%s: reported %s, wanted %s" % (name, sorted(set(reported) - set(wanted)), sorted(set(wanted) - set(reported))))
+    if (text, status) == (b"", reference.NO_RUN) or name in raw_cases.runs:
         if status != reference.NO_RUN:
             sys.exit("%s: reported %r with status %d, and the case has a run" % (name, text, status))
-        text, status = raw_cases.told[name]
+        text, status = raw_cases.runs[name]
     write(os.path.join(top, "stdout"), text)
     write(os.path.join(top, "status"), b"%d\n" % status)
     return text, status

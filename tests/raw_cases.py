@@ -10,7 +10,7 @@ one = RETURNS_ITS_ARGUMENT
 
 found = {}
 # What a run writes, and its status, by the names of the cases. The others are those of reference.py.
-told = {}
+runs = {}
 
 RAW = ["raw", "c", "A", "in"]
 RETURNED = b"OK 2 0a0b\nsteps 2\n", 0
@@ -26,7 +26,7 @@ def case(name, files, entry="A", words=None, ran=None, folders=()):
     assert name not in found
     found[name] = ({**files, "in": b"\x0a\x0b"}, words or ["raw", "c", entry, "in"], folders)
     if ran is not None:
-        told[name] = ran
+        runs[name] = ran
 
 
 # Words.

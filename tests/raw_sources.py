@@ -125,7 +125,7 @@ computes(
     ],
 )
 
-# Jumps: a method for each, which tells whether it was taken.
+# Jumps: a method for each, which returns whether it was taken.
 
 TAKEN = "iconst_0, ireturn, Taken: {same} iconst_1, ireturn"
 OF_ONE = "ifeq ifne iflt ifge ifgt ifle".split()

@@ -255,21 +255,21 @@ def of_all_tags():
 def against_each_tag():
     """For each instruction a method with that instruction for each constant, and the lines of it."""
     pool, indexes = of_all_tags()
-    told, made = [], []
+    wanted, made = [], []
     for name, (op, fitting) in FITTING.items():
         body = []
         for number, (kind, index) in enumerate(indexes.items()):
             body.append(names(op, index, *([1, 0] if op == INTERFACE else [])))
             rule = DYNAMIC_OR_REFLECTIVE.get("%s %s" % (name, kind), 18)
-            told += [] if kind in fitting.split() else ["A %s()V %d %d" % (name, number, rule)]
+            wanted += [] if kind in fitting.split() else ["A %s()V %d %d" % (name, number, rule)]
         made.append(method(name, *body, RETURN))
     made += declared("n()V") + declared("m()V", flags=PUBLIC)
     files = one("A", pool, *made, fields=[("s", "I", STATIC), ("f", "I", 0)])
-    return files | {"I": class_file("I", [("m", "()V", ABSTRACTLY)], flags=AN_INTERFACE)}, told
+    return files | {"I": class_file("I", [("m", "()V", ABSTRACTLY)], flags=AN_INTERFACE)}, wanted
 
 
-files, told_lines = against_each_tag()
-case("18-tags", files, *told_lines)
+files, wanted = against_each_tag()
+case("18-tags", files, *wanted)
 pool = Pool()
 case(
     # Of what isn't the instruction's tag the class and the member count too: the library's lacks come first.
@@ -663,6 +663,6 @@ def with_long_name(files):
     return files | {"c/zz/Long.class": class_file("zz/Long", declared("m" * 201 + "()V", flags=PUBLIC), flags=A_CLASS | ABSTRACT)}
 
 
-for name, (files, told) in list(found.items()):
+for name, (files, wanted) in list(found.items()):
     if name.startswith("rule-18"):
-        found[name + "-numbered"] = (with_long_name(files), told)
+        found[name + "-numbered"] = (with_long_name(files), wanted)

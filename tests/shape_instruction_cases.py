@@ -312,7 +312,7 @@ of_members(
     Method("gives()D", "dconst_0, dreturn"),
     Method("arrays([F[[D)[F", "aconst_null, areturn"),
     fields=[("sF", "F", STATIC), ("fD", "D", 0), ("fFs", "[F", 0), ("sDs", "[[D", STATIC)],
-    told=[
+    other_lines=[
         *("A 12", "A sFF 12", "A fDD 12", "A fFs[F 12", "A sDs[[D 12", "A takes(F)V 12", "A gives()D 12", "A gives()D 0 12", "A gives()D 1 12"),
         "A arrays([F[[D)[F 12",
     ],

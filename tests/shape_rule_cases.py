@@ -13,11 +13,11 @@ from rule_cases import A_CLASS, AN_INTERFACE, NOP, RETURN, case, method
 from shaped_code import Method, made_all
 
 
-def shaped(name, *methods, files=(), told=(), **more):
+def shaped(name, *methods, files=(), other_lines=(), **more):
     """A case of a class A with these methods."""
     pool = Pool()
     made, lines = made_all(pool, methods)
-    case(name, {"A": class_file("A", made, pool=pool, **more), **dict(files)}, *lines, *told)
+    case(name, {"A": class_file("A", made, pool=pool, **more), **dict(files)}, *lines, *other_lines)
 
 
 # 1. The parameters fit in the local variables, and they alone are there before the first instruction.
@@ -159,7 +159,7 @@ shaped(
     # A frame with a float or a double is refused by rule 12, and then the method has no line of 19.
     Method("float", "pop, {stack float} return"),
     Method("double", "pop, {full double / } return"),
-    told=["A float()V 12", "A double()V 12"],
+    other_lines=["A float()V 12", "A double()V 12"],
 )
 pool = Pool()
 assert pool.text("StackMapTable") == 1
@@ -498,7 +498,7 @@ shaped(
     Method("finalize(I)V", "!pop, return"),
     Method("last", "!pop, pop, pop"),
     Method("near", "return"),
-    told=[
+    other_lines=[
         *("A 12", "A finalize()V 8", "A dynamic()V 1 9", "A reflection()V 0 10", "A getter()V 1 10", "A catch()V 2 11", "A floats(F)V 12"),
         *("A float()V 0 12", "A floatFrame()V 12", "A arrays()V 0 12", "A subroutine()V 0 13", "A breakpoint()V 0 14", "A matrix()V 0 15"),
         *("A whitelist()V 1 17", "A whitelistOfHandler()V 2 17", "A unresolved()V 1 18", "A unresolvedOfHandler()V 2 18"),
@@ -510,13 +510,13 @@ shaped(
 WRONG = Method("m", "!pop, return")
 
 
-def silent(name, files, *told):
+def silent(name, files, *lines):
     """A class that has a line of 19 elsewhere, and files with which none is asked of it."""
     made, _ = made_all(Pool(), [WRONG])
-    case("19-silent-by-" + name, {"A": class_file("A", made), **files}, *told)
+    case("19-silent-by-" + name, {"A": class_file("A", made), **files}, *lines)
 
 
-shaped("19-not-silent", WRONG, files={"B": class_file("B", [native("n")])}, told=["B n()V 7"])
+shaped("19-not-silent", WRONG, files={"B": class_file("B", [native("n")])}, other_lines=["B n()V 7"])
 silent("1", {"B": b""}, "B 1")
 silent("2", {"B": class_file("B", major=53)}, "B 2")
 silent("3", {"B": class_file("C")}, "B 3")
@@ -535,7 +535,7 @@ shaped(
     Method("<clinit>(I)V", "iload_0, pop, return", flags=STATIC),
     Method("m", "pop, return"),
     Method("n", "return", flags=PUBLIC),
-    told=["A m()V 16", "A n()V 16"],
+    other_lines=["A m()V 16", "A n()V 16"],
     flags=AN_INTERFACE,
 )
 shaped("19-initialisers", Method("<clinit>", "iconst_0, !pop2, return", flags=STATIC), Method("<init>", "aload_0, !pop2, return", flags=PUBLIC))
@@ -552,7 +552,7 @@ shaped(
     Method("h()LA (I)LB;", "aconst_null, !ireturn"),
     Method("i ()LA(I)LB;", "aconst_null, areturn"),
     Method("i()LA (I)LB;", "aconst_null, nop, !pop2, areturn"),
-    told=["A f()LA(I)LB; 0 14"],
+    other_lines=["A f()LA(I)LB; 0 14"],
 )
 
 # Of one method the first instruction that fails is reported, once.

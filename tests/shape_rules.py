@@ -178,18 +178,18 @@ class Shape:
 
     def add_frame(self, number, tag, lists, entries):
         before = entries if self.entries is None else self.entries
-        told = [[self.kind_of(*one) for one in types] for types in lists]
+        kinds = [[self.kind_of(*one) for one in types] for types in lists]
         stack = []
         if tag == 255:
-            locals, stack = told
+            locals, stack = kinds
         elif 248 <= tag <= 250:
             if 251 - tag > len(before):
                 raise NoShape
             locals = before[: len(before) - (251 - tag)]
         elif 252 <= tag <= 254:
-            locals = before + told[0]
+            locals = before + kinds[0]
         else:
-            locals, stack = before, [kind for types in told for kind in types]
+            locals, stack = before, [kind for types in kinds for kind in types]
         self.entries = locals
         filled = [slot for kind in locals for slot in slots(kind)]
         if len(filled) > self.code.max_locals or None in stack:
@@ -329,6 +329,6 @@ def check_flow(left, frame):
     check_locals(left[0], frame[0])
 
 
-def check_locals(locals, told):
-    if any(kind is not None and kind != local for local, kind in zip(locals, told)):
+def check_locals(locals, declared):
+    if any(kind is not None and kind != local for local, kind in zip(locals, declared)):
         raise NoShape

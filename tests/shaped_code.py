@@ -156,13 +156,13 @@ class Body:
         tag = {"same": 251, "stack": 247, "append": 251 + len(operands)}[form.rstrip("+")]
         return u1(tag) + u2(delta) + self.types(operands)
 
-    def types(self, told):
-        return b"".join(map(self.type, told))
+    def types(self, texts):
+        return b"".join(map(self.type, texts))
 
-    def type(self, told):
-        if told in TYPES:
-            return u1(TYPES[told])
-        kind, _, name = told.partition(":")
+    def type(self, text):
+        if text in TYPES:
+            return u1(TYPES[text])
+        kind, _, name = text.partition(":")
         return u1(8) + u2(self.address(name)) if kind == "new" else u1(7) + u2(self.pool.class_name(name or "java/lang/Object"))
 
     def attribute(self, stack, locals):

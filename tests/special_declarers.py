@@ -2,7 +2,7 @@
 A class names the members as those of each class and of each interface; what is wanted is what reference.py says.
 
 In a chain of classes few declare the members, so that the nearest one is farther than a short walk. Of the interfaces that have the method most
-have a private or a static one, which isn't found. Whether a member is static tells which one was found.
+have a private or a static one, which isn't found. Whether a member is static says which one was found.
 """
 
 import random
@@ -61,17 +61,17 @@ class Drawn:
 
     def user(self):
         """Names both members of all classes and interfaces but those beside them."""
-        pool, told = Pool(), {}
+        pool, named = Pool(), {}
         method, field = "%s " + self.names[0] + " ()V", "%s " + self.names[1] + " I"
         for name in self.classes:
-            told["static" + name] = STATICALLY, method % name
-            told["virtual" + name] = VIRTUAL, method % name
+            named["static" + name] = STATICALLY, method % name
+            named["virtual" + name] = VIRTUAL, method % name
         for name in self.faces:
-            told["face" + name] = INTERFACE, method % name
+            named["face" + name] = INTERFACE, method % name
         for name in self.classes + self.faces:
-            told["got" + name] = GETSTATIC, field % name
-            told["of" + name] = GETFIELD, field % name
-        return class_file("User", members(pool, **told), pool=pool)
+            named["got" + name] = GETSTATIC, field % name
+            named["of" + name] = GETFIELD, field % name
+        return class_file("User", members(pool, **named), pool=pool)
 
 
 def drawn_sets(program, results):

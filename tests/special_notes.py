@@ -16,7 +16,7 @@ from special_base import VERIFY, accepted, closed_pipe, full, link, one, rejecte
 LAUNCHER = os.path.join(os.path.dirname(os.path.dirname(os.path.abspath(__file__))), "djvm")
 
 
-def told(status, line, stdout=b""):
+def says_on_stderr(status, line, stdout=b""):
     return Outcome(status, stdout, b"djvm: " + line + b"\n")
 
 
@@ -45,63 +45,63 @@ def note_on_a_word_too_many():
 # What can't be read: its path, and why.
 
 
-@special("check", "c", wanted=told(65, b'"c/": No such file or directory (os error 2)'))
+@special("check", "c", wanted=says_on_stderr(65, b'"c/": No such file or directory (os error 2)'))
 def note_on_an_absent_folder():
     pass
 
 
-@special("check", "c\nd", wanted=told(65, rb'"c\nd/": No such file or directory (os error 2)'))
+@special("check", "c\nd", wanted=says_on_stderr(65, rb'"c\nd/": No such file or directory (os error 2)'))
 def note_on_a_name_of_two_lines():
     pass
 
 
-@special("check", "c", wanted=told(65, b'"c/": Not a directory (os error 20)'))
+@special("check", "c", wanted=says_on_stderr(65, b'"c/": Not a directory (os error 20)'))
 def note_on_a_file_for_a_folder():
     write("c")
 
 
-@special(wanted=told(65, b'"c/a": Permission denied (os error 13)'), as_nobody=True)
+@special(wanted=says_on_stderr(65, b'"c/a": Permission denied (os error 13)'), as_nobody=True)
 def note_on_an_unreadable_folder():
     write("c/A.class", one)
     os.mkdir("c/a", 0)
 
 
-@special(wanted=told(65, b'"c/B.class": Permission denied (os error 13)'), as_nobody=True)
+@special(wanted=says_on_stderr(65, b'"c/B.class": Permission denied (os error 13)'), as_nobody=True)
 def note_on_an_unreadable_file():
     write("c/A.class", one)
     write("c/B.class", class_file("B"))
     os.chmod("c/B.class", 0)
 
 
-@special(wanted=told(65, b'"c/X.class": No such file or directory (os error 2)'))
+@special(wanted=says_on_stderr(65, b'"c/X.class": No such file or directory (os error 2)'))
 def note_on_a_link_to_nothing():
     write("c/A.class", one)
     link("c/X.class", "none")
 
 
-@special(wanted=told(65, b"\"c/X.class\": it has a class file's name and is no file"))
+@special(wanted=says_on_stderr(65, b"\"c/X.class\": it has a class file's name and is no file"))
 def note_on_a_pipe():
     write("c/A.class", one)
     os.mkfifo("c/X.class")
 
 
-@special(wanted=told(65, b'"c%s": it has a folder at level 65, or there are more than 1048576 entries' % (b"/d" * 64)))
+@special(wanted=says_on_stderr(65, b'"c%s": it has a folder at level 65, or there are more than 1048576 entries' % (b"/d" * 64)))
 def note_on_65_levels():
     write("c" + "/d" * 65 + "/A.class", one)
 
 
-@special(*VERIFY, wanted=told(65, b'"in": No such file or directory (os error 2)'))
+@special(*VERIFY, wanted=says_on_stderr(65, b'"in": No such file or directory (os error 2)'))
 def note_on_an_absent_input():
     write("c/A.class", one)
 
 
-@special(*VERIFY, wanted=told(65, b'"in": Is a directory (os error 21)'))
+@special(*VERIFY, wanted=says_on_stderr(65, b'"in": Is a directory (os error 21)'))
 def note_on_a_folder_for_an_input():
     write("c/A.class", one)
     os.mkdir("in")
 
 
-@special("assemble", "t", wanted=told(65, b'"t": No such file or directory (os error 2)'))
+@special("assemble", "t", wanted=says_on_stderr(65, b'"t": No such file or directory (os error 2)'))
 def note_on_an_absent_text():
     pass
 
@@ -176,7 +176,7 @@ OUTPUTS = {
 for name, (output, cause) in OUTPUTS.items():
     make = functools.partial(write, "c/A.class", one)
     make.__name__ = "note_on_a_" + name.replace(" ", "_")
-    special(wanted=told(66, b"standard output: " + cause), stdout=output)(make)
+    special(wanted=says_on_stderr(66, b"standard output: " + cause), stdout=output)(make)
 
 
 # ./djvm ignores the signal that the system sends past a limit on the size of files, so there the status is 66 too.
@@ -189,7 +189,7 @@ def past_a_limit(results):
             outcome = harness.run(LAUNCHER, ["check", "c"], folder, stdout=output, before=takes_11_bytes)
             output.seek(0)
             outcome.stdout = output.read()
-    wanted = told(66, b"standard output: File too large (os error 27)", b"REJECTED 1\n")
+    wanted = says_on_stderr(66, b"standard output: File too large (os error 27)", b"REJECTED 1\n")
     results.add("tests/special: ./djvm past a limit on the size of files", ["check", "c"], harness.difference(wanted, outcome))
 
 

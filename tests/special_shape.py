@@ -136,7 +136,7 @@ class WithShape(Drawn):
 
     def local(self):
         """A load or iinc of one that has a kind, or a store."""
-        told = [slot for slot, kind in enumerate(self.locals) if kind]
+        loadable = [slot for slot, kind in enumerate(self.locals) if kind]
         if self.stack and self.size >= room(self.stack[-1]) and self.draw.random() < 0.6:
             kind = self.stack.pop()
             slot = self.draw.randint(0, self.size - room(kind))
@@ -144,8 +144,8 @@ class WithShape(Drawn):
             if slot > 0 and self.locals[slot - 1] == "L":
                 self.locals[slot - 1] = None
             self.locals[slot : slot + room(kind)] = slots(kind)
-        elif told:
-            slot = self.draw.choice(told)
+        elif loadable:
+            slot = self.draw.choice(loadable)
             kind = self.locals[slot]
             if kind == "I" and self.draw.random() < 0.3:
                 self.add("iinc %d 1" % slot)
@@ -202,21 +202,21 @@ class WithShape(Drawn):
         self.ahead = [label], self.form(entries_of(self.locals), stack)
 
     def form(self, entries, stack):
-        before, told = self.entries, self.told(entries)
+        before, types = self.entries, self.types_for(entries)
         while entries and entries[-1] is None and self.draw.random() < 0.7:
-            entries, told = entries[:-1], told[:-1]
-        self.entries, forms = entries, ["full %s / %s" % (" ".join(told), " ".join(self.told(stack)))]
+            entries, types = entries[:-1], types[:-1]
+        self.entries, forms = entries, ["full %s / %s" % (" ".join(types), " ".join(self.types_for(stack)))]
         fewer = len(before) - len(entries)
         if entries == before and len(stack) <= 1:
             plus = self.draw.choice(["", "+"])
-            forms += ["stack%s %s" % (plus, self.told(stack)[0]) if stack else "same" + plus] * 3
+            forms += ["stack%s %s" % (plus, self.types_for(stack)[0]) if stack else "same" + plus] * 3
         if 1 <= fewer <= 3 and not stack and before[: len(entries)] == entries:
             forms += ["chop %d" % fewer] * 3
         if 1 <= -fewer <= 3 and not stack and entries[: len(before)] == before:
-            forms += ["append " + " ".join(told[len(before) :])] * 3
+            forms += ["append " + " ".join(types[len(before) :])] * 3
         return self.draw.choice(forms)
 
-    def told(self, kinds):
+    def types_for(self, kinds):
         return [self.draw.choice(TYPES[kind]) for kind in kinds]
 
     # A handler comes after all else.
@@ -263,8 +263,8 @@ def entries_of(locals):
     return found
 
 
-def flows(locals, told):
-    return all(kind is None or kind == local for local, kind in zip(locals, told))
+def flows(locals, declared):
+    return all(kind is None or kind == local for local, kind in zip(locals, declared))
 
 
 # Changes.
@@ -277,9 +277,9 @@ ANY_TYPES = ["top", "int", "long", "null", "this", "ref"]
 
 def any_frame(draw, labels=()):
     types = [*ANY_TYPES, *("new:" + label for label in labels[:1])]
-    told = [draw.choice(types) for _ in range(3)]
-    forms = ["same", "same", "stack " + told[0], "chop 1", "chop 2", "append " + told[0], "append %s %s" % tuple(told[:2]), "full /"]
-    return draw.choice([*forms, "full %s / " % told[0], "full %s %s / %s" % tuple(told), "full / %s %s" % tuple(told[:2])])
+    three = [draw.choice(types) for _ in range(3)]
+    forms = ["same", "same", "stack " + three[0], "chop 1", "chop 2", "append " + three[0], "append %s %s" % tuple(three[:2]), "full /"]
+    return draw.choice([*forms, "full %s / " % three[0], "full %s %s / %s" % tuple(three), "full / %s %s" % tuple(three[:2])])
 
 
 def change(drawn):

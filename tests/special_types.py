@@ -1,6 +1,6 @@
 """What the types of the readers refuse before anything is proved: a view that is kept longer than the bytes that it was read from.
 
-`rt try` compiles a program over the readers without a proof. It must tell an error of borrowing in each function that keeps a
+`rt try` compiles a program over the readers without a proof. It must report an error of borrowing in each function that keeps a
 view of its own bytes, and no error in those between them, which lend the bytes from their caller.
 """
 

@@ -129,9 +129,9 @@ def used(text):
     if not member:
         return ", ".join([*takes, text, "pop"])
     descriptor, is_put = member[1], name.startswith("put")
-    told = parameters(descriptor) if "(" in descriptor else [descriptor] if is_put else []
+    arguments = parameters(descriptor) if "(" in descriptor else [descriptor] if is_put else []
     result = "V" if is_put else descriptor[descriptor.rfind(")") + 1]
-    return ", ".join([*takes, *(PUSHES.get(each[0], "iconst_0") for each in told), text, *POPS.get(result, ["pop"])])
+    return ", ".join([*takes, *(PUSHES.get(each[0], "iconst_0") for each in arguments), text, *POPS.get(result, ["pop"])])
 
 
 def uses(head, *texts, **more):

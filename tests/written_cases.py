@@ -49,8 +49,8 @@ def misreported(case):
 
 def misnamed(case):
     """The rules of the name, as in `rule-13-14-15`, that the report hasn't; a number after a word isn't one."""
-    told = re.search(r"(?:^|-)rule((?:-\d+)+)", case.name)
-    return ["no line has rule %s" % rule for rule in (told[1][1:].split("-") if told else []) if rule not in case.rules]
+    match = re.search(r"(?:^|-)rule((?:-\d+)+)", case.name)
+    return ["no line has rule %s" % rule for rule in (match[1][1:].split("-") if match else []) if rule not in case.rules]
 
 
 def mismade(case):

@@ -372,7 +372,7 @@ check(
     },
 )
 
-# How many constants are told, and their tags.
+# The count of constants, and their tags.
 
 
 def counted(name, count, *before):

@@ -233,9 +233,9 @@ check(
 A_CLASS, AN_INTERFACE = 0x21, 0x601
 
 
-def below(flags, **told):
+def below(flags, **parents):
     files = {}
-    for name, text in told.items():
+    for name, text in parents.items():
         above, *interfaces = text.split()
         files[name] = class_file(name, interfaces=interfaces, flags=flags, super_name={".": OBJECT, "0": None}.get(above, above))
     return files
