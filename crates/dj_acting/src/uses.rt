@@ -17,17 +17,17 @@ pub enum FieldUse {
 #[derive(Clone, Copy)]
 pub enum ClassUse {
     New,
-    /// Of which it makes an array.
+    /// It makes an array of the class.
     NewArray,
     Cast,
     Instance,
     /// It isn't run.
     Other,
-    /// It names none.
+    /// It names no class.
     Plain,
 }
 
-/// By the opcode.
+/// What an instruction does with a field, by its opcode.
 pub fn field_use(instr: &Instr) -> FieldUse
     ensures { result ≡ field_use instr.now }
 {
@@ -49,7 +49,7 @@ fn field_use_of(op: u8) -> FieldUse
     }
 }
 
-/// By the opcode.
+/// What an instruction does with a class, by its opcode.
 pub fn class_use(instr: &Instr) -> ClassUse
     ensures { result ≡ class_use instr.now }
 {

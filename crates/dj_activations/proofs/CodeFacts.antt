@@ -3,6 +3,7 @@ use Rattle.std.proofs.Common.{◌≡◌, ℕ, [], ◌∷◌, Some, None, refl, s
 use Rattle.std.proofs.lemmas.Option.{none-some, same_Some}
 use Rattle.dj_names.specs.trusted.Types.{Name}
 use Rattle.dj_ops.specs.declared.instruction.Instr.TheVariants as instrs
+use Rattle.dj_ops.specs.Mnemonics.{nop}
 use Rattle.dj_model.specs.trusted.Types.{no_parameters}
 use Rattle.dj_model.specs.trusted.Program.{Class, Method, Body, Abstract, Runs, Code, code_of}
 use Rattle.dj_program.specs.trusted.Codes.{code_in}
@@ -19,7 +20,7 @@ abbrev own : ℕ → MethodCode
 own stack = record {
   max_stack = stack;
   max_locals = 0;
-  code = record { code = instrs.Simple 0 ∷ []; ranges = [] };
+  code = record { code = instrs.Simple nop ∷ []; ranges = [] };
   frames = Some [];
 }
 

@@ -4,6 +4,7 @@ use Rattle.std.proofs.Math.Facts.{sfits_lit}
 use Rattle.std.proofs.lemmas.Int.{ints}
 use Rattle.dj_ops.specs.declared.instruction.Instr.TheVariants as instrs
 use Rattle.dj_ops.specs.trusted.Forms.{form_of}
+use Rattle.dj_ops.specs.Mnemonics.{nop, goto, return}
 use Rattle.dj_labels.specs.declared.labelled.Labelled.{Labelled}
 use Rattle.dj_layout.specs.declared.laid.Laid.{Laid}
 use Rattle.dj_layout.specs.trusted.Layouts.{IsLaidOut}
@@ -24,17 +25,17 @@ e = codes "e"
 -- nop, and at `a` a jump to itself in a range up to the end `e`, with a frame, and return, with another
 abbrev body : List Line
 body =
-    Does (Plain 0) ∷ Beside (Marked a) ∷ Framed Same ∷ Does (Jump 167 a) ∷ Framed Same ∷ Does (Plain 177) ∷ Beside (Marked e)
+    Does (Plain nop) ∷ Beside (Marked a) ∷ Framed Same ∷ Does (Jump goto a) ∷ Framed Same ∷ Does (Plain return) ∷ Beside (Marked e)
     ∷ Beside (Catch (Some (codes "T")) a e a) ∷ []
 
 abbrev labelled : Labelled
 labelled = record {
-  code = instrs.Simple 0 ∷ instrs.Branch 167 (pos 1) ∷ instrs.Simple 177 ∷ [];
+  code = instrs.Simple nop ∷ instrs.Branch goto (pos 1) ∷ instrs.Simple return ∷ [];
   ranges = record { start = 1; end = 3; handler = 1; catch_type = 2 } ∷ [];
 }
 
 abbrev laid : Laid
-laid = record { code = 0 ∷ 167 ∷ 0 ∷ 0 ∷ 177 ∷ []; starts = 0 ∷ 1 ∷ 4 ∷ []; table = record { start = 1; end = 5; handler = 1; catch_type = 2 } ∷ [] }
+laid = record { code = nop ∷ goto ∷ 0 ∷ 0 ∷ return ∷ []; starts = 0 ∷ 1 ∷ 4 ∷ []; table = record { start = 1; end = 5; handler = 1; catch_type = 2 } ∷ [] }
 
 laid_out : IsLaidOut labelled laid
 unfolding form_of
@@ -66,7 +67,7 @@ is_code : IsCodeOf (places_of (index_of (stack_map_name ∷ Class (codes "T") �
     (record {
       max_stack = 2;
       max_locals = 3;
-      code = 0 ∷ 167 ∷ 0 ∷ 0 ∷ 177 ∷ [];
+      code = nop ∷ goto ∷ 0 ∷ 0 ∷ return ∷ [];
       table = record { start = 1; end = 5; handler = 1; catch_type = 2 } ∷ [];
       attributes = record { name = 1; body = 0 ∷ 2 ∷ 1 ∷ 2 ∷ [] } ∷ [];
     })

@@ -2,6 +2,7 @@
 use Rattle.std.proofs.Common.{◌≡◌, pos, List, [], ◌∷◌, Some, None, codes, refl, arith}
 use Rattle.dj_ops.specs.declared.instruction.Instr.TheVariants as instrs
 use Rattle.dj_ops.specs.trusted.Forms.{form_of}
+use Rattle.dj_ops.specs.Mnemonics.{aload_0, areturn}
 use Rattle.dj_labels.specs.declared.labelled.Labelled.{Labelled}
 use Rattle.dj_layout.specs.declared.laid.Laid.{Laid}
 use Rattle.dj_layout.specs.trusted.Layouts.{IsLaidOut}
@@ -26,14 +27,14 @@ straight = record {
   super = codes "java/lang/Object";
   interfaces = [];
   fields = [];
-  methods = Coded 9 (codes "verify") (codes "([B)[B") (pos 1) (pos 1) (Step (Plain 42) ∷ Step (Plain 176) ∷ []) ∷ [];
+  methods = Coded 9 (codes "verify") (codes "([B)[B") (pos 1) (pos 1) (Step (Plain aload_0) ∷ Step (Plain areturn) ∷ []) ∷ [];
 }
 
 abbrev labelled : Labelled
-labelled = record { code = instrs.Simple 42 ∷ instrs.Simple 176 ∷ []; ranges = [] }
+labelled = record { code = instrs.Simple aload_0 ∷ instrs.Simple areturn ∷ []; ranges = [] }
 
 abbrev laid : Laid
-laid = record { code = 42 ∷ 176 ∷ []; starts = 0 ∷ 1 ∷ []; table = [] }
+laid = record { code = aload_0 ∷ areturn ∷ []; starts = 0 ∷ 1 ∷ []; table = [] }
 
 laid_out : IsLaidOut labelled laid
 unfolding form_of
@@ -58,9 +59,9 @@ laid_out = record {
 }
 
 abbrev code : CodeInfo
-code = record { max_stack = 1; max_locals = 1; code = 42 ∷ 176 ∷ []; table = []; attributes = [] }
+code = record { max_stack = 1; max_locals = 1; code = aload_0 ∷ areturn ∷ []; table = []; attributes = [] }
 
-is_code : IsCodeOf (places_of (index_in straight) (body_lines (Step (Plain 42) ∷ Step (Plain 176) ∷ []))) (pos 1) (pos 1) (body_lines (Step (Plain 42) ∷ Step (Plain 176) ∷ [])) code
+is_code : IsCodeOf (places_of (index_in straight) (body_lines (Step (Plain aload_0) ∷ Step (Plain areturn) ∷ []))) (pos 1) (pos 1) (body_lines (Step (Plain aload_0) ∷ Step (Plain areturn) ∷ [])) code
 unfolding frames_in
 is_code = record { labelled = labelled; instructions = (refl, (refl, tt)); ranges = refl; laid = laid; laid_out = laid_out; code_is = refl }
 

@@ -102,7 +102,7 @@ fn large_at(read: &SourceLines<'_>, place: usize) -> AsmError
     }
 }
 
-/// The class file of the lines of a text, or the fault of the line at the place, which is the first that is too large, where there is one.
+/// The class file of the lines of a text. Where a line is too large, `first` is the place of the first such line, and that line's fault is the answer.
 fn file_or_fault(
     alloc: Global,
     read: &SourceLines<'_>,

@@ -80,13 +80,13 @@ fn begins_code(lines: &[Line<'_>]) -> bool
     ensures { result ≡ begins_code (map line_view lines.now) }
 {
     match lines {
-        [first, ..] => is_method(first),
+        [first, ..] => begins_method_with_code(first),
         [] => false,
     }
 }
 
 /// Whether a method with code begins with the line.
-fn is_method(line: &Line<'_>) -> bool
+fn begins_method_with_code(line: &Line<'_>) -> bool
     ensures { result ≡ begins_code (line_view line.now ∷ []) }
 {
     match line {

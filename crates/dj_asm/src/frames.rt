@@ -12,7 +12,7 @@ ghost use Rattle.dj_asm.specs.CodeBodies.{framed};
 
 use dj_entries::PoolBuilder;
 use dj_ops::{Form, Frame as OpsFrame, Frames, VType, VTypes};
-use dj_source::{Frame, FrameType, Line, MethodLabels, SimpleType};
+use dj_source::{Frame, FrameType, Line, MethodLabels, SimpleType, is_instruction};
 use std::alloc::{AllocError, Global};
 
 /// The type that a word names.
@@ -111,28 +111,6 @@ fn push_line(
         | Line::Catch { .. }
         | Line::Does(_)
         | Line::End => Ok(()),
-    }
-}
-
-/// Whether a line is an instruction.
-fn is_instruction(line: &Line<'_>) -> bool
-    ensures { result ≡ is_instruction (line_view line.now) }
-{
-    match line {
-        Line::Does(_) => true,
-        Line::Class { .. }
-        | Line::Version { .. }
-        | Line::Super(_)
-        | Line::Implements(_)
-        | Line::Field { .. }
-        | Line::Abstract { .. }
-        | Line::Method { .. }
-        | Line::Stack(_)
-        | Line::Locals(_)
-        | Line::Label(_)
-        | Line::Catch { .. }
-        | Line::Frame(_)
-        | Line::End => false,
     }
 }
 

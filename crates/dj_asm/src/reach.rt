@@ -9,7 +9,7 @@ ghost use Rattle.dj_source.specs.LineViews.{line_view};
 ghost use Rattle.dj_asm.specs.Judging.{IsFirstOf, is_near, reaches, target, is_reached, is_wide_line, is_wide, wide_code};
 
 use crate::sizes::{half_of, starts_of};
-use dj_source::{Line, MethodLabels, Operation, Pair, Word};
+use dj_source::{Line, MethodLabels, Operation, Pair, Word, is_instruction};
 use std::alloc::{AllocError, Global};
 
 // The most bytes of a method's code (JVMS 4.7.3, code_length).
@@ -136,28 +136,6 @@ fn is_wide_line(
         | Line::Label(_)
         | Line::Catch { .. }
         | Line::Frame(_) => false,
-    }
-}
-
-/// Whether a line is an instruction.
-fn is_instruction(line: &Line<'_>) -> bool
-    ensures { result ≡ is_instruction (line_view line.now) }
-{
-    match line {
-        Line::Does(_) => true,
-        Line::Class { .. }
-        | Line::Version { .. }
-        | Line::Super(_)
-        | Line::Implements(_)
-        | Line::Field { .. }
-        | Line::Abstract { .. }
-        | Line::Method { .. }
-        | Line::Stack(_)
-        | Line::Locals(_)
-        | Line::Label(_)
-        | Line::Catch { .. }
-        | Line::Frame(_)
-        | Line::End => false,
     }
 }
 

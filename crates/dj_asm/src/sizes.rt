@@ -55,13 +55,10 @@ fn size_at(at: u64, operation: &Operation<'_>) -> Option<u64>
 fn end_after(at: u64, operation: &Operation<'_>) -> Result<u64, AllocError>
     ensures { IfOk result (λ next. next ≡ at + size_at at (operation_view operation.now)) }
 {
-    match size_at(at, operation) {
-        Some(size) => match at.checked_add(size) {
-            Some(next) => Ok(next),
-            None => Err(AllocError),
-        },
-        None => Err(AllocError),
-    }
+    let Some(size) = size_at(at, operation) else {
+        return Err(AllocError);
+    };
+    at.checked_add(size).ok_or(AllocError)
 }
 
 /// What a line does.

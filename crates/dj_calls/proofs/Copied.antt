@@ -74,11 +74,11 @@ module _ (program : Program) (prefix : Prefix) (types : List Ty) (h new : Limite
   patched_long : length patched ≡ length is.target.contents
   patched_long =
       let within = is.target.within in
-      let front : length (take copy.to is.target.contents) ≡ copy.to = length-take-le copy.to is.target.contents (omega (arith, within)) in
+      let first : length (take copy.to is.target.contents) ≡ copy.to = length-take-le copy.to is.target.contents (omega (arith, within)) in
       let both = length-append (take copy.to is.target.contents) taken in
       let all = length-append (take copy.to is.target.contents ++ taken) (drop (copy.to + n) is.target.contents) in
       let rest = length-drop (copy.to + n) is.target.contents in
-      omega (arith, within, few, front, both, all, rest, taken_long)
+      omega (arith, within, few, first, both, all, rest, taken_long)
 
   abbrev after : LimitedHeap
   after = record h { heap = with_object h.heap copy.target (Array is.target.class element patched) }

@@ -46,9 +46,9 @@ prefix_of : (n : ℕ) (rest : List ℕ) → take n (replicate n 91 ++ rest) ≡ 
 prefix_of zero rest = refl
 prefix_of (suc n) rest = ap (λ l. 91 ∷ l) (prefix_of n rest)
 
-take_prefix : (front rest : List ℕ) → take (length front) (front ++ rest) ≡ front
+take_prefix : (first rest : List ℕ) → take (length first) (first ++ rest) ≡ first
 take_prefix [] rest = refl
-take_prefix (x ∷ front) rest = ap (λ l. x ∷ l) (take_prefix front rest)
+take_prefix (x ∷ first) rest = ap (λ l. x ∷ l) (take_prefix first rest)
 
 -- ---- elements
 

@@ -96,7 +96,7 @@ impl Accounter {
         self.add(Charge::Alloc, text_bytes(u64::from(units)))
     }
 
-    /// The sums.
+    /// What was charged so far, a sum for each kind of charge.
     pub fn costs(&self) -> Costs
         ensures { result ≡ self.now.account.costs }
     {

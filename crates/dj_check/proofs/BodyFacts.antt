@@ -2,6 +2,7 @@
 use Rattle.std.proofs.Common.{◌≡◌, ℕ, ◌+◌, ◌*◌, ◌^◌, ◌<◌, List, [], ◌∷◌, get_or, refl, sym, ap, subst, inl, inr, arith, codes, pos, Some}
 use Rattle.dj_ops.specs.declared.instruction.Instr.TheVariants as instrs
 use Rattle.dj_ops.specs.trusted.Forms.{form_of}
+use Rattle.dj_ops.specs.Mnemonics.{return}
 use Rattle.dj_bytes.specs.trusted.Spelling.{u2}
 use Rattle.dj_pool.specs.trusted.Pool.{Constant, Utf8, Integer, Class, constant_at}
 use Rattle.dj_class.specs.trusted.ClassFile.{AttributeInfo, MemberInfo}
@@ -24,7 +25,7 @@ attribute name body = record { name = name; body = body }
 
 -- the instruction return alone
 returns : List AttributeInfo → CodeInfo
-returns attributes = record { max_stack = 0; max_locals = 1; code = 177 ∷ []; table = []; attributes = attributes }
+returns attributes = record { max_stack = 0; max_locals = 1; code = return ∷ []; table = []; attributes = attributes }
 
 map-of : AttributeInfo
 map-of = attribute 2 (0 ∷ 0 ∷ [])
@@ -68,9 +69,9 @@ mapped-twice-is = record {
 }
 
 labelled : Labelled
-labelled = record { code = instrs.Simple 177 ∷ []; ranges = [] }
+labelled = record { code = instrs.Simple return ∷ []; ranges = [] }
 
-plain-labelled : IsLabelled (177 ∷ []) [] labelled
+plain-labelled : IsLabelled (return ∷ []) [] labelled
 unfolding labelled form_of
 plain-labelled = record {
   starts = 0 ∷ [];

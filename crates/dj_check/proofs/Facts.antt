@@ -6,6 +6,7 @@ use Rattle.dj_names.specs.declared.descriptor.Ty.{Ty}
 use Rattle.dj_names.specs.declared.descriptor.Desc.TheVariants as descs
 use Rattle.dj_ops.specs.declared.instruction.Instr.TheVariants as instrs
 use Rattle.dj_ops.specs.declared.frames.VType.TheVariants as types
+use Rattle.dj_ops.specs.Mnemonics.{nop, ldc, ldc_w, ldc2_w, iload, fload, iadd, fadd, goto, jsr, ret, invokevirtual, anewarray, goto_w, jsr_w, breakpoint}
 use Rattle.dj_pool.specs.trusted.Pool.{Constant, Utf8, Integer, Float, Long, Double, Class, Text, Method, NameAndType, Handle, MethodType}
 use Rattle.dj_class.specs.trusted.ClassFile.{AttributeInfo, MemberInfo, ClassFile}
 use Rattle.dj_check.specs.trusted.Opcodes.{is_float_op, is_float_base, is_short_literal, is_subroutine_jump}
@@ -41,54 +42,54 @@ float_bases = refl
 short_literals : map is_short_literal (17 ∷ 18 ∷ 19 ∷ 20 ∷ []) ≡ false ∷ true ∷ true ∷ false ∷ []
 short_literals = refl
 
-subroutine_jumps : map is_subroutine_jump (167 ∷ 168 ∷ 169 ∷ 200 ∷ 201 ∷ 202 ∷ []) ≡ false ∷ true ∷ false ∷ false ∷ true ∷ false ∷ []
+subroutine_jumps : map is_subroutine_jump (goto ∷ jsr ∷ ret ∷ goto_w ∷ jsr_w ∷ 202 ∷ []) ≡ false ∷ true ∷ false ∷ false ∷ true ∷ false ∷ []
 subroutine_jumps = refl
 
 -- ---- instructions
 
-float-instrs : IsFloat pool (instrs.Simple 98) × IsFloat pool (instrs.Local 23 0 true) × IsFloat pool (instrs.Array 7) × IsFloat pool (instrs.Literal 18 11)
+float-instrs : IsFloat pool (instrs.Simple fadd) × IsFloat pool (instrs.Local fload 0 true) × IsFloat pool (instrs.Array 7) × IsFloat pool (instrs.Literal ldc 11)
 unfolding pool
 float-instrs = (refl, refl, refl, tt)
 
-float-instrs_not : (IsFloat pool (instrs.Simple 96) → ⊥) × (IsFloat pool (instrs.Array 8) → ⊥) × (IsFloat pool (instrs.Literal 18 12) → ⊥)
+float-instrs_not : (IsFloat pool (instrs.Simple iadd) → ⊥) × (IsFloat pool (instrs.Array 8) → ⊥) × (IsFloat pool (instrs.Literal ldc 12) → ⊥)
 unfolding pool
 float-instrs_not = (λ e. absurd cc, λ e. absurd cc, λ is. is)
 
-subroutines : IsSubroutine pool (instrs.Branch 168 (pos 0)) × IsSubroutine pool (instrs.Branch 201 (pos 0)) × IsSubroutine pool (instrs.Local 169 1 false) × IsSubroutine pool (instrs.Local 169 1 true)
+subroutines : IsSubroutine pool (instrs.Branch jsr (pos 0)) × IsSubroutine pool (instrs.Branch jsr_w (pos 0)) × IsSubroutine pool (instrs.Local ret 1 false) × IsSubroutine pool (instrs.Local ret 1 true)
 subroutines = (refl, refl, refl, refl)
 
-subroutines_not : (IsSubroutine pool (instrs.Branch 167 (pos 0)) → ⊥) × (IsSubroutine pool (instrs.Local 21 1 true) → ⊥)
+subroutines_not : (IsSubroutine pool (instrs.Branch goto (pos 0)) → ⊥) × (IsSubroutine pool (instrs.Local iload 1 true) → ⊥)
 subroutines_not = (λ e. absurd cc, λ e. absurd (omega arith))
 
-breakpoints : IsBreakpoint pool (instrs.Simple 202)
+breakpoints : IsBreakpoint pool (instrs.Simple breakpoint)
 breakpoints = refl
 
-breakpoints_not : IsBreakpoint pool (instrs.Simple 0) → ⊥
+breakpoints_not : IsBreakpoint pool (instrs.Simple nop) → ⊥
 breakpoints_not e = absurd (omega arith)
 
 multi-arrays : IsMultiArray pool (instrs.Multi 2 1)
 multi-arrays = tt
 
-multi-arrays_not : IsMultiArray pool (instrs.Class 189 2) → ⊥
+multi-arrays_not : IsMultiArray pool (instrs.Class anewarray 2) → ⊥
 multi-arrays_not is = is
 
 -- invokedynamic, and ldc of a handle or a method's type
-dynamics : IsDynamic pool (instrs.Dynamic 0) × IsDynamic pool (instrs.Literal 18 9) × IsDynamic pool (instrs.Literal 19 10)
+dynamics : IsDynamic pool (instrs.Dynamic 0) × IsDynamic pool (instrs.Literal ldc 9) × IsDynamic pool (instrs.Literal ldc_w 10)
 unfolding pool
 dynamics = (tt, (refl, tt), (refl, tt))
 
 -- ldc2_w of a handle, and ldc of an int
-dynamics_not : (IsDynamic pool (instrs.Literal 20 9) → ⊥) × (IsDynamic pool (instrs.Literal 18 12) → ⊥)
+dynamics_not : (IsDynamic pool (instrs.Literal ldc2_w 9) → ⊥) × (IsDynamic pool (instrs.Literal ldc 12) → ⊥)
 unfolding pool
 dynamics_not = ((λ is. let e = is.0 in absurd cc), (λ is. is.1))
 
 -- ldc of any class
-reflection-ldc : IsReflection pool (instrs.Literal 18 2)
+reflection-ldc : IsReflection pool (instrs.Literal ldc 2)
 unfolding pool
 reflection-ldc = inl (refl, tt)
 
 -- a member getClass of any class
-reflection-get-class : IsReflection pool (instrs.Member 182 8)
+reflection-get-class : IsReflection pool (instrs.Member invokevirtual 8)
 unfolding pool
 reflection-get-class = inr (inr (refl, refl))
 

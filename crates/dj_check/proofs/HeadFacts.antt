@@ -8,6 +8,7 @@ use Rattle.std.proofs.lemmas.Bool.{eqb-true}
 use Rattle.dj_edge.specs.trusted.Held.{File}
 use Rattle.dj_ops.specs.declared.instruction.Instr.TheVariants as instrs
 use Rattle.dj_ops.specs.trusted.Forms.{form_of}
+use Rattle.dj_ops.specs.Mnemonics.{goto}
 use Rattle.dj_pool.specs.trusted.Pool.{Constant, Utf8, Class, text_at}
 use Rattle.dj_pool.proofs.Decides.{tests_decide}
 use Rattle.dj_class.specs.trusted.ClassFile.{MemberInfo, ClassFile}
@@ -189,18 +190,18 @@ not-start : (k : ℕ) → k < 1 → get_or (pos 0 ∷ []) k (pos 3) ≡ pos 3 �
 not-start zero lt at = omega (arith, ints, at)
 not-start (suc k) lt at = omega (arith, lt)
 
-past-end : Refuses (167 ∷ 0 ∷ 3 ∷ []) [] (errors.Target 0)
+past-end : Refuses (goto ∷ 0 ∷ 3 ∷ []) [] (errors.Target 0)
 unfolding form_of
 past-end = record {
   starts = 0 ∷ [];
-  instrs = instrs.Branch 167 (pos 3) ∷ [];
+  instrs = instrs.Branch goto (pos 3) ∷ [];
   cut = record {
     first = refl;
     each = (record { later = omega arith; within = omega arith; spelled = record { padding = []; padded = refl; offsets = sfits_lit tt; are = refl }; proper = inl refl }, tt);
   };
   number = 0;
   stands_at = refl;
-  instr = instrs.Branch 167 (pos 3);
+  instr = instrs.Branch goto (pos 3);
   first = record { found = refl; lacks = λ has. not-start has.0.0 has.0.1 has.0.2; before = tt };
 }
 
@@ -208,9 +209,9 @@ code : List ℕ → CodeInfo
 code bytes = record { max_stack = 0; max_locals = 1; code = bytes; table = []; attributes = [] }
 
 -- a goto past the end
-no-labels : LacksLabels (code (167 ∷ 0 ∷ 3 ∷ []))
+no-labels : LacksLabels (code (goto ∷ 0 ∷ 3 ∷ []))
 unfolding code
-no-labels labelled is = no_labels (167 ∷ 0 ∷ 3 ∷ []) [] labelled (errors.Target 0) is past-end
+no-labels labelled is = no_labels (goto ∷ 0 ∷ 3 ∷ []) [] labelled (errors.Target 0) is past-end
 
 -- ---- a body with empty code
 

@@ -2,6 +2,7 @@
 use Rattle.std.proofs.Common.{◌≡◌, ℕ, true, false, pos, List, [], ◌∷◌, ◌++◌, map, Some, None, refl, inl, inr, arith, codes}
 use Rattle.dj_ops.specs.declared.instruction.Instr.{Instr}
 use Rattle.dj_ops.specs.declared.instruction.Instr.TheVariants as instrs
+use Rattle.dj_ops.specs.Mnemonics.{nop, bipush, ldc, ldc_w, ldc2_w, iload, fload, fadd, goto, jsr, ret, invokevirtual, new, jsr_w}
 use Rattle.dj_pool.specs.trusted.Pool.{Constant, Utf8, Integer, Float, Long, Double, Class, Text, Field, Method, InterfaceMethod, NameAndType, Handle, MethodType, Dynamic}
 use Rattle.dj_check.specs.trusted.Classes.{class_text_index, names_at}
 use Rattle.dj_check.specs.trusted.Instructions.{index_of, member_index_of, PushesSuch, IsHandleOrType, IsClass, IsFloatNumber}
@@ -13,8 +14,8 @@ use Rattle.dj_check.specs.trusted.Methods.{InstrViolates}
 -- one of each form, with 7 as its index where it has one
 abbrev each : List Instr
 each =
-    instrs.Simple 0 ∷ instrs.Push 16 (pos 7) ∷ instrs.Literal 18 7 ∷ instrs.Local 21 7 false ∷ instrs.Inc 7 (pos 7) false ∷ instrs.Branch 167 (pos 7) ∷ instrs.Member 182 7 ∷ instrs.Interface 7 1
-    ∷ instrs.Dynamic 7 ∷ instrs.Class 187 7 ∷ instrs.Array 7 ∷ instrs.Multi 7 1 ∷ []
+    instrs.Simple nop ∷ instrs.Push bipush (pos 7) ∷ instrs.Literal ldc 7 ∷ instrs.Local iload 7 false ∷ instrs.Inc 7 (pos 7) false ∷ instrs.Branch goto (pos 7) ∷ instrs.Member invokevirtual 7 ∷ instrs.Interface 7 1
+    ∷ instrs.Dynamic 7 ∷ instrs.Class new 7 ∷ instrs.Array 7 ∷ instrs.Multi 7 1 ∷ []
 
 indexes : map index_of each ≡ None ∷ None ∷ Some 7 ∷ None ∷ None ∷ None ∷ Some 7 ∷ Some 7 ∷ Some 7 ∷ Some 7 ∷ None ∷ Some 7 ∷ []
 indexes = refl
@@ -24,7 +25,7 @@ member_indexes : map member_index_of each ≡ None ∷ None ∷ Some 7 ∷ None 
 member_indexes = refl
 
 -- no rule speaks of these but the float's load, ret, jsr and the breakpoint
-plain_ones : map is_plain (each ++ instrs.Local 23 0 false ∷ instrs.Local 169 0 false ∷ instrs.Branch 168 (pos 0) ∷ instrs.Branch 201 (pos 0) ∷ instrs.Simple 202 ∷ instrs.Simple 98 ∷ [])
+plain_ones : map is_plain (each ++ instrs.Local fload 0 false ∷ instrs.Local ret 0 false ∷ instrs.Branch jsr (pos 0) ∷ instrs.Branch jsr_w (pos 0) ∷ instrs.Simple 202 ∷ instrs.Simple fadd ∷ [])
     ≡ true ∷ true ∷ false ∷ true ∷ true ∷ true ∷ false ∷ false ∷ false ∷ false ∷ false ∷ false ∷ false ∷ false ∷ false ∷ false ∷ false ∷ false ∷ []
 plain_ones = refl
 
@@ -49,7 +50,7 @@ names = refl
 
 -- ---- the rules' numbers
 
-violates : InstrViolates pool (instrs.Dynamic 13) 9 × InstrViolates pool (instrs.Literal 18 2) 10 × InstrViolates pool (instrs.Simple 98) 12 × InstrViolates pool (instrs.Branch 168 (pos 0)) 13
+violates : InstrViolates pool (instrs.Dynamic 13) 9 × InstrViolates pool (instrs.Literal ldc 2) 10 × InstrViolates pool (instrs.Simple fadd) 12 × InstrViolates pool (instrs.Branch jsr (pos 0)) 13
     × InstrViolates pool (instrs.Simple 202) 14 × InstrViolates pool (instrs.Multi 2 1) 15
 unfolding pool
 violates = (
@@ -62,7 +63,7 @@ violates = (
 )
 
 -- an addition of floats violates FLOAT and no other
-float_alone : (rule : ℕ) → InstrViolates pool (instrs.Simple 98) rule → rule ≡ 12
+float_alone : (rule : ℕ) → InstrViolates pool (instrs.Simple fadd) rule → rule ≡ 12
 unfolding pool
 float_alone rule v = elim v [
   | inl dynamic ↦ absurd dynamic.0
@@ -74,7 +75,7 @@ float_alone rule v = elim v [
 ]
 
 -- and nop none at all
-nop_not : (rule : ℕ) → InstrViolates pool (instrs.Simple 0) rule → ⊥
+nop_not : (rule : ℕ) → InstrViolates pool (instrs.Simple nop) rule → ⊥
 unfolding pool
 nop_not rule v = elim v [
   | inl dynamic ↦ absurd dynamic.0
@@ -88,11 +89,11 @@ nop_not rule v = elim v [
 -- ---- what ldc and ldc_w push
 
 -- ldc2_w is another thing, and so is an instruction of the same constant
-pushes : PushesSuch IsClass pool (instrs.Literal 18 2) × PushesSuch IsClass pool (instrs.Literal 19 2)
+pushes : PushesSuch IsClass pool (instrs.Literal ldc 2) × PushesSuch IsClass pool (instrs.Literal ldc_w 2)
 unfolding pool
 pushes = ((refl, tt), (refl, tt))
 
-pushes_not : (PushesSuch IsClass pool (instrs.Literal 20 2) → ⊥) × (PushesSuch IsClass pool (instrs.Literal 18 10) → ⊥) × (PushesSuch IsClass pool (instrs.Class 187 2) → ⊥) × (PushesSuch IsClass pool (instrs.Literal 18 99) → ⊥)
+pushes_not : (PushesSuch IsClass pool (instrs.Literal ldc2_w 2) → ⊥) × (PushesSuch IsClass pool (instrs.Literal ldc 10) → ⊥) × (PushesSuch IsClass pool (instrs.Class new 2) → ⊥) × (PushesSuch IsClass pool (instrs.Literal ldc 99) → ⊥)
 unfolding pool
 pushes_not = (λ is. let e = is.0 in absurd cc, λ is. is.1, λ is. is, λ is. is.1)
 

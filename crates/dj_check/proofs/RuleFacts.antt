@@ -10,6 +10,7 @@ use Rattle.dj_names.proofs.DescLaws.{described_once}
 use Rattle.dj_ops.specs.declared.instruction.Instr.TheVariants as instrs
 use Rattle.dj_ops.specs.declared.frames.VType.TheVariants as types
 use Rattle.dj_ops.specs.declared.frames.Form.TheVariants as forms
+use Rattle.dj_ops.specs.Mnemonics.{nop, return}
 use Rattle.dj_labels.specs.declared.labelled.Protected.{Protected}
 use Rattle.dj_labels.specs.declared.labelled.Labelled.{Labelled}
 use Rattle.dj_pool.specs.trusted.Pool.{Constant, Utf8, Class, NameAndType, MethodType}
@@ -160,7 +161,7 @@ range : Protected
 range = record { start = 0; end = 1; handler = 2; catch_type = 11 }
 
 labelled : Labelled
-labelled = record { code = instrs.Simple 0 ∷ instrs.Simple 0 ∷ instrs.Simple 177 ∷ []; ranges = range ∷ [] }
+labelled = record { code = instrs.Simple nop ∷ instrs.Simple nop ∷ instrs.Simple return ∷ []; ranges = range ∷ [] }
 
 handler : CodeViolates pool labelled 2 11
 unfolding pool labelled range

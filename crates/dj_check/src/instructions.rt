@@ -12,8 +12,8 @@ use crate::opcodes::{is_float_base, is_float_op, is_short_literal, is_subroutine
 use dj_ops::Instr;
 use dj_pool::{Entry, Pool};
 
-// The index of the constant that an instruction names.
-fn index_of(instr: &Instr) -> Option<u16>
+/// The index of the constant that an instruction names.
+pub fn index_of(instr: &Instr) -> Option<u16>
     ensures { result ≡ index_of instr.now }
 {
     match instr {
@@ -37,8 +37,8 @@ fn member_index_of(instr: &Instr) -> Option<u16>
     }
 }
 
-// The index of the text of the class that a constant names.
-fn class_text_index(pool: &Pool<'_>, entry: Entry<'_>) -> Option<u16>
+/// The index of the text of the class that a constant names.
+pub fn class_text_index(pool: &Pool<'_>, entry: Entry<'_>) -> Option<u16>
     ensures { result ≡ class_text_index pool.now (constant_of entry.entry) }
 {
     let class = match entry {

@@ -26,7 +26,7 @@ pub use doubles::{NamedFile, add_duplicate_lines};
 pub use fields::has_faulty_field;
 pub use good::{GoodFile, good_file};
 pub use hierarchy::{Owner, add_hierarchy_lines};
-pub use instructions::violates_instr;
+pub use instructions::{class_text_index, index_of, violates_instr};
 pub use judged::{JudgedText, judge_texts, marked_names, text_in};
 pub use lines::add_mark_lines;
 pub use marks::{Mark, MarkPlace, add_mark_if};

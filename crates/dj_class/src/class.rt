@@ -37,7 +37,7 @@ pub enum ClassError {
     #[error("at {0} begin bytes after the last item")]
     Trailing(u32),
     /// There was no memory.
-    #[error("there was no memory")]
+    #[error("out of memory")]
     Memory,
 }
 

@@ -11,7 +11,7 @@ pub enum TableError {
     #[error("two classes have one name")]
     Duplicate(Name),
     /// There was no memory.
-    #[error("there was no memory")]
+    #[error("out of memory")]
     Memory,
 }
 

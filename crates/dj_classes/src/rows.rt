@@ -65,10 +65,7 @@ fn numbers_of(
 fn number_at(numbers: &[Option<u32>], place: u32) -> Option<u32>
     ensures { result ≡ get_or numbers.now place None }
 {
-    match numbers.get(place as usize) {
-        Some(number) => *number,
-        None => None,
-    }
+    *numbers.get(place as usize)?
 }
 
 // The numbers at these places, where there are any.

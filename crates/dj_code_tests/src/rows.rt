@@ -49,8 +49,6 @@ pub fn labels_of(alloc: Global, code: &[u8], rows: &[RowNumbers]) -> Result<Labe
 
 // What the labels of code are laid out as.
 pub fn laid_again(alloc: Global, code: &[u8], rows: &[RowNumbers]) -> Result<Laid, LayError> {
-    match labels_of(alloc, code, rows) {
-        Ok(labels) => lay_out(alloc, &labels),
-        Err(_) => Err(LayError::Memory),
-    }
+    let labels = labels_of(alloc, code, rows).map_err(|_| LayError::Memory)?;
+    lay_out(alloc, &labels)
 }

@@ -68,10 +68,7 @@ fn library_texts(alloc: Global, methods: &[LibMethod]) -> Result<TextTable, Decl
 fn number_of(texts: &TextTable, text: &[u8]) -> Result<u16, DeclareError>
     ensures { IfOk result (λ number. number_in texts.now text.now ≡ Some number) }
 {
-    match texts.find(text) {
-        Some(number) => Ok(number),
-        None => Err(DeclareError::Memory),
-    }
+    texts.find(text).ok_or(DeclareError::Memory)
 }
 
 // A method, by the numbers of its texts.

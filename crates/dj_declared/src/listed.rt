@@ -67,10 +67,7 @@ fn no_copies(alloc: Global, pool: &Pool<'_>) -> Result<Copies, DeclareError>
 fn place_of(copies: &Copies, index: u16) -> Option<u32>
     ensures { result ≡ get_or copies.now.places.items index None }
 {
-    match copies.places.get(index as usize) {
-        Some(place) => *place,
-        None => None,
-    }
+    *copies.places.get(index as usize)?
 }
 
 // Copies the text at an index, and returns the copy's place.

@@ -108,10 +108,7 @@ fn last_place(bytes: &[u8], ends: &[u32], text: &[u8]) -> Result<Option<u16>, De
 fn end_of(start: usize, more: usize) -> Option<u32>
     ensures { IfSome result (λ end. end ≡ start + more) }
 {
-    match start.checked_add(more) {
-        Some(end) => u32::try_from(end).ok(),
-        None => None,
-    }
+    u32::try_from(start.checked_add(more)?).ok()
 }
 
 // Appends a text, and where it ends.

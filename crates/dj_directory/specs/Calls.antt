@@ -54,7 +54,8 @@ DeclareLike program test class member rows = (m : Method) → slice_get (methods
 abbrev pub DeclaresLike : Program → (Method → Bool) → ℕ → ℕ → ℕ → ℕ → Type 0
 DeclaresLike program test class member other place = (m : Method) → slice_get (methods_at program class) member ≡ Some m → IsFirstOf program test m.name m.desc other place
 
--- in a walk through the tree of superclasses, none of the classes in which the class is, and whose first method with this name and this descriptor passes the test, starts after the near one
+-- A walk through the tree of superclasses starts and stops each class. Of the classes between whose start and stop the class is, those count whose first method
+-- with this name and this descriptor passes the test. None of them starts after the near one
 pub record IsNearestFirst (program : Program) (test : Method → Bool) (name : Name) (desc : Desc) (class : ℕ) (near : Option ℕ) : Type 0 where
   pub start : ℕ → ℕ
   pub stop : ℕ → ℕ

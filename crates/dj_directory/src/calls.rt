@@ -312,8 +312,8 @@ impl CallTable {
         place_in(self.taken(private_too), row.name, row.desc, other)
     }
 
-    /// The nearest class, upward from one, that declares a method that a call may take and that has the name and the descriptor of the method at a place, where it is known.
-    /// It is only known that none of `below` and its superclasses that declares such a method is nearer; the answer may be a class that isn't among them.
+    /// The nearest class, from `class` upward, with a method that a call may take, of the same name and descriptor as the method at a place, where it is known.
+    /// No nearer class among `below` and its superclasses declares such a method; the answer itself needn't be among these.
     pub fn nearest_like(
         &self,
         table: &ClassTable,

@@ -18,7 +18,7 @@ use Rattle.dj_edge.specs.trusted.Held.{Held, bytes_at}
 use Rattle.dj_edge.specs.trusted.Calls.{ListAsks, ListCounts, ReadAsks, ReadCounts, AnswersRead, Gives, Writes, WriteCounts}
 use Rattle.dj_edge.specs.Calls.{CountsListing, CountsRead, Puts, CountsWrite}
 use Rattle.dj_edge.specs.Listings.{ListsFolder}
-use Rattle.dj_edge.specs.Sinks.{piece_of, room_of, faults_of, Takes}
+use Rattle.dj_edge.specs.Sinks.{piece_of, room_of, failed_writes, Takes}
 use Rattle.dj_edge.specs.Stores.{fails_next, Reads}
 use Rattle.dj_edge.specs.Walks.{Tree, Place, met_in, spread}
 

@@ -69,7 +69,7 @@ not_less r e = ap is_lt e
 pub pairs_from_sorted : {X : Type 0} (lt : X → X → Bool) → IsStrictWeakOrder lt → (xs : List X) → IsSortedBy lt xs → AllPairs (λ a b. lt b a ≡ false) xs
 pairs_from_sorted lt order xs sorted i j d before within = sorted_far lt order xs sorted i j d (omega arith) within
 
--- by an order that tells all elements apart
+-- by an order in which no two elements are equal
 pub same_from_sorted : {X : Type 0} {R : X → X → Ordering} → IsTotalOrder R → IsAntisymmetric R → (xs ys : List X) → IsSorted R xs → IsSorted R ys → IsPermutation xs ys → xs ≡ ys
 same_from_sorted {R = R} total apart xs ys p q moved =
     let order : IsStrictWeakOrder (λ a b. is_lt (R a b)) = ranks_by total (λ a. a) in

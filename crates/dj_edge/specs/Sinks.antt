@@ -18,11 +18,11 @@ abbrev pub bytes_of : MemSink → List ℕ
 bytes_of m = m.bytes.items
 
 -- how many writes failed
-abbrev pub faults_of : MemSink → ℕ
-faults_of m = m.faults
+abbrev pub failed_writes : MemSink → ℕ
+failed_writes m = m.faults
 
 -- a write takes the first of the n bytes, as many as the piece and the room allow, and fails exactly where no room is left
 abbrev pub Takes : MemSink → MemSink → ℕ → Result ℕ SinkError → Type 0
-Takes old new n (Ok taken) = (0 < room_of old) × (taken ≡ min (piece_of old) (min n (room_of old))) × (room_of new ≡ room_of old - taken) × (faults_of new ≡ faults_of old)
-Takes old new n (Err sink_errors.Failed) = (room_of old ≡ 0) × (room_of new ≡ room_of old) × (faults_of new ≡ one_more (faults_of old))
-Takes old new n (Err sink_errors.Memory) = (0 < room_of old) × (room_of new ≡ room_of old) × (faults_of new ≡ faults_of old)
+Takes old new n (Ok taken) = (0 < room_of old) × (taken ≡ min (piece_of old) (min n (room_of old))) × (room_of new ≡ room_of old - taken) × (failed_writes new ≡ failed_writes old)
+Takes old new n (Err sink_errors.Failed) = (room_of old ≡ 0) × (room_of new ≡ room_of old) × (failed_writes new ≡ one_more (failed_writes old))
+Takes old new n (Err sink_errors.Memory) = (0 < room_of old) × (room_of new ≡ room_of old) × (failed_writes new ≡ failed_writes old)

@@ -45,18 +45,18 @@ impl Sink for MemSink {
     ghost use Rattle.std.specs.Prelude.{◌≡◌, ◌<◌, ◌≤◌, ℕ, List, Option, Some, length};
     ghost use Rattle.dj_edge.specs.trusted.Calls.{Writes, WriteCounts};
     ghost use Rattle.dj_edge.specs.Calls.{CountsWrite};
-    ghost use Rattle.dj_edge.specs.Sinks.{piece_of, bytes_of, faults_of, Takes};
+    ghost use Rattle.dj_edge.specs.Sinks.{piece_of, bytes_of, failed_writes, Takes};
 
     ghost written = { λ m. Some (bytes_of m) };
 
-    ghost faults = { faults_of };
+    ghost faults = { failed_writes };
 
     fn write(&mut self, piece: &[u8]) -> Result<usize, SinkError>
         requires { 0 < length piece.now }
         ensures writes { Writes (Some (bytes_of self.old)) (Some (bytes_of self.new)) piece.now result }
-        ensures never_falls { faults_of self.old ≤ faults_of self.new }
-        ensures counts { WriteCounts (faults_of self.old) (faults_of self.new) result }
-        ensures counts_one { CountsWrite (faults_of self.old) (faults_of self.new) result }
+        ensures never_falls { failed_writes self.old ≤ failed_writes self.new }
+        ensures counts { WriteCounts (failed_writes self.old) (failed_writes self.new) result }
+        ensures counts_one { CountsWrite (failed_writes self.old) (failed_writes self.new) result }
         ensures piece { piece_of self.new ≡ piece_of self.old }
         ensures takes { Takes self.old self.new (length piece.now) result }
     {

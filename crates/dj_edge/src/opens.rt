@@ -10,15 +10,15 @@ use std::io::Read;
 /// What opens files.
 pub trait OpensFiles {
     /// An open file.
-    type File: Read + Drop;
+    type Opened: Read + Drop;
 
     /// The contents of each file, where they are known. No call changes them.
     ghost contents: { Self → Option Contents };
 
     /// The file of the path, and the system's word on how long it is, which only decides how much room is made.
-    fn open_file(&mut self, path: &str) -> Result<(Self::File, u64), ReadError>
+    fn open_file(&mut self, path: &str) -> Result<(Self::Opened, u64), ReadError>
         ensures unchanged { contents self.new ≡ contents self.old }
-        ensures opens { IsFileOpened (λ file. Self.File.remaining file) (contents self.old) path.now result };
+        ensures opens { IsFileOpened (λ file. Self.Opened.remaining file) (contents self.old) path.now result };
 }
 
 /// The bytes of a file that has at most `most`; else it is too long.

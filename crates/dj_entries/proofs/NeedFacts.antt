@@ -7,6 +7,7 @@ use Rattle.dj_pool.specs.trusted.Pool as pool
 use Rattle.dj_pool.specs.trusted.Pool.{indexed}
 use Rattle.dj_entries.specs.trusted.Entries.{Utf8, Integer, Long, Class, Text, Field, Method, InterfaceMethod, Dynamic, each_once, index_of, pool_of}
 use Rattle.dj_entries.specs.trusted.Needs.{Need, operation_entries, types_entries, value_entry, head_entries, instruction_entries, catch_entries, stack_map_entries, frame_entries, needs_of, methods_needs, entries_of}
+use Rattle.dj_ops.specs.Mnemonics.{nop, bipush, goto, areturn, getstatic, putstatic, putfield, invokevirtual, invokespecial, invokestatic, invokeinterface, new, anewarray}
 
 abbrev s : List ℕ
 s = codes "S"
@@ -27,15 +28,15 @@ null_unit = refl
 
 -- 178 to 181 need a field, 182 to 184 a method, 185 an interface's method, and so do 183 and 184 with `interface`
 members : map operation_entries
-    (Member 178 s s desc false ∷ Member 181 s s desc false ∷ Member 182 s s desc false ∷ Member 183 s s desc false ∷ Member 184 s s desc true ∷ Member 183 s s desc true ∷ Member 185 s s desc false ∷ [])
+    (Member getstatic s s desc false ∷ Member putfield s s desc false ∷ Member invokevirtual s s desc false ∷ Member invokespecial s s desc false ∷ Member invokestatic s s desc true ∷ Member invokespecial s s desc true ∷ Member invokeinterface s s desc false ∷ [])
     ≡ (Field s s desc ∷ []) ∷ (Field s s desc ∷ []) ∷ (Method s s desc ∷ []) ∷ (Method s s desc ∷ []) ∷ (InterfaceMethod s s desc ∷ []) ∷ (InterfaceMethod s s desc ∷ []) ∷ (InterfaceMethod s s desc ∷ []) ∷ []
 members = refl
 
-classes : map operation_entries (ClassOf 187 s ∷ Multi desc (pos 2) ∷ lines.Dynamic (pos 3) s desc ∷ [])
+classes : map operation_entries (ClassOf new s ∷ Multi desc (pos 2) ∷ lines.Dynamic (pos 3) s desc ∷ [])
     ≡ (Class s ∷ []) ∷ (Class desc ∷ []) ∷ (Dynamic 3 s desc ∷ []) ∷ []
 classes = refl
 
-nothing : map operation_entries (Plain 0 ∷ Push 16 (pos 5) ∷ Jump 167 s ∷ Array 8 ∷ []) ≡ [] ∷ [] ∷ [] ∷ [] ∷ []
+nothing : map operation_entries (Plain nop ∷ Push bipush (pos 5) ∷ Jump goto s ∷ Array 8 ∷ []) ≡ [] ∷ [] ∷ [] ∷ [] ∷ []
 nothing = refl
 
 frames : map types_entries (Same ∷ Stack1 (Object s) ∷ Chop (pos 1) ∷ Append (Simple (codes "int") ∷ Object s ∷ []) ∷ Full (Object desc ∷ New s ∷ []) (Object s ∷ []) ∷ [])
@@ -52,17 +53,17 @@ heads : map head_entries (lines.Class 1 s ∷ lines.Version (pos 1) (pos 1) ∷ 
 heads = refl
 
 -- each kind of need is of its own lines
-asides : map catch_entries (Beside (Catch None s s s) ∷ Beside (Catch (Some desc) s s s) ∷ Beside (Labelled s) ∷ Does (ClassOf 187 s) ∷ Framed (Stack1 (Object s)) ∷ [])
+asides : map catch_entries (Beside (Catch None s s s) ∷ Beside (Catch (Some desc) s s s) ∷ Beside (Labelled s) ∷ Does (ClassOf new s) ∷ Framed (Stack1 (Object s)) ∷ [])
     ≡ [] ∷ (Class desc ∷ []) ∷ [] ∷ [] ∷ [] ∷ []
 asides = refl
 
-instructions : map instruction_entries (Beside (Catch (Some desc) s s s) ∷ Does (ClassOf 187 s) ∷ Framed (Stack1 (Object s)) ∷ []) ≡ [] ∷ (Class s ∷ []) ∷ [] ∷ []
+instructions : map instruction_entries (Beside (Catch (Some desc) s s s) ∷ Does (ClassOf new s) ∷ Framed (Stack1 (Object s)) ∷ []) ≡ [] ∷ (Class s ∷ []) ∷ [] ∷ []
 instructions = refl
 
-stack_maps : map stack_map_entries (Does (ClassOf 187 s) ∷ Framed Same ∷ []) ≡ [] ∷ (Utf8 (codes "StackMapTable") ∷ []) ∷ []
+stack_maps : map stack_map_entries (Does (ClassOf new s) ∷ Framed Same ∷ []) ≡ [] ∷ (Utf8 (codes "StackMapTable") ∷ []) ∷ []
 stack_maps = refl
 
-frame_types : map frame_entries (Does (ClassOf 187 s) ∷ Framed (Stack1 (Object s)) ∷ []) ≡ [] ∷ (Class s ∷ []) ∷ []
+frame_types : map frame_entries (Does (ClassOf new s) ∷ Framed (Stack1 (Object s)) ∷ []) ≡ [] ∷ (Class s ∷ []) ∷ []
 frame_types = refl
 
 -- ---- a whole source, whose texts serve several needs: instructions come before catch types, and these before the frames
@@ -83,9 +84,9 @@ whole = record {
       ∷ FrameStep (Full (Object s ∷ []) (Object (codes "U") ∷ New (codes "C") ∷ [])) [] (Load 18 (StringLiteral (codes "Code")))
       ∷ Mark (Catch (Some (codes "T")) (codes "C") (codes "D") (codes "C"))
       ∷ Step (Load 18 (ClassLiteral s))
-      ∷ Step (Member 179 s s desc false)
-      ∷ Step (ClassOf 189 (codes "[LS;"))
-      ∷ Step (Plain 176)
+      ∷ Step (Member putstatic s s desc false)
+      ∷ Step (ClassOf anewarray (codes "[LS;"))
+      ∷ Step (Plain areturn)
       ∷ Mark (Labelled (codes "D")) ∷ [])
       ∷ Bodiless 1025 s (codes "()V") ∷ [];
 }

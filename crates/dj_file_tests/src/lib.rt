@@ -4,8 +4,6 @@
 #[cfg(test)]
 mod edge;
 #[cfg(test)]
-mod files;
-#[cfg(test)]
 mod names;
 #[cfg(test)]
 mod report;

@@ -1,10 +1,10 @@
 ghost use Rattle.std.specs.Prelude.{◌<◌, ◌^◌, ◌↔◌, length, All, IsTrue};
 
-use crate::files::{A, FileText, NATIVE, PathText, TWICE, build, lend};
 use dj_class::ClassError;
 use dj_pool::PoolError;
 use dj_report::{PathFile, Violation};
 use dj_rules::{RulesError, is_memory, rules, units_of_path};
+use dj_test_files::{A, FileText, NATIVE, PathText, TWICE, build, lend};
 use std::alloc::Global;
 
 // A path, a member and a rule.

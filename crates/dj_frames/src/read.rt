@@ -59,10 +59,10 @@ fn find_number(starts: &[u32], place: u32, address: u64) -> Result<u32, FrameErr
     let Ok(key) = u32::try_from(address) else {
         return Err(FrameError::NotAnInstruction(place));
     };
-    match starts.binary_search(&key) {
-        Ok(number) => Ok(number as u32),
-        Err(_) => Err(FrameError::NotAnInstruction(place)),
-    }
+    let Ok(number) = starts.binary_search(&key) else {
+        return Err(FrameError::NotAnInstruction(place));
+    };
+    Ok(number as u32)
 }
 
 /// Two bytes that are an instruction's address.

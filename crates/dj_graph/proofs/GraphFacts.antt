@@ -93,7 +93,7 @@ known edges nodes numbers a m near at =
     let spot : 0 + a ≡ a = omega arith in
     subst (λ x. Reaches edges x (get_or nodes m 0) × Reaches edges (get_or nodes m 0) x) spot (near_at edges nodes 0 a m numbers near at)
 
--- numbers that are ranks, too, and told apart by nodes
+-- numbers that are ranks, too, and differ where the nodes do
 by_ranks : (edges : Edges) (numbers nodes : List ℕ) → length numbers ≡ length edges → AllLow numbers numbers edges → AreNear edges nodes 0 numbers → AreComponents edges numbers
 by_ranks edges numbers nodes count low near = record {
   all = count;

@@ -13,7 +13,7 @@ pub enum HeapError {
         size: u64,
     },
     /// There was no memory.
-    #[error("there was no memory")]
+    #[error("out of memory")]
     Memory,
 }
 

@@ -9,6 +9,7 @@ use Rattle.dj_names.specs.trusted.NameReading.{reads_class_name}
 use Rattle.dj_names.specs.trusted.Types.{Name}
 use Rattle.dj_names.specs.Types.{sandbox_prefix}
 use Rattle.dj_ops.specs.declared.instruction.Instr.TheVariants as instrs
+use Rattle.dj_ops.specs.Mnemonics.{return, new}
 use Rattle.dj_pool.specs.trusted.Pool.{Constant, Utf8, Integer, Class}
 use Rattle.dj_model.specs.trusted.Linking.{FoundMethod}
 use Rattle.dj_model.specs.trusted.Program as programs
@@ -55,7 +56,7 @@ abbrev parts : CodeParts
 parts = record {
   max_stack = 1;
   max_locals = 1;
-  labelled = record { code = instrs.Class 187 2 ∷ instrs.Simple 177 ∷ []; ranges = record { start = 0; end = 1; handler = 1; catch_type = 0 } ∷ [] };
+  labelled = record { code = instrs.Class new 2 ∷ instrs.Simple return ∷ []; ranges = record { start = 0; end = 1; handler = 1; catch_type = 0 } ∷ [] };
   frames = Some [];
 }
 
@@ -89,19 +90,19 @@ no_range_without_code has = none-some has.code has.own
 
 class_named : IsNamedAt image 2 0 (Some 0)
 unfolding all_codes class_of_source named_by desc_in type_in dims_read name_read class_read of_read type_read params_read field_read return_read method_read desc_read reads_class_name
-class_named = record { code = pooled_code; own = refl; instr = instrs.Class 187 2; stands = refl; is = refl }
+class_named = record { code = pooled_code; own = refl; instr = instrs.Class new 2; stands = refl; is = refl }
 
 nothing_named : IsNamedAt image 2 1 None
 unfolding all_codes
-nothing_named = record { code = pooled_code; own = refl; instr = instrs.Simple 177; stands = refl; is = refl }
+nothing_named = record { code = pooled_code; own = refl; instr = instrs.Simple return; stands = refl; is = refl }
 
 -- what is named at the first instruction is the class
 first_named : (class : Option ℕ) → IsNamedAt image 2 0 class → class ≡ Some 0
 unfolding all_codes class_of_source named_by desc_in type_in dims_read name_read class_read of_read type_read params_read field_read return_read method_read desc_read reads_class_name
 first_named class reported =
     let same : pooled_code ≡ reported.code = same_Some pooled_code reported.code reported.own in
-    let stands : Some (instrs.Class 187 2) ≡ Some reported.instr = subst (λ (c : PooledCode). slice_get c.parts.labelled.code 0 ≡ Some reported.instr) (sym same) reported.stands in
-    let one : instrs.Class 187 2 ≡ reported.instr = same_Some (instrs.Class 187 2) reported.instr stands in
+    let stands : Some (instrs.Class new 2) ≡ Some reported.instr = subst (λ (c : PooledCode). slice_get c.parts.labelled.code 0 ≡ Some reported.instr) (sym same) reported.stands in
+    let one : instrs.Class new 2 ≡ reported.instr = same_Some (instrs.Class new 2) reported.instr stands in
     reported.is ∙ sym (λ i. named_class image (named_if (same i).pool (index_of (one i))))
 
 class_not_left_out : IsNamedAt image 2 0 None → ⊥

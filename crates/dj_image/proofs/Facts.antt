@@ -11,6 +11,7 @@ use Rattle.dj_names.specs.trusted.Types.{class_type, base_type, base_array, arra
 use Rattle.dj_names.specs.trusted.UnitReading.{unit_read, long_read, two_read}
 use Rattle.dj_ops.specs.declared.instruction.Instr.{Instr}
 use Rattle.dj_ops.specs.declared.instruction.Instr.TheVariants as instrs
+use Rattle.dj_ops.specs.Mnemonics.{nop, bipush, ldc, ldc_w, ldc2_w, iload, goto, getfield, invokevirtual, invokespecial, new, anewarray, checkcast}
 use Rattle.dj_labels.specs.declared.labelled.Protected.{Protected}
 use Rattle.dj_pool.specs.trusted.Pool.{Constant, Utf8, Integer, Long, Hole, Class, Text, Field, Method, InterfaceMethod, NameAndType}
 use Rattle.dj_model.specs.trusted.Opcodes.{instruction_of, simple}
@@ -65,7 +66,7 @@ class_a = record {
 
 code : List Instr
 code =
-    instrs.Simple 0 ∷ instrs.Class 189 2 ∷ instrs.Class 192 16 ∷ instrs.Class 187 2 ∷ []
+    instrs.Simple nop ∷ instrs.Class anewarray 2 ∷ instrs.Class checkcast 16 ∷ instrs.Class new 2 ∷ []
 
 -- the first row catches what is of the class A, and the second everything
 ranges : List Protected
@@ -109,19 +110,19 @@ code_elsewhere e = let body : Runs (code_in pool parts) ≡ Abstract = ap first_
 abbrev say : Instr → Operand
 say instr = operand_of image instr (named_if pool (index_of instr))
 
-no_operands : map say (instrs.Simple 0 ∷ instrs.Push 16 (pos 1) ∷ instrs.Local 21 0 false ∷ instrs.Branch 167 (pos 3) ∷ [])
+no_operands : map say (instrs.Simple nop ∷ instrs.Push bipush (pos 1) ∷ instrs.Local iload 0 false ∷ instrs.Branch goto (pos 3) ∷ [])
     ≡ operands.Nothing ∷ operands.Nothing ∷ operands.Nothing ∷ operands.Nothing ∷ []
 unfolding operand_of instruction_of simple
 no_operands = refl
 
 -- an int, a long and a string, each where it is taken and where it isn't
-literals : map say (instrs.Literal 18 3 ∷ instrs.Literal 20 3 ∷ instrs.Literal 20 17 ∷ instrs.Literal 18 17 ∷ instrs.Literal 19 15 ∷ instrs.Literal 20 15 ∷ [])
+literals : map say (instrs.Literal ldc 3 ∷ instrs.Literal ldc2_w 3 ∷ instrs.Literal ldc2_w 17 ∷ instrs.Literal ldc 17 ∷ instrs.Literal ldc_w 15 ∷ instrs.Literal ldc2_w 15 ∷ [])
     ≡ operands.Int (pos 7) ∷ operands.Unresolved ∷ operands.Long (pos 9) ∷ operands.Unresolved ∷ operands.Text 0 ∷ operands.Unresolved ∷ []
 unfolding image pool operand_of instruction_of named_by units_in units_read unit_read long_read two_read
 literals = refl
 
 -- of new and checkcast the class itself, of anewarray the array of it; a class that isn't there, and a field where a class is asked
-classes : map say (instrs.Class 187 2 ∷ instrs.Class 192 2 ∷ instrs.Class 189 2 ∷ instrs.Class 187 16 ∷ instrs.Class 189 16 ∷ instrs.Class 187 6 ∷ [])
+classes : map say (instrs.Class new 2 ∷ instrs.Class checkcast 2 ∷ instrs.Class anewarray 2 ∷ instrs.Class new 16 ∷ instrs.Class anewarray 16 ∷ instrs.Class new 6 ∷ [])
     ≡ operands.Class 0 ∷ operands.Class 0 ∷ operands.Class 2 ∷ operands.Unresolved ∷ operands.Unresolved ∷ operands.Unresolved ∷ []
 unfolding image source class_a class_of_source pool operand_of instruction_of named_by desc_in type_in dims_read name_read class_read of_read type_read params_read field_read return_read method_read desc_read reads_class_name
 classes = refl
@@ -132,19 +133,19 @@ unfolding image source class_a class_of_source operand_of instruction_of
 base_arrays = refl
 
 -- a field that is there, one that isn't, a method, a field where a method is asked, and an int
-members : map say (instrs.Member 180 6 ∷ instrs.Member 180 9 ∷ instrs.Member 182 12 ∷ instrs.Member 182 6 ∷ instrs.Member 182 3 ∷ [])
+members : map say (instrs.Member getfield 6 ∷ instrs.Member getfield 9 ∷ instrs.Member invokevirtual 12 ∷ instrs.Member invokevirtual 6 ∷ instrs.Member invokevirtual 3 ∷ [])
     ≡ operands.Field (record { number = 0 }) ∷ operands.Unresolved ∷ operands.Method (record { number = 1 }) ∷ operands.Unresolved ∷ operands.Unresolved ∷ []
 unfolding image source class_a class_of_source abstract_a bare_x field_a field_b pool operand_of instruction_of named_by all_methods all_fields resolve_method resolve_field most_classes chain_of interfaces_from interfaces_above field_order desc_in type_in dims_read name_read class_read of_read type_read params_read field_read return_read method_read desc_read reads_class_name
 members = refl
 
 -- a method of an interface by invokeinterface and invokespecial, but not by invokevirtual; one of a class not by invokeinterface
-interfaces : map say (instrs.Interface 13 1 ∷ instrs.Member 183 13 ∷ instrs.Member 182 13 ∷ instrs.Interface 12 1 ∷ [])
+interfaces : map say (instrs.Interface 13 1 ∷ instrs.Member invokespecial 13 ∷ instrs.Member invokevirtual 13 ∷ instrs.Interface 12 1 ∷ [])
     ≡ operands.Method (record { number = 1 }) ∷ operands.Method (record { number = 1 }) ∷ operands.Unresolved ∷ operands.Unresolved ∷ []
 unfolding image source class_a class_of_source abstract_a bare_x field_a field_b pool operand_of instruction_of named_by all_methods all_fields resolve_method resolve_field most_classes chain_of interfaces_from interfaces_above field_order desc_in type_in dims_read name_read class_read of_read type_read params_read field_read return_read method_read desc_read reads_class_name
 interfaces = refl
 
 -- no index of the pool, and one past its end
-no_constants : map say (instrs.Class 187 0 ∷ instrs.Literal 18 99 ∷ []) ≡ operands.Unresolved ∷ operands.Unresolved ∷ []
+no_constants : map say (instrs.Class new 0 ∷ instrs.Literal ldc 99 ∷ []) ≡ operands.Unresolved ∷ operands.Unresolved ∷ []
 unfolding pool operand_of instruction_of
 no_constants = refl
 
@@ -186,12 +187,12 @@ operand_there number instr operand stands reported =
 -- the class of an array that is made isn't that of its elements
 not_elements : IsOperandAt image 1 1 (operands.Class 0) → ⊥
 unfolding image source class_a class_of_source pool code operand_of instruction_of named_by desc_in type_in dims_read name_read class_read of_read type_read params_read field_read return_read method_read desc_read reads_class_name
-not_elements reported = let e : operands.Class 0 ≡ operands.Class 2 = operand_there 1 (instrs.Class 189 2) (operands.Class 0) refl reported in absurd cc
+not_elements reported = let e : operands.Class 0 ≡ operands.Class 2 = operand_there 1 (instrs.Class anewarray 2) (operands.Class 0) refl reported in absurd cc
 
 -- a class that isn't there isn't reported as no operand
 not_nothing : IsOperandAt image 1 2 operands.Nothing → ⊥
 unfolding image source class_a class_of_source pool code operand_of instruction_of named_by desc_in type_in dims_read name_read class_read of_read type_read params_read field_read return_read method_read desc_read reads_class_name
-not_nothing reported = let e : operands.Nothing ≡ operands.Unresolved = operand_there 2 (instrs.Class 192 16) operands.Nothing refl reported in absurd cc
+not_nothing reported = let e : operands.Nothing ≡ operands.Unresolved = operand_there 2 (instrs.Class checkcast 16) operands.Nothing refl reported in absurd cc
 
 -- ---- named classes and handlers
 

@@ -6,6 +6,7 @@ use Rattle.dj_names.specs.trusted.DescReading.{dims_read, name_read, class_read,
 use Rattle.dj_names.specs.trusted.NameReading.{reads_class_name}
 use Rattle.dj_names.specs.trusted.Types.{class_type, base_type, base_array, array_type}
 use Rattle.dj_ops.specs.declared.instruction.Instr.TheVariants as instrs
+use Rattle.dj_ops.specs.Mnemonics.{nop, ldc, ldc2_w, new, anewarray, checkcast, instanceof}
 use Rattle.dj_pool.specs.trusted.Pool.{Constant, Utf8, Integer, Float, Long, Hole, Class, Text, Field, Method, InterfaceMethod, NameAndType, Handle, MethodType, Dynamic}
 use Rattle.dj_model.specs.trusted.Program as programs
 use Rattle.dj_model.specs.trusted.Program.{Runs}
@@ -98,11 +99,11 @@ abbrev made : List (Option ℕ)
 made = None ∷ Some 2 ∷ None ∷ []
 
 -- anewarray by the arrays that are made, and the others by what is kept
-arrays_kept : map (λ (op : ℕ). class_kept pool kept made op 1) (187 ∷ 189 ∷ 192 ∷ 193 ∷ []) ≡ operands.Class 0 ∷ operands.Class 2 ∷ operands.Class 0 ∷ operands.Class 0 ∷ []
+arrays_kept : map (λ (op : ℕ). class_kept pool kept made op 1) (new ∷ anewarray ∷ checkcast ∷ instanceof ∷ []) ≡ operands.Class 0 ∷ operands.Class 2 ∷ operands.Class 0 ∷ operands.Class 0 ∷ []
 arrays_kept = refl
 
 operands_kept : map (kept_operand types pool kept made)
-    (instrs.Array 10 ∷ instrs.Array 11 ∷ instrs.Array 6 ∷ instrs.Class 189 1 ∷ instrs.Class 189 2 ∷ instrs.Class 187 2 ∷ instrs.Literal 18 2 ∷ instrs.Literal 20 2 ∷ instrs.Simple 0 ∷ instrs.Literal 18 9 ∷ [])
+    (instrs.Array 10 ∷ instrs.Array 11 ∷ instrs.Array 6 ∷ instrs.Class anewarray 1 ∷ instrs.Class anewarray 2 ∷ instrs.Class new 2 ∷ instrs.Literal ldc 2 ∷ instrs.Literal ldc2_w 2 ∷ instrs.Simple nop ∷ instrs.Literal ldc 9 ∷ [])
     ≡ operands.Class 1 ∷ operands.Unresolved ∷ operands.Nothing ∷ operands.Class 2 ∷ operands.Unresolved ∷ operands.Unresolved ∷ operands.Int (pos 7) ∷ operands.Unresolved ∷ operands.Nothing ∷ operands.Unresolved ∷ []
 unfolding kept_operand types class_a pool
 operands_kept = refl

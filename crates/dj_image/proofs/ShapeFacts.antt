@@ -5,6 +5,7 @@ use Rattle.std.specs.Option.{option_map}
 use Rattle.std.proofs.lemmas.Option.{none-some, same_Some}
 use Rattle.dj_names.specs.declared.descriptor.Desc.TheVariants as described_as
 use Rattle.dj_ops.specs.declared.instruction.Instr.TheVariants as instrs
+use Rattle.dj_ops.specs.Mnemonics.{return}
 use Rattle.dj_model.specs.trusted.Kinds.{Signature, call_signature}
 use Rattle.dj_model.specs.trusted.Linking.{FoundMethod}
 use Rattle.dj_model.specs.trusted.Program as programs
@@ -37,7 +38,7 @@ abbrev parts : CodeParts
 parts = record {
   max_stack = 1;
   max_locals = 2;
-  labelled = record { code = instrs.Simple 177 ∷ []; ranges = [] };
+  labelled = record { code = instrs.Simple return ∷ []; ranges = [] };
   frames = Some [];
 }
 

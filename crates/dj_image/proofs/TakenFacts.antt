@@ -14,6 +14,7 @@ use Rattle.dj_names.specs.trusted.Types.{class_type, base_type, base_array, arra
 use Rattle.dj_names.specs.trusted.UnitReading.{unit_read, long_read, two_read}
 use Rattle.dj_ops.specs.declared.instruction.Instr.{Instr}
 use Rattle.dj_ops.specs.declared.instruction.Instr.TheVariants as instrs
+use Rattle.dj_ops.specs.Mnemonics.{nop, bipush, ldc, iload, goto, return, getstatic, putstatic, getfield, putfield, invokevirtual, invokespecial, invokestatic, new, anewarray, checkcast, instanceof}
 use Rattle.dj_labels.specs.declared.labelled.Protected.{Protected}
 use Rattle.dj_pool.specs.trusted.Pool.{Constant, Utf8, Integer, Long, Hole, Class, Text, Field, Method, InterfaceMethod, NameAndType}
 use Rattle.dj_model.specs.trusted.Types.{Member}
@@ -81,7 +82,7 @@ literals_take : map (λ (op : ℕ). takes (instrs.Literal op 1)) (18 ∷ 19 ∷ 
 literals_take = refl
 
 -- of a field getstatic, putstatic, getfield and putfield; invokevirtual of a method of a class, invokespecial and invokestatic of each method
-members_take : map (λ (op : ℕ). takes (instrs.Member op 1)) (178 ∷ 179 ∷ 180 ∷ 181 ∷ 182 ∷ 183 ∷ 184 ∷ [])
+members_take : map (λ (op : ℕ). takes (instrs.Member op 1)) (getstatic ∷ putstatic ∷ getfield ∷ putfield ∷ invokevirtual ∷ invokespecial ∷ invokestatic ∷ [])
     ≡ fields_alone ∷ fields_alone ∷ fields_alone ∷ fields_alone ∷ methods_alone ∷ all_methods_named ∷ all_methods_named ∷ []
 members_take = refl
 
@@ -90,21 +91,21 @@ interface_takes : takes (instrs.Interface 1 1) ≡ interfaces_alone
 interface_takes = refl
 
 -- new, anewarray, checkcast, instanceof and multianewarray of a class
-classes_take : map (λ (op : ℕ). takes (instrs.Class op 1)) (187 ∷ 189 ∷ 192 ∷ 193 ∷ []) ≡ classes_alone ∷ classes_alone ∷ classes_alone ∷ classes_alone ∷ []
+classes_take : map (λ (op : ℕ). takes (instrs.Class op 1)) (new ∷ anewarray ∷ checkcast ∷ instanceof ∷ []) ≡ classes_alone ∷ classes_alone ∷ classes_alone ∷ classes_alone ∷ []
 classes_take = refl
 
 multi_takes : takes (instrs.Multi 1 2) ≡ classes_alone
 multi_takes = refl
 
 -- and the others nothing, invokedynamic too
-others_take : map takes (instrs.Simple 0 ∷ instrs.Push 16 (pos 1) ∷ instrs.Local 21 0 false ∷ instrs.Branch 167 (pos 3) ∷ instrs.Dynamic 1 ∷ instrs.Array 10 ∷ [])
+others_take : map takes (instrs.Simple nop ∷ instrs.Push bipush (pos 1) ∷ instrs.Local iload 0 false ∷ instrs.Branch goto (pos 3) ∷ instrs.Dynamic 1 ∷ instrs.Array 10 ∷ [])
     ≡ nothing_taken ∷ nothing_taken ∷ nothing_taken ∷ nothing_taken ∷ nothing_taken ∷ nothing_taken ∷ []
 others_take = refl
 
-interface_not_virtual : takes_named (instrs.Member 182 1) (AnInterfaceMethod m) ≡ true → ⊥
+interface_not_virtual : takes_named (instrs.Member invokevirtual 1) (AnInterfaceMethod m) ≡ true → ⊥
 interface_not_virtual e = false≢true e
 
-long_not_by_ldc : takes_named (instrs.Literal 18 1) (ALong (pos 9)) ≡ true → ⊥
+long_not_by_ldc : takes_named (instrs.Literal ldc 1) (ALong (pos 9)) ≡ true → ⊥
 long_not_by_ldc e = false≢true e
 
 -- ---- by what is kept of a constant
@@ -122,7 +123,7 @@ literals_kept : map (λ (op : ℕ). map (takes_literal op) each_kept) (18 ∷ 19
 literals_kept = refl
 
 abbrev member_ops : List ℕ
-member_ops = 178 ∷ 179 ∷ 180 ∷ 181 ∷ 182 ∷ 183 ∷ 184 ∷ []
+member_ops = getstatic ∷ putstatic ∷ getfield ∷ putfield ∷ invokevirtual ∷ invokespecial ∷ invokestatic ∷ []
 
 -- of a field, of a method of a class, and of one of an interface
 fields_kept : map (λ (op : ℕ). takes_member op false (operands.Field (record { number = 0 }))) member_ops ≡ true ∷ true ∷ true ∷ true ∷ false ∷ false ∷ false ∷ []
@@ -141,7 +142,7 @@ interfaces_kept = refl
 interfaces_of_none : map (takes_operand (instrs.Interface 1 1) false) each_kept ≡ false ∷ false ∷ false ∷ false ∷ false ∷ false ∷ false ∷ false ∷ []
 interfaces_of_none = refl
 
-classes_kept : map (takes_operand (instrs.Class 187 1) false) each_kept ≡ false ∷ false ∷ false ∷ false ∷ false ∷ true ∷ false ∷ false ∷ []
+classes_kept : map (takes_operand (instrs.Class new 1) false) each_kept ≡ false ∷ false ∷ false ∷ false ∷ false ∷ true ∷ false ∷ false ∷ []
 classes_kept = refl
 
 multi_kept : map (takes_operand (instrs.Multi 1 2) false) each_kept ≡ false ∷ false ∷ false ∷ false ∷ false ∷ true ∷ false ∷ false ∷ []
@@ -160,11 +161,11 @@ kept = operands.Unresolved ∷ operands.Method (record { number = 3 }) ∷ opera
 of_interfaces : map (interface_at kinds) (0 ∷ 1 ∷ 2 ∷ 3 ∷ []) ≡ false ∷ true ∷ false ∷ false ∷ []
 of_interfaces = refl
 
-virtual_kept : map (λ (index : ℕ). indexed_operand kinds kept (instrs.Member 182 index) (Some index)) (0 ∷ 1 ∷ 2 ∷ 3 ∷ [])
+virtual_kept : map (λ (index : ℕ). indexed_operand kinds kept (instrs.Member invokevirtual index) (Some index)) (0 ∷ 1 ∷ 2 ∷ 3 ∷ [])
     ≡ operands.Unresolved ∷ operands.Unresolved ∷ operands.Method (record { number = 4 }) ∷ operands.Unresolved ∷ []
 virtual_kept = refl
 
-static_kept : map (λ (index : ℕ). indexed_operand kinds kept (instrs.Member 184 index) (Some index)) (1 ∷ 2 ∷ [])
+static_kept : map (λ (index : ℕ). indexed_operand kinds kept (instrs.Member invokestatic index) (Some index)) (1 ∷ 2 ∷ [])
     ≡ operands.Method (record { number = 3 }) ∷ operands.Method (record { number = 4 }) ∷ []
 static_kept = refl
 
@@ -172,7 +173,7 @@ interface_kept : map (λ (index : ℕ). indexed_operand kinds kept (instrs.Inter
     ≡ operands.Method (record { number = 3 }) ∷ operands.Unresolved ∷ []
 interface_kept = refl
 
-no_index_kept : indexed_operand kinds kept (instrs.Simple 0) None ≡ operands.Nothing
+no_index_kept : indexed_operand kinds kept (instrs.Simple nop) None ≡ operands.Nothing
 no_index_kept = refl
 
 -- newarray of ints, of booleans, and of floats, of which none is made
@@ -219,7 +220,7 @@ ranges =
     ∷ record { start = 0; end = 1; handler = 1; catch_type = 17 } ∷ record { start = 0; end = 1; handler = 1; catch_type = 27 } ∷ []
 
 parts : CodeParts
-parts = record { max_stack = 1; max_locals = 2; labelled = record { code = instrs.Simple 0 ∷ instrs.Simple 177 ∷ []; ranges = ranges }; frames = Some [] }
+parts = record { max_stack = 1; max_locals = 2; labelled = record { code = instrs.Simple nop ∷ instrs.Simple return ∷ []; ranges = ranges }; frames = Some [] }
 
 source : Source
 source = record { class = class_a; pool = pool; codes = Some parts ∷ []; values = Some (programs.Int (pos 5)) ∷ Some (programs.Int (pos 6)) ∷ [] }
@@ -261,19 +262,19 @@ unfolding image source class_a class_of_source field_x field_y method_m pool ope
 interfaces_reported = refl
 
 -- of a class that isn't there a field, a method, and a method of an interface
-missing_reported : map say (instrs.Member 178 14 ∷ instrs.Member 181 14 ∷ instrs.Member 182 15 ∷ instrs.Member 184 15 ∷ instrs.Member 183 16 ∷ [])
+missing_reported : map say (instrs.Member getstatic 14 ∷ instrs.Member putfield 14 ∷ instrs.Member invokevirtual 15 ∷ instrs.Member invokestatic 15 ∷ instrs.Member invokespecial 16 ∷ [])
     ≡ operands.Unresolved ∷ operands.Unresolved ∷ operands.Unresolved ∷ operands.Unresolved ∷ operands.Unresolved ∷ []
 unfolding image source class_a class_of_source field_x field_y method_m pool operand_of instruction_of named_by all_methods all_fields resolve_method resolve_field most_classes chain_of interfaces_from interfaces_above field_order desc_in type_in dims_read name_read class_read of_read type_read params_read field_read return_read method_read desc_read reads_class_name
 missing_reported = refl
 
 -- new, checkcast and instanceof of a class and of an array, and anewarray of a class, of which the arrays have a number, and of an array, of which they have none
-classes_reported : map say (instrs.Class 187 2 ∷ instrs.Class 192 2 ∷ instrs.Class 193 2 ∷ instrs.Class 193 25 ∷ instrs.Class 189 2 ∷ instrs.Class 189 25 ∷ [])
+classes_reported : map say (instrs.Class new 2 ∷ instrs.Class checkcast 2 ∷ instrs.Class instanceof 2 ∷ instrs.Class instanceof 25 ∷ instrs.Class anewarray 2 ∷ instrs.Class anewarray 25 ∷ [])
     ≡ operands.Class 0 ∷ operands.Class 0 ∷ operands.Class 0 ∷ operands.Class 1 ∷ operands.Class 1 ∷ operands.Unresolved ∷ []
 unfolding image source class_a class_of_source field_x field_y method_m pool operand_of instruction_of named_by desc_in type_in dims_read name_read class_read of_read type_read params_read field_read return_read method_read desc_read reads_class_name
 classes_reported = refl
 
 -- multianewarray of an array, of a class that isn't there, and of a field; and the others of a class that isn't there, of a field and of an int
-no_classes_reported : map say (instrs.Multi 25 1 ∷ instrs.Multi 13 1 ∷ instrs.Multi 6 1 ∷ instrs.Class 187 13 ∷ instrs.Class 189 13 ∷ instrs.Class 192 6 ∷ instrs.Class 193 17 ∷ instrs.Class 189 10 ∷ [])
+no_classes_reported : map say (instrs.Multi 25 1 ∷ instrs.Multi 13 1 ∷ instrs.Multi 6 1 ∷ instrs.Class new 13 ∷ instrs.Class anewarray 13 ∷ instrs.Class checkcast 6 ∷ instrs.Class instanceof 17 ∷ instrs.Class anewarray 10 ∷ [])
     ≡ operands.Class 1 ∷ operands.Unresolved ∷ operands.Unresolved ∷ operands.Unresolved ∷ operands.Unresolved ∷ operands.Unresolved ∷ operands.Unresolved ∷ operands.Unresolved ∷ []
 unfolding image source class_a class_of_source field_x field_y method_m pool operand_of instruction_of named_by desc_in type_in dims_read name_read class_read of_read type_read params_read field_read return_read method_read desc_read reads_class_name
 no_classes_reported = refl

@@ -9,6 +9,7 @@ use Rattle.dj_names.specs.declared.descriptor.Of.TheVariants as ofs
 use Rattle.dj_names.specs.declared.descriptor.Desc.TheVariants as descs
 use Rattle.dj_names.specs.trusted.Types.{Name, same_name, same_of, same_type, class_type, base_type, base_array, array_type}
 use Rattle.dj_ops.specs.declared.instruction.Instr.TheVariants as instrs
+use Rattle.dj_ops.specs.Mnemonics.{nop, bipush, ldc, ldc_w, ldc2_w, iload, goto, getstatic, putstatic, getfield, putfield, invokevirtual, invokespecial, invokestatic, new, anewarray, checkcast, instanceof}
 use Rattle.dj_model.specs.trusted.Types.{Member}
 use Rattle.dj_model.specs.trusted.Instructions.{Nothing, AnInt, ALong, AText, AClass, AField, AMethod, AnInterfaceMethod, Another, Instruction}
 use Rattle.dj_model.specs.trusted.Opcodes.{instruction_of, simple}
@@ -65,12 +66,12 @@ NoneUses (i ∷ rest) ty = (UsesType i ty → ⊥) × NoneUses rest ty
 -- getstatic, putstatic, getfield and putfield, the four invokes, new, checkcast and instanceof
 abbrev users : List Instruction
 users =
-    instruction_of (instrs.Member 178 1) (AField x) ∷ instruction_of (instrs.Member 179 1) (AField x)
-    ∷ instruction_of (instrs.Member 180 1) (AField x) ∷ instruction_of (instrs.Member 181 1) (AField x)
-    ∷ instruction_of (instrs.Member 182 1) (AMethod m) ∷ instruction_of (instrs.Member 183 1) (AMethod m)
-    ∷ instruction_of (instrs.Member 184 1) (AMethod m) ∷ instruction_of (instrs.Interface 1 1) (AnInterfaceMethod m)
-    ∷ instruction_of (instrs.Class 187 1) (AClass a) ∷ instruction_of (instrs.Class 192 1) (AClass a)
-    ∷ instruction_of (instrs.Class 193 1) (AClass a) ∷ []
+    instruction_of (instrs.Member getstatic 1) (AField x) ∷ instruction_of (instrs.Member putstatic 1) (AField x)
+    ∷ instruction_of (instrs.Member getfield 1) (AField x) ∷ instruction_of (instrs.Member putfield 1) (AField x)
+    ∷ instruction_of (instrs.Member invokevirtual 1) (AMethod m) ∷ instruction_of (instrs.Member invokespecial 1) (AMethod m)
+    ∷ instruction_of (instrs.Member invokestatic 1) (AMethod m) ∷ instruction_of (instrs.Interface 1 1) (AnInterfaceMethod m)
+    ∷ instruction_of (instrs.Class new 1) (AClass a) ∷ instruction_of (instrs.Class checkcast 1) (AClass a)
+    ∷ instruction_of (instrs.Class instanceof 1) (AClass a) ∷ []
 
 users_use : EachUses users a
 unfolding instruction_of
@@ -92,11 +93,11 @@ unfolding instruction_of
 users_of_no_array = (not_array, (not_array, (not_array, (not_array, (not_array, (not_array, (not_array, (not_array, (not_array, (not_array, (not_array, tt)))))))))))
 
 -- anewarray and newarray use the array that they make, and not what its elements are
-makers_use : UsesType (instruction_of (instrs.Class 189 1) (AClass a)) (a_arrays 1) × UsesType (instruction_of (instrs.Class 189 1) (AClass ints)) (array_type ints) × UsesType (instruction_of (instrs.Array 10) Nothing) ints
+makers_use : UsesType (instruction_of (instrs.Class anewarray 1) (AClass a)) (a_arrays 1) × UsesType (instruction_of (instrs.Class anewarray 1) (AClass ints)) (array_type ints) × UsesType (instruction_of (instrs.Array 10) Nothing) ints
 unfolding instruction_of
 makers_use = (refl, refl, refl)
 
-makers_of_no_other : (UsesType (instruction_of (instrs.Class 189 1) (AClass a)) a → ⊥) × (UsesType (instruction_of (instrs.Class 189 1) (AClass ints)) ints → ⊥) × (UsesType (instruction_of (instrs.Array 10) Nothing) longs → ⊥) × (UsesType (instruction_of (instrs.Array 10) Nothing) (base_type bases.Int) → ⊥)
+makers_of_no_other : (UsesType (instruction_of (instrs.Class anewarray 1) (AClass a)) a → ⊥) × (UsesType (instruction_of (instrs.Class anewarray 1) (AClass ints)) ints → ⊥) × (UsesType (instruction_of (instrs.Array 10) Nothing) longs → ⊥) × (UsesType (instruction_of (instrs.Array 10) Nothing) (base_type bases.Int) → ⊥)
 unfolding instruction_of
 makers_of_no_other = (
   other_type a (a_arrays 1) refl refl,
@@ -108,9 +109,9 @@ makers_of_no_other = (
 -- what isn't run uses what it names: ldc of an array's class, multianewarray, and operands that aren't taken
 abbrev others : List Instruction
 others =
-    instruction_of (instrs.Literal 18 1) (AClass ints) ∷ instruction_of (instrs.Literal 19 1) (AClass ints) ∷ instruction_of (instrs.Multi 1 2) (AClass ints)
-    ∷ instruction_of (instrs.Member 182 1) (AField (record x { class = ints })) ∷ instruction_of (instrs.Member 180 1) (AMethod (record m { class = ints }))
-    ∷ instruction_of (instrs.Member 182 1) (AnInterfaceMethod (record m { class = ints })) ∷ instruction_of (instrs.Interface 1 1) (AMethod (record m { class = ints })) ∷ []
+    instruction_of (instrs.Literal ldc 1) (AClass ints) ∷ instruction_of (instrs.Literal ldc_w 1) (AClass ints) ∷ instruction_of (instrs.Multi 1 2) (AClass ints)
+    ∷ instruction_of (instrs.Member invokevirtual 1) (AField (record x { class = ints })) ∷ instruction_of (instrs.Member getfield 1) (AMethod (record m { class = ints }))
+    ∷ instruction_of (instrs.Member invokevirtual 1) (AnInterfaceMethod (record m { class = ints })) ∷ instruction_of (instrs.Interface 1 1) (AMethod (record m { class = ints })) ∷ []
 
 others_use : EachUses others ints
 unfolding instruction_of
@@ -126,10 +127,10 @@ others_of_no_other = (not_longs, (not_longs, (not_longs, (not_longs, (not_longs,
 -- nop, a push of each kind, a local variable, a jump, newarray of floats, invokedynamic, and an operand that names no type, use none
 abbrev quiet : List Instruction
 quiet =
-    instruction_of (instrs.Simple 0) Nothing ∷ instruction_of (instrs.Push 16 (pos 1)) Nothing ∷ instruction_of (instrs.Literal 18 1) (AnInt (pos 1))
-    ∷ instruction_of (instrs.Literal 18 1) (AText []) ∷ instruction_of (instrs.Literal 20 1) (ALong (pos 1)) ∷ instruction_of (instrs.Local 21 0 false) Nothing
-    ∷ instruction_of (instrs.Branch 167 (pos 3)) Nothing ∷ instruction_of (instrs.Array 6) Nothing ∷ instruction_of (instrs.Dynamic 1) Another
-    ∷ instruction_of (instrs.Class 187 1) Another ∷ []
+    instruction_of (instrs.Simple nop) Nothing ∷ instruction_of (instrs.Push bipush (pos 1)) Nothing ∷ instruction_of (instrs.Literal ldc 1) (AnInt (pos 1))
+    ∷ instruction_of (instrs.Literal ldc 1) (AText []) ∷ instruction_of (instrs.Literal ldc2_w 1) (ALong (pos 1)) ∷ instruction_of (instrs.Local iload 0 false) Nothing
+    ∷ instruction_of (instrs.Branch goto (pos 3)) Nothing ∷ instruction_of (instrs.Array 6) Nothing ∷ instruction_of (instrs.Dynamic 1) Another
+    ∷ instruction_of (instrs.Class new 1) Another ∷ []
 
 quiet_use_none : (ty : Ty) → NoneUses quiet ty
 unfolding instruction_of simple

@@ -10,6 +10,7 @@ use Rattle.dj_names.specs.trusted.Types.{base_array, array_type}
 use Rattle.dj_names.specs.trusted.UnitReading.{unit_read, long_read, two_read}
 use Rattle.dj_ops.specs.declared.instruction.Instr.{Instr}
 use Rattle.dj_ops.specs.declared.instruction.Instr.TheVariants as instrs
+use Rattle.dj_ops.specs.Mnemonics.{nop, ldc, ldc_w, ldc2_w, iload, goto, getstatic, invokevirtual, invokestatic, new, anewarray, checkcast, instanceof}
 use Rattle.dj_pool.specs.trusted.Pool.{Constant, Utf8, Integer, Class, Text, Field, Method, InterfaceMethod, NameAndType}
 use Rattle.dj_model.specs.trusted.Opcodes.{array_rows}
 use Rattle.dj_declared.specs.trusted.Files.{desc_in, type_in}
@@ -34,30 +35,30 @@ pool =
 -- ---- of an instruction
 
 -- ldc and ldc_w of a text push it, and ldc2_w doesn't; a class is used, and an int uses nothing
-literals_use : map (use_in pool) (instrs.Literal 18 12 ∷ instrs.Literal 19 12 ∷ instrs.Literal 20 12 ∷ instrs.Literal 18 2 ∷ instrs.Literal 19 15 ∷ instrs.Literal 18 13 ∷ [])
+literals_use : map (use_in pool) (instrs.Literal ldc 12 ∷ instrs.Literal ldc_w 12 ∷ instrs.Literal ldc2_w 12 ∷ instrs.Literal ldc 2 ∷ instrs.Literal ldc_w 15 ∷ instrs.Literal ldc 13 ∷ [])
     ≡ Some (uses.Pushed 11) ∷ Some (uses.Pushed 11) ∷ None ∷ Some (uses.Itself 1) ∷ Some (uses.Itself 14) ∷ None ∷ []
 literals_use = refl
 
 -- of a field or a method its class, whatever the instruction takes; none where what should be a class isn't one
-members_use : map (use_in pool) (instrs.Member 178 6 ∷ instrs.Member 182 9 ∷ instrs.Member 184 10 ∷ instrs.Member 182 6 ∷ instrs.Interface 10 1 ∷ instrs.Dynamic 9 ∷ instrs.Member 178 16 ∷ [])
+members_use : map (use_in pool) (instrs.Member getstatic 6 ∷ instrs.Member invokevirtual 9 ∷ instrs.Member invokestatic 10 ∷ instrs.Member invokevirtual 6 ∷ instrs.Interface 10 1 ∷ instrs.Dynamic 9 ∷ instrs.Member getstatic 16 ∷ [])
     ≡ Some (uses.Itself 1) ∷ Some (uses.Itself 1) ∷ Some (uses.Itself 1) ∷ Some (uses.Itself 1) ∷ Some (uses.Itself 1) ∷ Some (uses.Itself 1) ∷ None ∷ []
 members_use = refl
 
 -- anewarray of a class an array of it, and of a field its class, as it makes none by that
-classes_use : map (use_in pool) (instrs.Class 187 2 ∷ instrs.Class 189 2 ∷ instrs.Class 189 15 ∷ instrs.Class 192 15 ∷ instrs.Class 193 2 ∷ instrs.Multi 15 1 ∷ instrs.Class 189 6 ∷ [])
+classes_use : map (use_in pool) (instrs.Class new 2 ∷ instrs.Class anewarray 2 ∷ instrs.Class anewarray 15 ∷ instrs.Class checkcast 15 ∷ instrs.Class instanceof 2 ∷ instrs.Multi 15 1 ∷ instrs.Class anewarray 6 ∷ [])
     ≡ Some (uses.Itself 1) ∷ Some (uses.Element 1) ∷ Some (uses.Element 14) ∷ Some (uses.Itself 14) ∷ Some (uses.Itself 1) ∷ Some (uses.Itself 14) ∷ Some (uses.Itself 1) ∷ []
 classes_use = refl
 
 -- newarray by its code; the others nothing, nor what has no constant at its index
-others_use : map (use_in pool) (instrs.Array 10 ∷ instrs.Simple 0 ∷ instrs.Local 21 0 false ∷ instrs.Branch 167 (pos 3) ∷ instrs.Class 187 0 ∷ instrs.Literal 18 99 ∷ [])
+others_use : map (use_in pool) (instrs.Array 10 ∷ instrs.Simple nop ∷ instrs.Local iload 0 false ∷ instrs.Branch goto (pos 3) ∷ instrs.Class new 0 ∷ instrs.Literal ldc 99 ∷ [])
     ≡ Some (uses.Base 10) ∷ None ∷ None ∷ None ∷ None ∷ None ∷ []
 others_use = refl
 
 -- anewarray doesn't use the class of the elements, nor new an array
-not_elements : use_in pool (instrs.Class 189 2) ≡ Some (uses.Itself 1) → ⊥
+not_elements : use_in pool (instrs.Class anewarray 2) ≡ Some (uses.Itself 1) → ⊥
 not_elements e = let same : uses.Element 1 ≡ uses.Itself 1 = same_Some (uses.Element 1) (uses.Itself 1) e in absurd cc
 
-not_array : use_in pool (instrs.Class 187 2) ≡ Some (uses.Element 1) → ⊥
+not_array : use_in pool (instrs.Class new 2) ≡ Some (uses.Element 1) → ⊥
 not_array e = let same : uses.Itself 1 ≡ uses.Element 1 = same_Some (uses.Itself 1) (uses.Element 1) e in absurd cc
 
 -- ---- what is used
@@ -80,7 +81,7 @@ texts_pushed = refl
 -- ---- of all instructions
 
 abbrev instructions : List Instr
-instructions = instrs.Literal 18 12 ∷ instrs.Simple 0 ∷ instrs.Class 189 2 ∷ instrs.Array 10 ∷ instrs.Member 182 9 ∷ []
+instructions = instrs.Literal ldc 12 ∷ instrs.Simple nop ∷ instrs.Class anewarray 2 ∷ instrs.Array 10 ∷ instrs.Member invokevirtual 9 ∷ []
 
 no_code_uses : code_uses pool None ≡ []
 no_code_uses = refl

@@ -14,8 +14,9 @@ use crate::operand::Operand;
 use crate::parts::ClassParts;
 use crate::shaped::{ShapeParts, shape_parts};
 use crate::taken::{
-    caught_kept, code_at, constant_at, index_of, instr_at, named_kept, operand_there, range_at,
+    caught_kept, code_at, constant_at, instr_at, named_kept, operand_there, range_at,
 };
+use dj_check::index_of;
 use dj_names::{NativeId, Raised, Units};
 use dj_program::MethodCode;
 use dj_types::{FieldId, Linker, MemberOf, MethodId, Types};

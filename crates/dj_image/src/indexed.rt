@@ -23,10 +23,7 @@ pub(crate) fn index_count(pool: &OwnedPool) -> u16
 pub(crate) fn number_at(numbers: &[Option<u32>], index: u16) -> Option<u32>
     ensures { result ≡ get_or numbers.now index None }
 {
-    match numbers.get(usize::from(index)) {
-        Some(number) => *number,
-        None => None,
-    }
+    *numbers.get(usize::from(index))?
 }
 
 // ---- by the index of a text

@@ -30,7 +30,7 @@ pub(crate) struct ClassTables {
     pub(crate) constants: Vec<Operand>,
 }
 
-/// The same for each class.
+/// What is kept of the constants of each class and of its fields.
 #[derive(Drop)]
 pub(crate) struct Tables {
     pub(crate) operands: Vec<Vec<Operand>>,

@@ -2,7 +2,6 @@ ghost use Rattle.std.specs.Prelude.{◌≡◌, get_or, option_and_then};
 ghost use Rattle.std.specs.Option.{option_map};
 ghost use Rattle.dj_names.specs.trusted.Types.{base_array};
 ghost use Rattle.dj_model.specs.trusted.Opcodes.{array_rows};
-ghost use Rattle.dj_check.specs.trusted.Instructions.{index_of};
 ghost use Rattle.dj_types.specs.Typed.{text_of_type};
 ghost use Rattle.dj_image.specs.declared.operand.Operand.TheVariants.{Unresolved};
 ghost use Rattle.dj_image.specs.Operands.{class_operand};
@@ -12,6 +11,7 @@ use crate::indexed::number_at;
 use crate::operand::Operand;
 use crate::owned::{OwnedEntry, OwnedPool};
 use crate::parts::ClassParts;
+use dj_check::index_of;
 use dj_labels::Protected;
 use dj_names::Base;
 use dj_ops::Instr;
@@ -70,21 +70,6 @@ fn takes(instr: &Instr, interface: bool, operand: Operand) -> bool
 }
 
 // ---- the operand of an instruction, by the tables of its class
-
-/// The index of the constant that an instruction names.
-pub(crate) fn index_of(instr: &Instr) -> Option<u16>
-    ensures { result ≡ index_of instr.now }
-{
-    match instr {
-        Instr::Literal { op: _, index } => Some(*index),
-        Instr::Member { op: _, index } => Some(*index),
-        Instr::Interface { index, count: _ } => Some(*index),
-        Instr::Dynamic { index } => Some(*index),
-        Instr::Class { op: _, index } => Some(*index),
-        Instr::Multi { index, dims: _ } => Some(*index),
-        _ => None,
-    }
-}
 
 fn is_interface_method(pool: &OwnedPool, index: u16) -> bool
     ensures { result ≡ interface_at pool.now index }

@@ -53,10 +53,7 @@ impl Initialisers {
     pub fn initialiser(&self, class: u32) -> Option<Initialiser>
         ensures { result ≡ get_or self.now class None }
     {
-        match self.each.get(class as usize) {
-            Some(initialiser) => *initialiser,
-            None => None,
-        }
+        *self.each.get(class as usize)?
     }
 }
 

@@ -6,6 +6,7 @@ use Rattle.dj_names.specs.declared.descriptor.Kind.TheVariants as kinds
 use Rattle.dj_names.specs.declared.descriptor.Desc.{Desc}
 use Rattle.dj_names.specs.trusted.Types.{parameters_of}
 use Rattle.dj_ops.specs.declared.instruction.Instr.TheVariants as instrs
+use Rattle.dj_ops.specs.Mnemonics.{getstatic, putfield, invokevirtual, invokespecial, invokestatic, invokeinterface, new}
 use Rattle.dj_model.specs.trusted.Types.{Member, no_parameters}
 use Rattle.dj_model.specs.trusted.Instructions.{Instruction, Nop, Invoke, Static}
 use Rattle.dj_model.specs.trusted.Members.{kinds_of}
@@ -22,13 +23,13 @@ use Rattle.dj_invoking.specs.Sites.{IsCallAt, call_index, call_mode, call_named,
 
 -- ---- forms
 
-modes_reported : map opcode_mode (181 ∷ 182 ∷ 183 ∷ 184 ∷ 185 ∷ []) ≡ None ∷ Some modes.Virtual ∷ Some modes.Special ∷ Some modes.Static ∷ None ∷ []
+modes_reported : map opcode_mode (putfield ∷ invokevirtual ∷ invokespecial ∷ invokestatic ∷ invokeinterface ∷ []) ≡ None ∷ Some modes.Virtual ∷ Some modes.Special ∷ Some modes.Static ∷ None ∷ []
 modes_reported = refl
 
-calls_reported : map call_mode (instrs.Interface 7 2 ∷ instrs.Member 184 7 ∷ instrs.Member 178 7 ∷ instrs.Class 184 7 ∷ []) ≡ Some modes.Interface ∷ Some modes.Static ∷ None ∷ None ∷ []
+calls_reported : map call_mode (instrs.Interface 7 2 ∷ instrs.Member invokestatic 7 ∷ instrs.Member getstatic 7 ∷ instrs.Class invokestatic 7 ∷ []) ≡ Some modes.Interface ∷ Some modes.Static ∷ None ∷ None ∷ []
 calls_reported = refl
 
-indexes_reported : map call_index (instrs.Interface 7 2 ∷ instrs.Member 184 8 ∷ instrs.Class 187 9 ∷ []) ≡ Some 7 ∷ Some 8 ∷ None ∷ []
+indexes_reported : map call_index (instrs.Interface 7 2 ∷ instrs.Member invokestatic 8 ∷ instrs.Class new 9 ∷ []) ≡ Some 7 ∷ Some 8 ∷ None ∷ []
 indexes_reported = refl
 
 -- ---- kinds

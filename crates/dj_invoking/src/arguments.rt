@@ -82,10 +82,7 @@ fn is_object(image: &Image, heap: &Heap, r: u32, class: u32) -> bool
 fn class_at(classes: &[Option<u32>], at: u16) -> Option<u32>
     ensures { result ≡ get_or classes.now at None }
 {
-    match classes.get(usize::from(at)) {
-        Some(class) => *class,
-        None => None,
-    }
+    *classes.get(usize::from(at))?
 }
 
 /// Whether each of this many upper operands that is a reference is null or of the class of its parameter.

@@ -11,6 +11,7 @@ use Rattle.dj_names.specs.trusted.Descriptors.{Describes}
 use Rattle.dj_names.proofs.DescLaws.{described_once}
 use Rattle.dj_edge.specs.trusted.Held.{File}
 use Rattle.dj_ops.specs.declared.instruction.Instr.TheVariants as instrs
+use Rattle.dj_ops.specs.Mnemonics.{nop, return}
 use Rattle.dj_pool.specs.trusted.Pool.{Constant, Utf8, Class}
 use Rattle.dj_pool.proofs.Decides.{tests_decide}
 use Rattle.dj_class.specs.trusted.ClassFile.{MemberInfo, ClassFile}
@@ -188,7 +189,7 @@ row : ℕ → Protected
 row catch_type = record { start = 0; end = 1; handler = 1; catch_type = catch_type }
 
 rows : List Protected → Labelled
-rows ranges = record { code = instrs.Simple 0 ∷ instrs.Simple 177 ∷ []; ranges = ranges }
+rows ranges = record { code = instrs.Simple nop ∷ instrs.Simple return ∷ []; ranges = ranges }
 
 -- it isn't in a library without classes, so rule 17 would be violated
 error_foreign : IsForeignConstant [] caught (Class 1)

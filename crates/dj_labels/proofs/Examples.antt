@@ -9,6 +9,7 @@ use Rattle.dj_ops.specs.trusted.Forms.{form_of}
 use Rattle.dj_ops.specs.trusted.Instructions.{Stands}
 use Rattle.dj_ops.specs.Reading.{instr_at}
 use Rattle.dj_ops.proofs.Whole.{reads_again}
+use Rattle.dj_ops.specs.Mnemonics.{bipush, sipush, ldc, goto, return}
 use Rattle.dj_labels.specs.declared.labelled.Protected.{Protected}
 use Rattle.dj_labels.specs.declared.labelled.Labelled.{Labelled}
 use Rattle.dj_labels.specs.declared.errors.CodeError.{CodeError}
@@ -31,17 +32,17 @@ labels code ranges = record { code = code; ranges = ranges }
 -- ---- targets
 
 -- of goto, tableswitch, lookupswitch and ldc
-targets : (targets_of (instrs.Branch 167 (pos 3)) ≡ pos 3 ∷ [])
+targets : (targets_of (instrs.Branch goto (pos 3)) ≡ pos 3 ∷ [])
     × (targets_of (instrs.Table (pos 1) (pos 5) (pos 2 ∷ pos 3 ∷ [])) ≡ pos 1 ∷ pos 2 ∷ pos 3 ∷ [])
     × (targets_of (instrs.Lookup (pos 1) ((pos 5, pos 2) ∷ (pos 6, pos 3) ∷ [])) ≡ pos 1 ∷ pos 2 ∷ pos 3 ∷ [])
-    × (targets_of (instrs.Literal 18 3) ≡ [])
+    × (targets_of (instrs.Literal ldc 3) ≡ [])
 targets = (refl, refl, refl, refl)
 
 -- the numbers that are matched, and those that are pushed, are no targets
 replaced : (with_targets (λ t. pos 9) (instrs.Table (pos 1) (pos 5) (pos 2 ∷ []))
     ≡ instrs.Table (pos 9) (pos 5) (pos 9 ∷ []))
     × (with_targets (λ t. pos 9) (instrs.Lookup (pos 1) ((pos 5, pos 2) ∷ [])) ≡ instrs.Lookup (pos 9) ((pos 5, pos 9) ∷ []))
-    × (with_targets (λ t. pos 9) (instrs.Push 16 (pos 1)) ≡ instrs.Push 16 (pos 1))
+    × (with_targets (λ t. pos 9) (instrs.Push bipush (pos 1)) ≡ instrs.Push bipush (pos 1))
 replaced = (refl, refl, refl)
 
 -- ---- labelled code
@@ -69,7 +70,7 @@ nop = record {
 }
 
 -- nop at 0, goto at 1 to the return at 4, which is the third instruction
-jump : IsLabelled (0 ∷ 167 ∷ 0 ∷ 3 ∷ 177 ∷ []) (row 1 4 4 ∷ []) (labels (instrs.Simple 0 ∷ instrs.Branch 167 (pos 2) ∷ instrs.Simple 177 ∷ []) (range 1 2 2 ∷ []))
+jump : IsLabelled (0 ∷ goto ∷ 0 ∷ 3 ∷ return ∷ []) (row 1 4 4 ∷ []) (labels (instrs.Simple 0 ∷ instrs.Branch goto (pos 2) ∷ instrs.Simple return ∷ []) (range 1 2 2 ∷ []))
 unfolding form_of
 jump = record {
   starts = 0 ∷ 1 ∷ 4 ∷ [];
@@ -92,7 +93,7 @@ jump = record {
 }
 
 -- not with the address of its target
-address_as_number : IsLabelled (0 ∷ 167 ∷ 0 ∷ 3 ∷ 177 ∷ []) [] (labels (instrs.Simple 0 ∷ instrs.Branch 167 (pos 4) ∷ instrs.Simple 177 ∷ []) []) → ⊥
+address_as_number : IsLabelled (0 ∷ goto ∷ 0 ∷ 3 ∷ return ∷ []) [] (labels (instrs.Simple 0 ∷ instrs.Branch goto (pos 4) ∷ instrs.Simple return ∷ []) []) → ⊥
 address_as_number is = omega (arith, ints, is.targets.1.0.0.1)
 
 -- the empty code has no instructions
@@ -110,10 +111,10 @@ not_empty is = none_stand is.starts is.cut.first is.cut.each
 -- ---- what is not well formed
 
 -- a target past the last instruction, and one below the first
-target_past : IsWellFormed (labels (instrs.Branch 167 (pos 1) ∷ []) []) → ⊥
+target_past : IsWellFormed (labels (instrs.Branch goto (pos 1) ∷ []) []) → ⊥
 target_past is = omega (arith, ints, is.targets.0.0.1)
 
-target_below : IsWellFormed (labels (instrs.Branch 167 (negsuc 0) ∷ []) []) → ⊥
+target_below : IsWellFormed (labels (instrs.Branch goto (negsuc 0) ∷ []) []) → ⊥
 target_below is = omega (arith, ints, is.targets.0.0.0)
 
 -- a range of nothing, one past the last instruction, and a handler past it
@@ -153,18 +154,18 @@ not_start : (k : ℕ) → k < 1 → get_or (pos 0 ∷ []) k (pos 1) ≡ pos 1 �
 not_start zero lt at = omega (arith, ints, at)
 not_start (suc k) lt at = omega (arith, lt)
 
-goto_inside : Refuses (167 ∷ 0 ∷ 1 ∷ []) [] (errors.Target 0)
+goto_inside : Refuses (goto ∷ 0 ∷ 1 ∷ []) [] (errors.Target 0)
 unfolding form_of
 goto_inside = record {
   starts = 0 ∷ [];
-  instrs = instrs.Branch 167 (pos 1) ∷ [];
+  instrs = instrs.Branch goto (pos 1) ∷ [];
   cut = record {
     first = refl;
     each = (record { later = omega arith; within = omega arith; spelled = record { padding = []; padded = refl; offsets = sfits_lit tt; are = refl }; proper = inl refl }, tt);
   };
   number = 0;
   stands_at = refl;
-  instr = instrs.Branch 167 (pos 1);
+  instr = instrs.Branch goto (pos 1);
   first = record { found = refl; lacks = λ has. not_start has.0.0 has.0.1 has.0.2; before = tt };
 }
 
@@ -192,24 +193,24 @@ reported errors.Memory = 0
 
 -- sipush 5, which has three bytes, at the start of code
 abbrev pushed : Instr
-pushed = instrs.Push 17 (pos 5)
+pushed = instrs.Push sipush (pos 5)
 
-push_stands : (rest : List ℕ) → Stands (17 ∷ 0 ∷ 5 ∷ rest) 0 pushed 3
+push_stands : (rest : List ℕ) → Stands (sipush ∷ 0 ∷ 5 ∷ rest) 0 pushed 3
 unfolding form_of
 push_stands rest = record { later = omega arith; within = omega arith; spelled = record { padding = []; padded = refl; offsets = tt; are = refl }; proper = sfits_lit tt }
 
 -- the reserved opcode behind it is reported by its address 3, and not by the number 1 that its instruction would have
-reserved_behind : Refuses (17 ∷ 0 ∷ 5 ∷ 255 ∷ []) [] (errors.Op 3)
+reserved_behind : Refuses (sipush ∷ 0 ∷ 5 ∷ 255 ∷ []) [] (errors.Op 3)
 unfolding form_of instr_at
 reserved_behind = record {
   starts = 0 ∷ [];
   instrs = pushed ∷ [];
   cut = record { first = refl; each = (push_stands _, tt) };
   within = omega arith;
-  none = λ instr next s. let read = reads_again (17 ∷ 0 ∷ 5 ∷ 255 ∷ []) 3 instr next s in absurd cc;
+  none = λ instr next s. let read = reads_again (sipush ∷ 0 ∷ 5 ∷ 255 ∷ []) 3 instr next s in absurd cc;
 }
 
-not_by_number : Refuses (17 ∷ 0 ∷ 5 ∷ 255 ∷ []) [] (errors.Op 1) → ⊥
+not_by_number : Refuses (sipush ∷ 0 ∷ 5 ∷ 255 ∷ []) [] (errors.Op 1) → ⊥
 not_by_number h = omega (arith, ap reported (one_fault_is _ [] (errors.Op 3) (errors.Op 1) reserved_behind h))
 
 -- goto at 3 into its own bytes, likewise
@@ -218,11 +219,11 @@ not_of_two zero lt at = omega (arith, ints, at)
 not_of_two (suc zero) lt at = omega (arith, ints, at)
 not_of_two (suc (suc k)) lt at = omega (arith, lt)
 
-goto_behind : Refuses (17 ∷ 0 ∷ 5 ∷ 167 ∷ 0 ∷ 1 ∷ []) [] (errors.Target 3)
+goto_behind : Refuses (sipush ∷ 0 ∷ 5 ∷ goto ∷ 0 ∷ 1 ∷ []) [] (errors.Target 3)
 unfolding form_of
 goto_behind = record {
   starts = 0 ∷ 3 ∷ [];
-  instrs = pushed ∷ instrs.Branch 167 (pos 4) ∷ [];
+  instrs = pushed ∷ instrs.Branch goto (pos 4) ∷ [];
   cut = record {
     first = refl;
     each = (
@@ -232,11 +233,11 @@ goto_behind = record {
   };
   number = 1;
   stands_at = refl;
-  instr = instrs.Branch 167 (pos 4);
+  instr = instrs.Branch goto (pos 4);
   first = record { found = refl; lacks = λ has. not_of_two has.0.0 has.0.1 has.0.2; before = (tt, tt) };
 }
 
-goto_not_by_number : Refuses (17 ∷ 0 ∷ 5 ∷ 167 ∷ 0 ∷ 1 ∷ []) [] (errors.Target 1) → ⊥
+goto_not_by_number : Refuses (sipush ∷ 0 ∷ 5 ∷ goto ∷ 0 ∷ 1 ∷ []) [] (errors.Target 1) → ⊥
 goto_not_by_number h = omega (arith, ap reported (one_fault_is _ [] (errors.Target 3) (errors.Target 1) goto_behind h))
 
 -- a row of nothing behind a good one
@@ -270,11 +271,11 @@ not_one_of_two zero lt at = omega (arith, ints, at)
 not_one_of_two (suc zero) lt at = omega (arith, ints, at)
 not_one_of_two (suc (suc k)) lt at = omega (arith, lt)
 
-two_jumps : Refuses (167 ∷ 0 ∷ 1 ∷ 167 ∷ 0 ∷ 1 ∷ []) [] (errors.Target 0)
+two_jumps : Refuses (goto ∷ 0 ∷ 1 ∷ goto ∷ 0 ∷ 1 ∷ []) [] (errors.Target 0)
 unfolding form_of
 two_jumps = record {
   starts = 0 ∷ 3 ∷ [];
-  instrs = instrs.Branch 167 (pos 1) ∷ instrs.Branch 167 (pos 4) ∷ [];
+  instrs = instrs.Branch goto (pos 1) ∷ instrs.Branch goto (pos 4) ∷ [];
   cut = record {
     first = refl;
     each = (
@@ -284,36 +285,36 @@ two_jumps = record {
   };
   number = 0;
   stands_at = refl;
-  instr = instrs.Branch 167 (pos 1);
+  instr = instrs.Branch goto (pos 1);
   first = record { found = refl; lacks = λ has. not_one_of_two has.0.0 has.0.1 has.0.2; before = tt };
 }
 
-not_the_second_jump : Refuses (167 ∷ 0 ∷ 1 ∷ 167 ∷ 0 ∷ 1 ∷ []) [] (errors.Target 3) → ⊥
+not_the_second_jump : Refuses (goto ∷ 0 ∷ 1 ∷ goto ∷ 0 ∷ 1 ∷ []) [] (errors.Target 3) → ⊥
 not_the_second_jump h = omega (arith, ap reported (one_fault_is _ [] (errors.Target 0) (errors.Target 3) two_jumps h))
 
 -- a reserved opcode comes before a jump into its own bytes, wherever they stand
-op_first : Refuses (167 ∷ 0 ∷ 1 ∷ 255 ∷ []) (row 0 0 0 ∷ []) (errors.Op 3)
+op_first : Refuses (goto ∷ 0 ∷ 1 ∷ 255 ∷ []) (row 0 0 0 ∷ []) (errors.Op 3)
 unfolding form_of instr_at
 op_first = record {
   starts = 0 ∷ [];
-  instrs = instrs.Branch 167 (pos 1) ∷ [];
+  instrs = instrs.Branch goto (pos 1) ∷ [];
   cut = record {
     first = refl;
     each = (record { later = omega arith; within = omega arith; spelled = record { padding = []; padded = refl; offsets = sfits_lit tt; are = refl }; proper = inl refl }, tt);
   };
   within = omega arith;
-  none = λ instr next s. let read = reads_again (167 ∷ 0 ∷ 1 ∷ 255 ∷ []) 3 instr next s in absurd cc;
+  none = λ instr next s. let read = reads_again (goto ∷ 0 ∷ 1 ∷ 255 ∷ []) 3 instr next s in absurd cc;
 }
 
-not_its_target : Refuses (167 ∷ 0 ∷ 1 ∷ 255 ∷ []) (row 0 0 0 ∷ []) (errors.Target 0) → ⊥
+not_its_target : Refuses (goto ∷ 0 ∷ 1 ∷ 255 ∷ []) (row 0 0 0 ∷ []) (errors.Target 0) → ⊥
 not_its_target h = omega (arith, ap reported (one_fault_is _ (row 0 0 0 ∷ []) (errors.Op 3) (errors.Target 0) op_first h))
 
 -- and a jump before a row
-target_first : Refuses (17 ∷ 0 ∷ 5 ∷ 167 ∷ 0 ∷ 1 ∷ []) (row 0 0 0 ∷ []) (errors.Target 3)
+target_first : Refuses (sipush ∷ 0 ∷ 5 ∷ goto ∷ 0 ∷ 1 ∷ []) (row 0 0 0 ∷ []) (errors.Target 3)
 unfolding goto_behind
 target_first = goto_behind
 
-not_its_row : Refuses (17 ∷ 0 ∷ 5 ∷ 167 ∷ 0 ∷ 1 ∷ []) (row 0 0 0 ∷ []) (errors.Range 0) → ⊥
+not_its_row : Refuses (sipush ∷ 0 ∷ 5 ∷ goto ∷ 0 ∷ 1 ∷ []) (row 0 0 0 ∷ []) (errors.Range 0) → ⊥
 not_its_row h = omega (arith, ap reported (one_fault_is _ _ (errors.Target 3) (errors.Range 0) target_first h))
 
 -- ---- rows, in code of four bytes whose instructions start at 0 and 3

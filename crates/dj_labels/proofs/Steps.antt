@@ -1,5 +1,5 @@
 -- The passes over the code, a step at a time.
-use Rattle.std.proofs.Common.{◌≡◌, ℕ, ◌<◌, ◌≤◌, inl, inr, List, [], ◌∷◌, ◌++◌, length, Result, Ok, Err, refl, sym, subst, arith}
+use Rattle.std.proofs.Common.{◌≡◌, ℕ, ◌<◌, ◌≤◌, inl, inr, List, [], ◌∷◌, ◌++◌, length, Result, Ok, Err, IfErr, MatchResult, IsErrAnd, refl, sym, subst, arith}
 use Rattle.dj_ops.specs.declared.instruction.Instr.{Instr}
 use Rattle.dj_ops.specs.declared.read.OpError.{OpError}
 use Rattle.dj_ops.specs.declared.read.OpError.TheVariants as op_errors
@@ -23,6 +23,13 @@ stops code at op_errors.Memory all = tt
 stops code at (op_errors.Reserved op) all = (refl, none_yields (λ same. absurd cc) all)
 stops code at op_errors.Cut all = (refl, none_yields (λ same. absurd cc) all)
 stops code at op_errors.BadOperand all = (refl, none_yields (λ same. absurd cc) all)
+
+-- what holds of each renamed error holds of the error that is answered
+pub renamed : {X E D : Type 0} {Q : E → D → Type 0} (one : Result X E) (two : Result X D) (P : D → Type 0) (f : E → D)
+    → MatchResult one (λ x. two ≡ Ok x) (λ e. IsErrAnd two (Q e)) → ((e : E) (d : D) → Q e d → d ≡ f e) → ((e : E) → one ≡ Err e → P (f e)) → IfErr two P
+renamed {X} {D = D} (Ok x) two P f is same holds = subst (λ (r : Result X D). IfErr r P) (sym is) tt
+renamed (Err e) (Ok x) P f is same holds = absurd is
+renamed (Err e) (Err d) P f is same holds = subst P (sym (same e d is)) (holds e refl)
 
 -- the instructions up to an address of the code
 pub record ReadUpTo (code starts : List ℕ) (instrs : List Instr) (at : ℕ) : Type 0 where

@@ -55,10 +55,10 @@ pub fn ranges_of(
 {
     let mut ranges = Ranges::new(alloc);
     for i in 0..rows.len() {
-        match range_of(table, size, rows[i]) {
-            Some(range) => ranges.push(range)?,
-            None => return Err(CodeError::Range(i)),
-        }
+        let Some(range) = range_of(table, size, rows[i]) else {
+            return Err(CodeError::Range(i));
+        };
+        ranges.push(range)?;
     }
     Ok(ranges)
 }

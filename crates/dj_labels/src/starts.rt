@@ -24,10 +24,7 @@ fn next_instr(alloc: Global, code: &[u8], at: u32) -> Result<(Instr, u32), CodeE
     ensures stands { IfOk result (λ x. Stands code.now at x.0 x.1) }
     ensures refused { IfErr result (IsStep code.now at) }
 {
-    match read_instr(alloc, code, at) {
-        Ok(read) => Ok(read),
-        Err(error) => Err(step_error(at, error)),
-    }
+    read_instr(alloc, code, at).map_err(|error| step_error(at, error))
 }
 
 /// The addresses at which the instructions of the code start, and the instructions, whose targets are addresses too.

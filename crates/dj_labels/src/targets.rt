@@ -14,13 +14,13 @@ fn number_of(table: &StartTable, at: u32, target: i64) -> Result<i64, CodeError>
     ensures found { IfOk result (λ number. AreNumbers table.now.starts.items (target ∷ []) (number ∷ [])) }
     ensures refused { IfErr result (LacksStart table.now.starts.items at (target ∷ [])) }
 {
-    match usize::try_from(target) {
-        Ok(address) => match table.number_at(address) {
-            Some(number) => Ok(i64::from(number)),
-            None => Err(CodeError::Target(at)),
-        },
-        Err(_) => Err(CodeError::Target(at)),
-    }
+    let Ok(address) = usize::try_from(target) else {
+        return Err(CodeError::Target(at));
+    };
+    let Some(number) = table.number_at(address) else {
+        return Err(CodeError::Target(at));
+    };
+    Ok(i64::from(number))
 }
 
 /// The numbers of the targets of the tableswitch at an address.

@@ -1,6 +1,7 @@
 -- Lines of the rules 17 and 18 by plain values: where they stand, and what silences them.
 use Rattle.std.proofs.Common.{◌≡◌, ℕ, ◌⊎◌, List, [], ◌∷◌, length, refl, ap, inl, inr, arith, codes, Contains}
 use Rattle.dj_ops.specs.declared.instruction.Instr.TheVariants as instrs
+use Rattle.dj_ops.specs.Mnemonics.{nop, ldc, return, checkcast}
 use Rattle.dj_pool.specs.trusted.Pool.{Constant, Utf8, Class}
 use Rattle.dj_labels.specs.declared.labelled.Protected.{Protected}
 use Rattle.dj_labels.specs.declared.labelled.Labelled.{Labelled}
@@ -38,12 +39,12 @@ pool : List Constant
 pool = Utf8 (codes "E") ∷ Class 1 ∷ []
 
 -- ldc of a class is reported by rule 10 alone
-reflected : (program : Program) (own : Name) (rule : ℕ) → LinkViolates program own pool (instrs.Literal 18 2) rule → ⊥
+reflected : (program : Program) (own : Name) (rule : ℕ) → LinkViolates program own pool (instrs.Literal ldc 2) rule → ⊥
 unfolding pool
 reflected program own rule v = v.0 10 (inr (inl (inl (refl, tt), refl)))
 
 -- checkcast isn't
-cast_unreported : (rule : ℕ) → LinkViolates [] (codes "D") pool (instrs.Class 192 2) rule → (rule ≡ 17) ⊎ (rule ≡ 18)
+cast_unreported : (rule : ℕ) → LinkViolates [] (codes "D") pool (instrs.Class checkcast 2) rule → (rule ≡ 17) ⊎ (rule ≡ 18)
 cast_unreported rule v = no_other _ _ rule v.1
 
 -- ---- where a handler's line stands
@@ -52,7 +53,7 @@ range : Protected
 range = record { start = 0; end = 1; handler = 1; catch_type = 2 }
 
 labelled : Labelled
-labelled = record { code = instrs.Simple 0 ∷ instrs.Simple 177 ∷ []; ranges = range ∷ [] }
+labelled = record { code = instrs.Simple nop ∷ instrs.Simple return ∷ []; ranges = range ∷ [] }
 
 no_error : CatchesError pool 2 → ⊥
 unfolding pool

@@ -6,6 +6,7 @@ use Rattle.dj_names.specs.trusted.NameReading.{reads_class_name}
 use Rattle.dj_names.specs.trusted.DescReading.{dims_read, name_read, class_read, of_read, type_read, params_read, field_read, return_read, method_read, desc_read}
 use Rattle.dj_ops.specs.declared.instruction.Instr.{Instr}
 use Rattle.dj_ops.specs.declared.instruction.Instr.TheVariants as instrs
+use Rattle.dj_ops.specs.Mnemonics.{nop, ldc, ldc2_w, getstatic, putstatic, getfield, putfield, invokevirtual, invokespecial, invokestatic, new, anewarray, checkcast}
 use Rattle.dj_pool.specs.trusted.Pool.{Constant, Utf8, Integer, Float, Long, Double, Class, Text, Field, Method, InterfaceMethod, NameAndType, Handle, MethodType, Dynamic, Hole}
 use Rattle.dj_model.specs.trusted.Program as programs
 use Rattle.dj_model.specs.trusted.Program.{Program, Abstract}
@@ -76,47 +77,47 @@ class op text = of_pool (Utf8 [] ∷ Class 3 ∷ Utf8 text ∷ []) (instrs.Class
 -- ---- rows
 
 -- getstatic takes static fields and getfield others, also inherited ones
-fields : field 178 (codes "C") (codes "s") ∷ field 178 (codes "C") (codes "f") ∷ field 180 (codes "C") (codes "f") ∷ field 180 (codes "C") (codes "s") ∷ field 181 (codes "D") (codes "f") ∷ field 179 (codes "D") (codes "f")
-    ∷ field 180 (codes "C") (codes "g") ∷ field 180 (codes "E") (codes "f") ∷ field 178 (codes "java/lang/Math") (codes "PI") ∷ field 178 (codes "javax/Y") (codes "y") ∷ field 178 (codes "javay/Y") (codes "y") ∷ []
+fields : field getstatic (codes "C") (codes "s") ∷ field getstatic (codes "C") (codes "f") ∷ field getfield (codes "C") (codes "f") ∷ field getfield (codes "C") (codes "s") ∷ field putfield (codes "D") (codes "f") ∷ field putstatic (codes "D") (codes "f")
+    ∷ field getfield (codes "C") (codes "g") ∷ field getfield (codes "E") (codes "f") ∷ field getstatic (codes "java/lang/Math") (codes "PI") ∷ field getstatic (codes "javax/Y") (codes "y") ∷ field getstatic (codes "javay/Y") (codes "y") ∷ []
     ≡ 0 ∷ 18 ∷ 0 ∷ 18 ∷ 0 ∷ 18 ∷ 18 ∷ 18 ∷ 17 ∷ 17 ∷ 18 ∷ []
 unfolding object_class math_class runnable_class c_class d_class x_class i_class program reads_class_name dims_read name_read class_read of_read type_read params_read field_read return_read method_read desc_read most_classes chain_of interfaces_from interfaces_above field_order resolve_method resolve_field desc_in type_in
 fields = refl
 
 -- invokevirtual and invokestatic
-methods : method 182 (codes "C") (codes "m") ∷ method 182 (codes "C") (codes "t") ∷ method 184 (codes "C") (codes "t") ∷ method 184 (codes "C") (codes "m") ∷ method 182 (codes "D") (codes "m") ∷ method 182 (codes "D") (codes "n")
-    ∷ method 182 (codes "C") (codes "<init>") ∷ method 184 (codes "D") (codes "<clinit>") ∷ method 184 (codes "java/lang/Math") (codes "abs") ∷ method 184 (codes "java/lang/Math") (codes "sin") ∷ []
+methods : method invokevirtual (codes "C") (codes "m") ∷ method invokevirtual (codes "C") (codes "t") ∷ method invokestatic (codes "C") (codes "t") ∷ method invokestatic (codes "C") (codes "m") ∷ method invokevirtual (codes "D") (codes "m") ∷ method invokevirtual (codes "D") (codes "n")
+    ∷ method invokevirtual (codes "C") (codes "<init>") ∷ method invokestatic (codes "D") (codes "<clinit>") ∷ method invokestatic (codes "java/lang/Math") (codes "abs") ∷ method invokestatic (codes "java/lang/Math") (codes "sin") ∷ []
     ≡ 0 ∷ 18 ∷ 0 ∷ 18 ∷ 0 ∷ 18 ∷ 18 ∷ 18 ∷ 0 ∷ 17 ∷ []
 unfolding object_class math_class runnable_class c_class d_class x_class i_class program reads_class_name dims_read name_read class_read of_read type_read params_read field_read return_read method_read desc_read most_classes chain_of interfaces_from interfaces_above field_order resolve_method resolve_field desc_in type_in
 methods = refl
 
 -- invokespecial: constructors of any class, other methods of the own class and of those above
-specials : method 183 (codes "C") (codes "<init>") ∷ method 183 (codes "X") (codes "<init>") ∷ method 183 (codes "C") (codes "m") ∷ method 183 (codes "D") (codes "m") ∷ method 183 (codes "X") (codes "x") ∷ method 183 (codes "D") (codes "<clinit>")
-    ∷ method 183 (codes "[LC;") (codes "hash") ∷ interface_method 183 (codes "I") (codes "i") ∷ []
+specials : method invokespecial (codes "C") (codes "<init>") ∷ method invokespecial (codes "X") (codes "<init>") ∷ method invokespecial (codes "C") (codes "m") ∷ method invokespecial (codes "D") (codes "m") ∷ method invokespecial (codes "X") (codes "x") ∷ method invokespecial (codes "D") (codes "<clinit>")
+    ∷ method invokespecial (codes "[LC;") (codes "hash") ∷ interface_method invokespecial (codes "I") (codes "i") ∷ []
     ≡ 0 ∷ 0 ∷ 0 ∷ 0 ∷ 18 ∷ 18 ∷ 18 ∷ 18 ∷ []
 unfolding object_class math_class runnable_class c_class d_class x_class i_class program reads_class_name dims_read name_read class_read of_read type_read params_read field_read return_read method_read desc_read most_classes chain_of interfaces_from interfaces_above field_order resolve_method resolve_field desc_in type_in
 specials = refl
 
 -- methods of interfaces are named as such, and those of classes and arrays aren't
 kinds : interface (codes "I") (codes "i") ∷ interface (codes "I") (codes "j") ∷ interface (codes "C") (codes "m") ∷ interface (codes "[LC;") (codes "hash") ∷ interface (codes "java/lang/Runnable") (codes "run") ∷ interface (codes "java/lang/Runnable") (codes "go")
-    ∷ interface_method 184 (codes "I") (codes "j") ∷ method 184 (codes "I") (codes "j") ∷ method 182 (codes "I") (codes "i") ∷ interface_method 182 (codes "I") (codes "i") ∷ []
+    ∷ interface_method invokestatic (codes "I") (codes "j") ∷ method invokestatic (codes "I") (codes "j") ∷ method invokevirtual (codes "I") (codes "i") ∷ interface_method invokevirtual (codes "I") (codes "i") ∷ []
     ≡ 0 ∷ 18 ∷ 18 ∷ 18 ∷ 0 ∷ 17 ∷ 0 ∷ 18 ∷ 18 ∷ 18 ∷ []
 unfolding object_class math_class runnable_class c_class d_class x_class i_class program reads_class_name dims_read name_read class_read of_read type_read params_read field_read return_read method_read desc_read most_classes chain_of interfaces_from interfaces_above field_order resolve_method resolve_field desc_in type_in
 kinds = refl
 
 -- arrays have the members of Object, and their elements' class is there
-arrays : method 182 (codes "[LC;") (codes "hash") ∷ method 182 (codes "[I") (codes "hash") ∷ method 182 (codes "[LE;") (codes "hash") ∷ method 182 (codes "[Ljava/util/List;") (codes "hash") ∷ []
+arrays : method invokevirtual (codes "[LC;") (codes "hash") ∷ method invokevirtual (codes "[I") (codes "hash") ∷ method invokevirtual (codes "[LE;") (codes "hash") ∷ method invokevirtual (codes "[Ljava/util/List;") (codes "hash") ∷ []
     ≡ 0 ∷ 0 ∷ 18 ∷ 17 ∷ []
 unfolding object_class math_class runnable_class c_class d_class x_class i_class program reads_class_name dims_read name_read class_read of_read type_read params_read field_read return_read method_read desc_read most_classes chain_of interfaces_from interfaces_above field_order resolve_method resolve_field desc_in type_in
 arrays = refl
 
 -- new
-made : map (class 187) (codes "C" ∷ codes "X" ∷ codes "I" ∷ codes "[LC;" ∷ codes "E" ∷ codes "java/lang/Object" ∷ codes "java/lang/Math" ∷ codes "java/lang/Runnable" ∷ codes "java/util/List" ∷ codes "[Ljava/lang/Math;" ∷ [])
+made : map (class new) (codes "C" ∷ codes "X" ∷ codes "I" ∷ codes "[LC;" ∷ codes "E" ∷ codes "java/lang/Object" ∷ codes "java/lang/Math" ∷ codes "java/lang/Runnable" ∷ codes "java/util/List" ∷ codes "[Ljava/lang/Math;" ∷ [])
     ≡ 0 ∷ 18 ∷ 18 ∷ 18 ∷ 18 ∷ 0 ∷ 17 ∷ 17 ∷ 17 ∷ 18 ∷ []
 unfolding object_class math_class runnable_class c_class d_class x_class i_class program reads_class_name dims_read name_read class_read of_read type_read params_read field_read return_read method_read desc_read most_classes chain_of interfaces_from interfaces_above field_order resolve_method resolve_field desc_in type_in
 made = refl
 
 -- checkcast
-cast : map (class 192) (codes "X" ∷ codes "[LC;" ∷ codes "[[I" ∷ codes "java/lang/Math" ∷ codes "[Ljava/lang/Math;" ∷ codes "E" ∷ codes "[LE;" ∷ codes "java/util/List" ∷ codes "[Ljava/util/List;" ∷ [])
+cast : map (class checkcast) (codes "X" ∷ codes "[LC;" ∷ codes "[[I" ∷ codes "java/lang/Math" ∷ codes "[Ljava/lang/Math;" ∷ codes "E" ∷ codes "[LE;" ∷ codes "java/util/List" ∷ codes "[Ljava/util/List;" ∷ [])
     ≡ 0 ∷ 0 ∷ 0 ∷ 0 ∷ 0 ∷ 18 ∷ 18 ∷ 17 ∷ 17 ∷ []
 unfolding object_class math_class runnable_class c_class d_class x_class i_class program reads_class_name dims_read name_read class_read of_read type_read params_read field_read return_read method_read desc_read most_classes chain_of interfaces_from interfaces_above field_order resolve_method resolve_field desc_in type_in
 cast = refl
@@ -125,13 +126,13 @@ abbrev deep : ℕ → Name
 deep dims = replicate dims 91 ++ codes "LC;"
 
 -- anewarray makes no array of more than 255 dimensions; checkcast asks for none
-deepest : class 189 (codes "X") ∷ class 189 (deep 254) ∷ class 189 (deep 255) ∷ class 192 (deep 255) ∷ []
+deepest : class anewarray (codes "X") ∷ class anewarray (deep 254) ∷ class anewarray (deep 255) ∷ class checkcast (deep 255) ∷ []
     ≡ 0 ∷ 0 ∷ 18 ∷ 0 ∷ []
 unfolding object_class math_class runnable_class c_class d_class x_class i_class program reads_class_name dims_read name_read class_read of_read type_read params_read field_read return_read method_read desc_read most_classes chain_of interfaces_from interfaces_above field_order resolve_method resolve_field desc_in type_in
 deepest = refl
 
 -- ldc of the constants of a member of C: only the class is taken
-tags : map (λ index. of_pool (pool_of Method (codes "C") (codes "m") (codes "()V")) (instrs.Literal 18 index)) (0 ∷ 1 ∷ 2 ∷ 5 ∷ 6 ∷ 7 ∷ [])
+tags : map (λ index. of_pool (pool_of Method (codes "C") (codes "m") (codes "()V")) (instrs.Literal ldc index)) (0 ∷ 1 ∷ 2 ∷ 5 ∷ 6 ∷ 7 ∷ [])
     ≡ 18 ∷ 18 ∷ 0 ∷ 18 ∷ 18 ∷ 18 ∷ []
 unfolding object_class math_class runnable_class c_class d_class x_class i_class program reads_class_name dims_read name_read class_read of_read type_read params_read field_read return_read method_read desc_read most_classes chain_of interfaces_from interfaces_above field_order resolve_method resolve_field desc_in type_in
 tags = refl
@@ -140,7 +141,7 @@ abbrev literals : List Constant
 literals = Integer (pos 0) ∷ Float 0 ∷ Long (pos 0) ∷ Hole ∷ Double 0 ∷ Hole ∷ Text 0 ∷ Handle 0 0 ∷ MethodType 0 ∷ Dynamic 0 0 ∷ []
 
 -- ldc takes what has one index, and ldc2_w what has two
-loaded : map (λ index. of_pool literals (instrs.Literal 18 index)) (1 ∷ 2 ∷ 3 ∷ 4 ∷ 5 ∷ 7 ∷ 8 ∷ 9 ∷ 10 ∷ []) ++ map (λ index. of_pool literals (instrs.Literal 20 index)) (1 ∷ 2 ∷ 3 ∷ 4 ∷ 5 ∷ 7 ∷ [])
+loaded : map (λ index. of_pool literals (instrs.Literal ldc index)) (1 ∷ 2 ∷ 3 ∷ 4 ∷ 5 ∷ 7 ∷ 8 ∷ 9 ∷ 10 ∷ []) ++ map (λ index. of_pool literals (instrs.Literal ldc2_w index)) (1 ∷ 2 ∷ 3 ∷ 4 ∷ 5 ∷ 7 ∷ [])
     ≡ 0 ∷ 0 ∷ 18 ∷ 18 ∷ 18 ∷ 0 ∷ 0 ∷ 0 ∷ 18 ∷ 18 ∷ 18 ∷ 0 ∷ 18 ∷ 0 ∷ 18 ∷ []
 unfolding program
 loaded = refl
@@ -150,8 +151,8 @@ abbrev many : ℕ → ℕ
 many index = of_pool (pool_of Method (codes "C") (codes "m") (codes "()V")) (instrs.Multi index 1)
 
 -- an instruction takes its own tag
-taken : of_pool (pool_of Method (codes "C") (codes "f") (codes "I")) (instrs.Member 180 6) ∷ of_pool (pool_of Field (codes "C") (codes "m") (codes "()V")) (instrs.Member 182 6) ∷ of_pool (pool_of Method (codes "C") (codes "m") (codes "()V")) (instrs.Interface 6 1)
-    ∷ of_pool (pool_of Field (codes "C") (codes "f") (codes "I")) (instrs.Class 192 6) ∷ of_pool literals (instrs.Dynamic 10) ∷ of_pool literals (instrs.Dynamic 9) ∷ many 2 ∷ many 6 ∷ of_pool [] (instrs.Simple 0) ∷ []
+taken : of_pool (pool_of Method (codes "C") (codes "f") (codes "I")) (instrs.Member getfield 6) ∷ of_pool (pool_of Field (codes "C") (codes "m") (codes "()V")) (instrs.Member invokevirtual 6) ∷ of_pool (pool_of Method (codes "C") (codes "m") (codes "()V")) (instrs.Interface 6 1)
+    ∷ of_pool (pool_of Field (codes "C") (codes "f") (codes "I")) (instrs.Class checkcast 6) ∷ of_pool literals (instrs.Dynamic 10) ∷ of_pool literals (instrs.Dynamic 9) ∷ many 2 ∷ many 6 ∷ of_pool [] (instrs.Simple nop) ∷ []
     ≡ 18 ∷ 18 ∷ 18 ∷ 18 ∷ 0 ∷ 18 ∷ 0 ∷ 18 ∷ 0 ∷ []
 unfolding object_class math_class runnable_class c_class d_class x_class i_class program reads_class_name dims_read name_read class_read of_read type_read params_read field_read return_read method_read desc_read most_classes chain_of interfaces_from interfaces_above field_order resolve_method resolve_field desc_in type_in
 taken = refl

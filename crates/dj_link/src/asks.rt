@@ -1,25 +1,9 @@
 ghost use Rattle.std.specs.Prelude.{◌≡◌};
-ghost use Rattle.dj_check.specs.trusted.Instructions.{index_of};
 ghost use Rattle.dj_link.specs.trusted.Unlinked.{differ, asks_static, is_special};
 ghost use Rattle.dj_link.specs.Known.{makes, makes_array, is_short_tag, takes_member_tag, takes_literal_tag, takes_tag, is_misused_member};
 
 use crate::named::{NamedMember, Tag};
 use dj_ops::Instr;
-
-/// The index of the constant that an instruction names.
-pub fn index_of(instr: &Instr) -> Option<u16>
-    ensures { result ≡ index_of instr.now }
-{
-    match instr {
-        Instr::Literal { op: _, index } => Some(*index),
-        Instr::Member { op: _, index } => Some(*index),
-        Instr::Interface { index, count: _ } => Some(*index),
-        Instr::Dynamic { index } => Some(*index),
-        Instr::Class { op: _, index } => Some(*index),
-        Instr::Multi { index, dims: _ } => Some(*index),
-        _ => None,
-    }
-}
 
 /// Whether the instruction makes an object of a class: new.
 pub fn makes(instr: &Instr) -> bool

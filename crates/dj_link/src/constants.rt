@@ -4,7 +4,6 @@ ghost use Rattle.dj_pool.specs.trusted.Pool.{IsPool, IsClassText, IsLinked, Name
 ghost use Rattle.dj_pool.specs.Views.{constant_of};
 ghost use Rattle.dj_model.specs.trusted.Types.{object_name};
 ghost use Rattle.dj_classes.specs.Tables.{class_number};
-ghost use Rattle.dj_check.specs.trusted.Classes.{class_text_index};
 ghost use Rattle.dj_link.specs.trusted.Named.{named_type, named_member};
 ghost use Rattle.dj_link.specs.Judged.{tag_of, judged_class, judged_member, judged, AreJudged};
 ghost use Rattle.dj_link.specs.Constants.{text_class, static_in, AreSeen, AreNumbersSeenBy, IsDirectoryOf, IsNumbered};
@@ -14,6 +13,7 @@ use crate::error::LinkError;
 use crate::name_numbers::{NumberedName, member_name, unseen_numbers};
 use crate::named::{NamedClass, NamedConstant, NamedMember, Tag};
 use crate::statics::is_static_at;
+use dj_check::class_text_index;
 use dj_directory::Directory;
 use dj_linking::Linker;
 use dj_pool::{Entry, Pool};
@@ -39,23 +39,6 @@ fn tag_of(entry: Entry<'_>) -> Tag
 }
 
 // ---- classes
-
-// The index of the text of the class that a constant names.
-fn class_text_index(pool: &Pool<'_>, entry: Entry<'_>) -> Option<u16>
-    ensures { result ≡ class_text_index pool.now (constant_of entry.entry) }
-{
-    let class = match entry {
-        Entry::Class(name) => return Some(name),
-        Entry::Field(class, _) => class,
-        Entry::Method(class, _) => class,
-        Entry::InterfaceMethod(class, _) => class,
-        _ => return None,
-    };
-    match pool.get(class) {
-        Some(Entry::Class(name)) => Some(name),
-        _ => None,
-    }
-}
 
 // The class that a text names.
 fn judge_class(linker: &Linker, text: &[u8]) -> NamedClass
@@ -106,10 +89,8 @@ fn class_of(
     ensures seen { AreSeen linker.now.program pool.now seen.new }
     ensures class { result ≡ option_map (judged_class linker.now.program) (named_type pool.now (constant_of entry.entry)) }
 {
-    match class_text_index(pool, entry) {
-        Some(index) => Some(see_class(linker, pool, seen, index)),
-        None => None,
-    }
+    let index = class_text_index(pool, entry)?;
+    Some(see_class(linker, pool, seen, index))
 }
 
 // ---- members

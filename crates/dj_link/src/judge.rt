@@ -2,13 +2,14 @@ ghost use Rattle.std.specs.Prelude.{◌≡◌};
 ghost use Rattle.dj_link.specs.Known.{is_far_special, is_unlinked_member, has_wrong_kind, is_unlinked_class, is_unlinked_named, is_foreign, is_unlinked, is_unlinked_by, is_foreign_catch, is_unlinked_catch, is_unlinked_catch_by, named_by, is_own_or_above_class};
 
 use crate::above::{OwnClass, is_above};
-use crate::asks::{index_of, is_misused_member, is_special, makes, makes_array, takes_tag};
+use crate::asks::{is_misused_member, is_special, makes, makes_array, takes_tag};
 use crate::kept::{
     is_abstract_class, is_foreign_named, is_interface_class, is_unmakeable_class, kept_at,
     lacks_class, lacks_member,
 };
 use crate::known::Known;
 use crate::named::{NamedClass, NamedConstant, NamedMember, Tag};
+use dj_check::index_of;
 use dj_linking::ClassTable;
 use dj_ops::Instr;
 
@@ -16,10 +17,7 @@ use dj_ops::Instr;
 fn named_by(kept: &[Option<NamedConstant>], instr: &Instr) -> Option<NamedConstant>
     ensures { result ≡ named_by kept.now instr.now }
 {
-    match index_of(instr) {
-        Some(index) => kept_at(kept, index),
-        None => None,
-    }
+    kept_at(kept, index_of(instr)?)
 }
 
 /// Whether an instruction violates the rule WHITELIST.

@@ -10,10 +10,7 @@ use dj_linking::ClassTable;
 pub fn kept_at(kept: &[Option<NamedConstant>], index: u16) -> Option<NamedConstant>
     ensures { result ≡ kept_at kept.now index }
 {
-    match kept.get(index as usize) {
-        Some(named) => *named,
-        None => None,
-    }
+    *kept.get(index as usize)?
 }
 
 /// Whether there is no such class.

@@ -24,10 +24,7 @@ pub struct NumberedName<'a> {
 fn number_at(directory: &Directory<'_>, pool: &Pool<'_>, index: u16) -> Option<u32>
     ensures { result ≡ number_at directory.now pool.now index }
 {
-    match pool.text(index) {
-        Some(text) => directory.number(text),
-        None => None,
-    }
+    directory.number(pool.text(index)?)
 }
 
 // The same: the number that was kept, or else it is found out and kept.

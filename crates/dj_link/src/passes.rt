@@ -7,11 +7,10 @@ ghost use Rattle.dj_link.specs.Known.{IsRuled, KnownInstr, KnownBelow, KnownRang
 ghost use Rattle.dj_link.specs.trusted.Lines.{IsUnreported};
 ghost use Rattle.dj_link.specs.Marks.{AreRangeMarks, AreUnreported};
 
-use crate::asks::index_of;
 use crate::error::LinkError;
 use crate::judge::{is_foreign, is_foreign_catch, is_unlinked, is_unlinked_catch};
 use crate::known::Known;
-use dj_check::{JudgedText, Mark, MarkPlace, add_mark_if, catches_error, violates_instr};
+use dj_check::{JudgedText, Mark, MarkPlace, add_mark_if, catches_error, index_of, violates_instr};
 use dj_labels::{Labelled, Protected};
 use dj_ops::Instr;
 use dj_pool::Pool;

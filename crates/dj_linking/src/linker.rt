@@ -258,7 +258,8 @@ impl Linker {
         }
     }
 
-    /// The same, of the method's own name and descriptor, by halving, however long the chain of superclasses is, and however many classes declare such a method.
+    /// The method that `invokespecial` takes in a class for a resolved one, by that method's own name and descriptor. It is found by binary search, however long the
+    /// chain of superclasses is and however many classes declare such a method.
     pub fn special_by(&self, calls: &CallTable, class: u32, resolved: Place) -> Option<Place>
         requires calls { IsCallTable self.now.program calls.now }
         requires there { class < length self.now.program }

@@ -196,7 +196,8 @@ impl Ranks {
             None => Some(false),
         }
     }
-    /// Of the classes whose ranks are marked, the nearest that is the class, which has bits, or one of its superclasses, where it is known.
+
+    /// The nearest class with a marked rank, from the class upward. It is known where the class has bits.
     pub fn nearest_marked(
         &self,
         table: &ClassTable,

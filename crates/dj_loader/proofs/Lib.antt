@@ -20,3 +20,4 @@ pub mod FiledFacts
 pub mod LibraryFacts
 pub mod PartingFacts
 mod FilledFacts
+pub mod TableErrors

@@ -1,5 +1,5 @@
 -- Used by the code alone: the parts of a class that a file defines and of one that none does, and which file defines which class.
-use Rattle.std.specs.Prelude.{◌≡◌, ℕ, Bool, true, false, List, [], map, replicate, length, get_or, Option, Some, None, slice_get}
+use Rattle.std.specs.Prelude.{◌≡◌, ℕ, true, false, List, [], map, replicate, length, get_or, Option, Some, None, slice_get}
 use Rattle.std.specs.Option.{option_map}
 use Rattle.dj_pool.specs.trusted.Pool.{Constant}
 use Rattle.dj_class.specs.trusted.ClassFile.{MemberInfo, ClassFile}

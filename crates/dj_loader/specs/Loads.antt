@@ -11,6 +11,8 @@ use Rattle.dj_model.specs.trusted.Linking.{option_list}
 use Rattle.dj_model.specs.trusted.Libraries.{library_class, is_name_before}
 use Rattle.dj_declared.specs.trusted.Files.{declared_class}
 use Rattle.dj_classes.specs.Tables.{IsShared, IsLeastShared}
+use Rattle.dj_classes.specs.declared.error.TableError.{TableError}
+use Rattle.dj_classes.specs.declared.error.TableError.TheVariants as table_errors
 use Rattle.dj_linking.specs.declared.linker.BaseNames.{BaseNames}
 use Rattle.dj_linking.specs.Linked.{prefix_of}
 use Rattle.dj_loader.specs.declared.error.LoadError.{LoadError}
@@ -83,3 +85,7 @@ RefusesLoad classes (errors.Duplicate name) = IsLeastShared classes name
 RefusesLoad classes (errors.NoSuper name) = Never (IsShared classes) × IsLeast (LacksAbove classes) name
 RefusesLoad classes (errors.Cycle name) = Never (IsShared classes) × Never (LacksAbove classes) × IsLeast (IsOwnAncestor classes) name
 RefusesLoad classes errors.Memory = ⊤
+
+abbrev pub table_error : TableError → LoadError
+table_error (table_errors.Duplicate name) = errors.Duplicate name
+table_error table_errors.Memory = errors.Memory

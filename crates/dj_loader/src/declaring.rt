@@ -62,6 +62,7 @@ pub fn declare_all(
 }
 
 /// The classes in the order of their names, which differ. There is no memory for more of them than a table has.
+#[tactic(auto, using(crate::proofs::TableErrors::table_refused))]
 pub fn table_of(alloc: Global, classes: Vec<DeclaredClass>) -> Result<ClassTable, LoadError>
     ensures table { IfOk result (λ table. table ≡ joined classes.items []) }
     ensures differ { IfOk result (λ _. Never (IsShared classes.items)) }
@@ -70,9 +71,5 @@ pub fn table_of(alloc: Global, classes: Vec<DeclaredClass>) -> Result<ClassTable
     if classes.len() >= 0x8000_0000 {
         return Err(LoadError::Memory);
     }
-    match ClassTable::of(alloc, classes) {
-        Ok(table) => Ok(table),
-        Err(TableError::Duplicate(name)) => Err(LoadError::Duplicate(name)),
-        Err(TableError::Memory) => Err(LoadError::Memory),
-    }
+    Ok(ClassTable::of(alloc, classes)?)
 }

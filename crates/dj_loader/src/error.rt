@@ -1,5 +1,6 @@
 ghost use Rattle.std.specs.Prelude.{◌≡◌};
 
+use dj_classes::TableError;
 use dj_declared::DeclareError;
 use dj_graph::GraphError;
 use dj_image::ImageError;
@@ -21,7 +22,7 @@ pub enum LoadError {
     #[error("a class is its own ancestor")]
     Cycle(Name),
     /// There was no memory.
-    #[error("there was no memory")]
+    #[error("out of memory")]
     Memory,
 }
 
@@ -82,5 +83,18 @@ impl From<ShapeError> for LoadError {
 
     fn from(_error: ShapeError) -> LoadError {
         LoadError::Memory
+    }
+}
+
+impl From<TableError> for LoadError {
+    ghost use Rattle.dj_loader.specs.Loads.{table_error};
+
+    ghost from_gives = { λ e load. load ≡ table_error e };
+
+    fn from(error: TableError) -> LoadError {
+        match error {
+            TableError::Duplicate(name) => LoadError::Duplicate(name),
+            TableError::Memory => LoadError::Memory,
+        }
     }
 }

@@ -78,10 +78,8 @@ fn value_of_body(pool: &Pool<'_>, body: &[u8]) -> FieldValue
 fn value_of(pool: &Pool<'_>, field: &MemberView<'_>) -> Option<FieldValue>
     ensures { reported_value pool.now result ≡ constant_in pool.now (member_of field.now) }
 {
-    match value_body(pool, field) {
-        Some(body) => Some(value_of_body(pool, body)),
-        None => None,
-    }
+    let body = value_body(pool, field)?;
+    Some(value_of_body(pool, body))
 }
 
 /// The values with which the fields of a file begin, where the file has values. A text is given by its index.

@@ -16,11 +16,13 @@ use dj_names::{Costs, Outcome, Thresholds};
 use std::alloc::{AllocError, AllocFailed, Global};
 use thiserror::Error;
 
-/// How a run went.
+/// How a run ended.
 #[derive(Debug, Drop)]
 pub struct Ending {
     pub outcome: Outcome,
+    /// What the run was charged.
     pub costs: Costs,
+    /// How many steps it made.
     pub steps: u64,
 }
 

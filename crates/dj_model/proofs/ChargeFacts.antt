@@ -14,7 +14,8 @@ use Rattle.dj_model.specs.trusted.Linking.{most_classes, chain_of, field_count}
 use Rattle.dj_model.specs.Libraries.{metered_program}
 use Rattle.dj_model.specs.Charging.{Amount}
 use Rattle.dj_model.specs.Effects.{pays}
-use Rattle.dj_model.specs.SmallRuns.{op, push, ldc, slot, iinc, jump, newarray, class, field, method, invokeinterface, class_with, field_with}
+use Rattle.dj_model.specs.SmallRuns.{op, push, constant, slot, iinc, jump, newarray, class, field, method, interface_method, class_with, field_with}
+use Rattle.dj_ops.specs.Mnemonics.{nop, aconst_null, fconst_0, bipush, iload_0, iaload, istore, iastore, pop, iadd, ineg, ireturn, return, getstatic, putstatic, getfield, putfield, invokevirtual, invokespecial, invokestatic, new, anewarray, arraylength, athrow, checkcast, instanceof, monitorenter, monitorexit}
 
 -- C has two fields, D below it one and a static one
 abbrev program : Program
@@ -39,19 +40,19 @@ jumps_charged : map (charged (values.Int (pos 1) ∷ values.Int (pos 2) ∷ []))
 unfolding pays instruction_of
 jumps_charged = refl
 
-calls_and_throws : map (charged []) (method 182 object (codes "m") [] None ∷ method 183 object (codes "m") [] None ∷ method 184 object (codes "m") [] None ∷ invokeinterface 1 object (codes "m") [] None ∷ op 191 ∷ [])
+calls_and_throws : map (charged []) (method invokevirtual object (codes "m") [] None ∷ method invokespecial object (codes "m") [] None ∷ method invokestatic object (codes "m") [] None ∷ interface_method 1 object (codes "m") [] None ∷ op athrow ∷ [])
     ≡ once charges.Invoke ∷ once charges.Invoke ∷ once charges.Invoke ∷ once charges.Invoke ∷ once charges.Throw ∷ []
 unfolding pays instruction_of simple
 calls_and_throws = refl
 
 -- inherited fields count, static ones don't
-objects_charged : map (λ name. charged [] (class 187 (class_type name))) (codes "java/lang/Object" ∷ codes "C" ∷ codes "D" ∷ codes "java/lang/Error" ∷ codes "java/lang/StringBuilder" ∷ [])
+objects_charged : map (λ name. charged [] (class new (class_type name))) (codes "java/lang/Object" ∷ codes "C" ∷ codes "D" ∷ codes "java/lang/Error" ∷ codes "java/lang/StringBuilder" ∷ [])
     ≡ bytes_of 16 ∷ bytes_of 32 ∷ bytes_of 40 ∷ bytes_of 32 ∷ bytes_of 24 ∷ []
 unfolding pays instruction_of metered_program most_classes chain_of field_count
 objects_charged = refl
 
 abbrev arrays : List Instruction
-arrays = newarray 4 ∷ newarray 5 ∷ newarray 8 ∷ newarray 9 ∷ newarray 10 ∷ newarray 11 ∷ class 189 string ∷ []
+arrays = newarray 4 ∷ newarray 5 ∷ newarray 8 ∷ newarray 9 ∷ newarray 10 ∷ newarray 11 ∷ class anewarray string ∷ []
 
 -- the length is rounded up to 8 bytes; a negative one costs nothing, and so does what is no length
 arrays_charged : map (charged (values.Int (pos 5) ∷ [])) arrays ∷ map (charged (values.Int (pos 0) ∷ [])) arrays ∷ map (charged (values.Int (negsuc 0) ∷ [])) arrays ∷ map (charged []) arrays ∷ []
@@ -63,8 +64,8 @@ unfolding pays instruction_of
 arrays_charged = refl
 
 abbrev others : List Instruction
-others = op 0 ∷ op 1 ∷ push 16 (pos 1) ∷ ldc (AText []) ∷ op 26 ∷ slot 54 1 ∷ iinc 1 (pos 1) ∷ op 46 ∷ op 79 ∷ op 87 ∷ op 96 ∷ op 116 ∷ op 172 ∷ op 177 ∷ field 178 object (codes "f") int ∷ field 179 object (codes "f") int
-    ∷ field 180 object (codes "f") int ∷ field 181 object (codes "f") int ∷ op 190 ∷ class 192 object ∷ class 193 object ∷ op 194 ∷ op 195 ∷ op 11 ∷ []
+others = op nop ∷ op aconst_null ∷ push bipush (pos 1) ∷ constant (AText []) ∷ op iload_0 ∷ slot istore 1 ∷ iinc 1 (pos 1) ∷ op iaload ∷ op iastore ∷ op pop ∷ op iadd ∷ op ineg ∷ op ireturn ∷ op return ∷ field getstatic object (codes "f") int ∷ field putstatic object (codes "f") int
+    ∷ field getfield object (codes "f") int ∷ field putfield object (codes "f") int ∷ op arraylength ∷ class checkcast object ∷ class instanceof object ∷ op monitorenter ∷ op monitorexit ∷ op fconst_0 ∷ []
 
 others_free : map (charged (values.Int (pos 5) ∷ [])) others ≡ map (λ (i : Instruction). []) others
 unfolding pays instruction_of simple

@@ -10,7 +10,7 @@ use Rattle.dj_names.specs.trusted.Library.{string, builder, char, int}
 use Rattle.dj_model.specs.trusted.Instructions.{Instruction, AText}
 use Rattle.dj_model.specs.trusted.Program.{Program, Class, Method, Text, code_of, has_initialiser}
 use Rattle.dj_model.specs.trusted.State.{State, Uncounted, Accounted}
-use Rattle.dj_model.specs.SmallRuns.{op, ldc, jump, class, field, method, construct, entry, verify_of, verify_with, initialiser_with, class_with, a_with, field_with, catch_all, catch, costs, at_most, usual, lang_name}
+use Rattle.dj_model.specs.SmallRuns.{op, constant, jump, class, field, method, construct, entry, verify_of, verify_with, initialiser_with, class_with, a_with, field_with, catch_all, catch, costs, at_most, usual, lang_name}
 use Rattle.std.specs.Int.{int_wrap}
 use Rattle.std.specs.Fmt.{digits}
 use Rattle.dj_model.specs.trusted.Opcodes.{instruction_of, simple}
@@ -30,6 +30,7 @@ use Rattle.dj_model.specs.trusted.Initialisation.{Initialised, Ready, Waits, Fai
 use Rattle.dj_model.specs.trusted.Step.{unwound, settle, step}
 use Rattle.dj_model.specs.trusted.Runs.{Report, empty_heap, start_state, begin, steps, plain_run}
 use Rattle.dj_model.specs.Runs.{Run, RunEnds, metered_terms, amounts, turn, turns, metered_run}
+use Rattle.dj_ops.specs.Mnemonics.{nop, aconst_null, iconst_4, aload_0, pop, dup, goto, areturn, return, getstatic, invokevirtual, invokestatic, new, arraylength}
 
 -- a plain run of verify with this many bytes of heap, of which the input takes 24
 abbrev limited : ℕ → List Class → Option Report
@@ -49,7 +50,7 @@ texts_class name methods =
 
 -- K is initialised on the way, with a text of 32 bytes, the same again, and one of 24
 abbrev with_texts : ℕ → Option Report
-with_texts limit = limited limit (a_with (verify_with (field 178 (class_type (codes "K")) (codes "u") string ∷ op 87 ∷ op 42 ∷ op 176 ∷ []) [] ∷ []) ∷ texts_class (codes "K") [] ∷ [])
+with_texts limit = limited limit (a_with (verify_with (field getstatic (class_type (codes "K")) (codes "u") string ∷ op pop ∷ op aload_0 ∷ op areturn ∷ []) [] ∷ []) ∷ texts_class (codes "K") [] ∷ [])
 
 texts_fit : map with_texts (80 ∷ 79 ∷ 56 ∷ 55 ∷ 24 ∷ [])
     ≡ ran both_bytes 4 ∷ ran (outcomes.HeapFull 56 24) 1 ∷ ran (outcomes.HeapFull 56 24) 1 ∷ ran (outcomes.HeapFull 24 32) 1 ∷ ran (outcomes.HeapFull 24 32) 1 ∷ []
@@ -58,7 +59,7 @@ texts_fit = refl
 
 -- the class of the entry is initialised before the first step
 abbrev begins_with_texts : ℕ → Option Report
-begins_with_texts limit = limited limit (texts_class (codes "A") (verify_with (op 42 ∷ op 176 ∷ []) [] ∷ []) ∷ [])
+begins_with_texts limit = limited limit (texts_class (codes "A") (verify_with (op aload_0 ∷ op areturn ∷ []) [] ∷ []) ∷ [])
 
 first_texts_fit : map begins_with_texts (80 ∷ 79 ∷ 56 ∷ 55 ∷ 24 ∷ 23 ∷ [])
     ≡ ran both_bytes 2 ∷ ran (outcomes.HeapFull 56 24) 0 ∷ ran (outcomes.HeapFull 56 24) 0 ∷ ran (outcomes.HeapFull 24 32) 0 ∷ ran (outcomes.HeapFull 24 32) 0 ∷ ran (outcomes.HeapFull 0 24) 0 ∷ []
@@ -68,16 +69,16 @@ first_texts_fit = refl
 -- ---- objects that native methods make
 
 abbrev limited_code : List Instruction → ℕ → Option Report
-limited_code instructions limit = limited limit (a_with (verify_with (instructions ++ op 87 ∷ op 42 ∷ op 176 ∷ []) [] ∷ []) ∷ [])
+limited_code instructions limit = limited limit (a_with (verify_with (instructions ++ op pop ∷ op aload_0 ∷ op areturn ∷ []) [] ∷ []) ∷ [])
 
 abbrev value_text : List Instruction
-value_text = op 7 ∷ method 184 string (codes "valueOf") (int ∷ []) (Some string) ∷ []
+value_text = op iconst_4 ∷ method invokestatic string (codes "valueOf") (int ∷ []) (Some string) ∷ []
 
 abbrev text_chars : List Instruction
-text_chars = ldc (AText (codes "abcde")) ∷ method 182 string (codes "toCharArray") [] (Some (array_type char)) ∷ []
+text_chars = constant (AText (codes "abcde")) ∷ method invokevirtual string (codes "toCharArray") [] (Some (array_type char)) ∷ []
 
 abbrev built_text : List Instruction
-built_text = class 187 builder ∷ op 89 ∷ construct builder [] ∷ op 7 ∷ method 182 builder (codes "append") (int ∷ []) (Some builder) ∷ []
+built_text = class new builder ∷ op dup ∷ construct builder [] ∷ op iconst_4 ∷ method invokevirtual builder (codes "append") (int ∷ []) (Some builder) ∷ []
 
 natives_fit : map (limited_code value_text) (48 ∷ 47 ∷ []) ∷ map (limited_code text_chars) (88 ∷ 87 ∷ []) ∷ map (limited_code built_text) (72 ∷ 71 ∷ []) ∷ []
     ≡ (ran both_bytes 5 ∷ ran (outcomes.HeapFull 24 24) 2 ∷ []) ∷ (ran both_bytes 5 ∷ ran (outcomes.HeapFull 56 32) 2 ∷ []) ∷ (ran both_bytes 8 ∷ ran (outcomes.HeapFull 48 24) 5 ∷ []) ∷ []
@@ -89,7 +90,7 @@ abbrev s_string : Ty
 s_string = class_type (in_sandbox (lang_name (codes "String")))
 
 abbrev s_class : Class
-s_class = record (class_with (in_sandbox (codes "A")) [] (verify_with (op 7 ∷ method 184 s_string (codes "valueOf") (int ∷ []) (Some s_string) ∷ op 87 ∷ op 42 ∷ op 176 ∷ []) [] ∷ []))
+s_class = record (class_with (in_sandbox (codes "A")) [] (verify_with (op iconst_4 ∷ method invokestatic s_string (codes "valueOf") (int ∷ []) (Some s_string) ∷ op pop ∷ op aload_0 ∷ op areturn ∷ []) [] ∷ []))
     { superclass = Some (in_sandbox (lang_name (codes "Object"))) }
 
 abbrev accounted : ℕ → ℕ → Option Report
@@ -108,8 +109,8 @@ charged_before = refl
 
 -- T, and U below it, each with an initialiser, and V without one
 abbrev with_initialisers : Program
-with_initialisers = metered_program (class_with (codes "T") [] (initialiser_with (op 177 ∷ []) ∷ [])
-    ∷ record (class_with (codes "U") [] (initialiser_with (op 177 ∷ []) ∷ [])) { superclass = Some (codes "T") }
+with_initialisers = metered_program (class_with (codes "T") [] (initialiser_with (op return ∷ []) ∷ [])
+    ∷ record (class_with (codes "U") [] (initialiser_with (op return ∷ []) ∷ [])) { superclass = Some (codes "T") }
     ∷ class_with (codes "V") [] [] ∷ [])
 
 -- this many frames, and no class initialised
@@ -136,9 +137,9 @@ last_frames = refl
 -- two ranges with handlers of their own, 5 and 8
 abbrev two_handlers : List Instruction → Run
 two_handlers first = metered_run (metered_program (a_with (verify_with
-    (first ++ op 87 ∷ op 42 ∷ op 176 ∷ op 87 ∷ op 1 ∷ op 176 ∷ op 87 ∷ op 42 ∷ op 176 ∷ []) (catch (lang_name (codes "Error")) 0 2 5 ∷ catch_all 0 2 8 ∷ []) ∷ []) ∷ [])) entry (1 ∷ 2 ∷ []) usual 100
+    (first ++ op pop ∷ op aload_0 ∷ op areturn ∷ op pop ∷ op aconst_null ∷ op areturn ∷ op pop ∷ op aload_0 ∷ op areturn ∷ []) (catch (lang_name (codes "Error")) 0 2 5 ∷ catch_all 0 2 8 ∷ []) ∷ []) ∷ [])) entry (1 ∷ 2 ∷ []) usual 100
 
-arrivals : two_handlers (op 1 ∷ op 190 ∷ []) ∷ two_handlers (op 1 ∷ jump 167 8 ∷ []) ∷ two_handlers (op 1 ∷ jump 167 5 ∷ []) ∷ two_handlers (op 1 ∷ jump 167 6 ∷ []) ∷ two_handlers (op 1 ∷ jump 167 9 ∷ []) ∷ two_handlers (op 1 ∷ op 0 ∷ []) ∷ []
+arrivals : two_handlers (op aconst_null ∷ op arraylength ∷ []) ∷ two_handlers (op aconst_null ∷ jump goto 8 ∷ []) ∷ two_handlers (op aconst_null ∷ jump goto 5 ∷ []) ∷ two_handlers (op aconst_null ∷ jump goto 6 ∷ []) ∷ two_handlers (op aconst_null ∷ jump goto 9 ∷ []) ∷ two_handlers (op aconst_null ∷ op nop ∷ []) ∷ []
     ≡ RunEnds both_bytes (costs 0 0 0 1) ∷ RunEnds both_bytes (costs 0 0 1 1) ∷ RunEnds outcomes.OkNull (costs 0 0 1 1) ∷ RunEnds outcomes.OkNull (costs 0 0 1 0) ∷ RunEnds both_bytes (costs 0 0 1 0) ∷ RunEnds both_bytes (costs 0 0 0 0) ∷ []
 unfolding int_wrap digits instruction_of simple code_of has_initialiser most_classes chain_of interfaces_from interfaces_above is_subclass is_subtype field_order resolve_method resolve_field select special_method field_count place_of static_place metered_program raw_program sandbox_program compute convert moved on_values load_element store_element array_length make_array charge_one charge_all answer host_answer perform native with_literal invoke effect pays used_class is_initialised mark with_constants constants_of initialise unwound settle step begin amounts turn turns metered_run steps plain_run
 arrivals = refl

@@ -1,4 +1,4 @@
--- Maps of class names: the one that keeps each name, the one into the sandbox, and programs with more classes in front.
+-- Maps of class names: the one that keeps each name, the one into the sandbox, and programs with more classes before them.
 use Rattle.std.proofs.Common.{◌≡◌, ℕ, false, List, [], ◌∷◌, ◌++◌, map, Option, Some, None, nat_eq, refl, ap, inl, inr, drop, arith}
 use Rattle.std.specs.Option.{option_map}
 use Rattle.dj_names.specs.declared.descriptor.Of.{Of}
@@ -136,7 +136,7 @@ sandbox_map = record {
   shown = λ name. refl;
 }
 
--- ---- more classes in front
+-- ---- more classes before those of a program
 
 pub prefix_at : (f : Name → Name) (prefix program : Program) → AreApart f prefix → (name : Name) → class_at (prefix ++ program) (f name) ≡ class_at program (f name)
 prefix_at f [] program apart name = refl

@@ -30,7 +30,8 @@ use Rattle.dj_model.specs.trusted.Initialisation.{is_initialised, mark, with_con
 use Rattle.dj_model.specs.trusted.Step.{unwound, settle, step}
 use Rattle.dj_model.specs.trusted.Runs.{begin, steps, plain_run}
 use Rattle.dj_model.specs.Runs.{Run, RunEnds, amounts, turn, turns, metered_run}
-use Rattle.dj_model.specs.SmallRuns.{op, push, ldc, newarray, class, method, construct, entry, verify_with, a_with, costs, usual, lang_name}
+use Rattle.dj_model.specs.SmallRuns.{op, push, constant, newarray, class, method, construct, entry, verify_with, a_with, costs, usual, lang_name}
+use Rattle.dj_ops.specs.Mnemonics.{aconst_null, iconst_0, iconst_1, iconst_2, bipush, aload_0, caload, bastore, pop, dup, ishr, areturn, invokevirtual, invokestatic, new}
 
 -- a builder of the text z, the text, and one of the units 0061 ffff
 abbrev heap : Heap Ty
@@ -109,18 +110,18 @@ of_code instructions = metered_run (metered_program (a_with (verify_with instruc
 
 -- an int's low byte is returned
 abbrev byte_of : List Instruction → Run
-byte_of instructions = of_code (op 4 ∷ newarray 8 ∷ op 89 ∷ op 3 ∷ instructions ++ op 84 ∷ op 176 ∷ [])
+byte_of instructions = of_code (op iconst_1 ∷ newarray 8 ∷ op dup ∷ op iconst_0 ∷ instructions ++ op bastore ∷ op areturn ∷ [])
 
 abbrev gives : ℕ → ℕ → ℕ → Run
 gives byte alloc invoke = RunEnds (outcomes.OkBytes (byte ∷ [])) (costs (24 + alloc) invoke 0 0)
 
 abbrev chars_of : List ℕ → List Instruction
-chars_of units = ldc (AText units) ∷ method 182 string (codes "toCharArray") [] (Some (array_type char)) ∷ []
+chars_of units = constant (AText units) ∷ method invokevirtual string (codes "toCharArray") [] (Some (array_type char)) ∷ []
 
 -- each unit is an element of the array of chars, in order
-elements_of_texts : byte_of (chars_of (codes "abc") ++ op 3 ∷ op 52 ∷ []) ∷ byte_of (chars_of (codes "abc") ++ op 4 ∷ op 52 ∷ []) ∷ byte_of (chars_of (codes "abc") ++ op 5 ∷ op 52 ∷ [])
-    ∷ byte_of (chars_of (97 ∷ 65535 ∷ []) ++ op 4 ∷ op 52 ∷ push 16 (pos 8) ∷ op 122 ∷ [])
-    ∷ byte_of (chars_of (codes "abc") ++ method 184 string (codes "valueOf") (array_type char ∷ []) (Some string) ∷ op 5 ∷ method 182 string (codes "charAt") (int ∷ []) (Some char) ∷ []) ∷ []
+elements_of_texts : byte_of (chars_of (codes "abc") ++ op iconst_0 ∷ op caload ∷ []) ∷ byte_of (chars_of (codes "abc") ++ op iconst_1 ∷ op caload ∷ []) ∷ byte_of (chars_of (codes "abc") ++ op iconst_2 ∷ op caload ∷ [])
+    ∷ byte_of (chars_of (97 ∷ 65535 ∷ []) ++ op iconst_1 ∷ op caload ∷ push bipush (pos 8) ∷ op ishr ∷ [])
+    ∷ byte_of (chars_of (codes "abc") ++ method invokestatic string (codes "valueOf") (array_type char ∷ []) (Some string) ∷ op iconst_2 ∷ method invokevirtual string (codes "charAt") (int ∷ []) (Some char) ∷ []) ∷ []
     ≡ gives 97 24 1 ∷ gives 98 24 1 ∷ gives 99 24 1 ∷ gives 255 24 1 ∷ gives 99 48 3 ∷ []
 unfolding int_wrap digits instruction_of simple code_of has_initialiser most_classes chain_of interfaces_from interfaces_above is_subclass is_subtype field_order resolve_method resolve_field select special_method field_count place_of static_place metered_program raw_program sandbox_program compute convert moved on_values load_element store_element array_length make_array charge_one charge_all answer host_answer perform native with_literal invoke effect pays used_class is_initialised mark with_constants constants_of initialise unwound settle step begin amounts turn turns metered_run steps plain_run
 elements_of_texts = refl
@@ -130,7 +131,7 @@ abbrev error : Ty
 error = class_type (lang_name (codes "Error"))
 
 abbrev with_cause : List Instruction → Run
-with_cause arguments = of_code (class 187 error ∷ op 89 ∷ arguments ++ construct error (string ∷ throwable ∷ []) ∷ op 87 ∷ op 42 ∷ op 176 ∷ [])
+with_cause arguments = of_code (class new error ∷ op dup ∷ arguments ++ construct error (string ∷ throwable ∷ []) ∷ op pop ∷ op aload_0 ∷ op areturn ∷ [])
 
 abbrev made_error : Run
 made_error = RunEnds (outcomes.OkBytes (1 ∷ 2 ∷ [])) (costs 32 1 0 0)
@@ -138,8 +139,8 @@ made_error = RunEnds (outcomes.OkBytes (1 ∷ 2 ∷ [])) (costs 32 1 0 0)
 abbrev no_error : Run
 no_error = RunEnds outcomes.Link (costs 32 1 0 0)
 
-later_arguments : with_cause (ldc (AText (codes "m")) ∷ op 1 ∷ []) ∷ with_cause (op 1 ∷ op 1 ∷ []) ∷ with_cause (ldc (AText (codes "m")) ∷ ldc (AText (codes "m")) ∷ []) ∷ with_cause (ldc (AText (codes "m")) ∷ op 42 ∷ [])
-    ∷ with_cause (op 1 ∷ op 42 ∷ []) ∷ with_cause (op 42 ∷ op 1 ∷ []) ∷ with_cause (op 42 ∷ op 42 ∷ []) ∷ []
+later_arguments : with_cause (constant (AText (codes "m")) ∷ op aconst_null ∷ []) ∷ with_cause (op aconst_null ∷ op aconst_null ∷ []) ∷ with_cause (constant (AText (codes "m")) ∷ constant (AText (codes "m")) ∷ []) ∷ with_cause (constant (AText (codes "m")) ∷ op aload_0 ∷ [])
+    ∷ with_cause (op aconst_null ∷ op aload_0 ∷ []) ∷ with_cause (op aload_0 ∷ op aconst_null ∷ []) ∷ with_cause (op aload_0 ∷ op aload_0 ∷ []) ∷ []
     ≡ made_error ∷ made_error ∷ no_error ∷ no_error ∷ no_error ∷ no_error ∷ no_error ∷ []
 unfolding int_wrap digits instruction_of simple code_of has_initialiser most_classes chain_of interfaces_from interfaces_above is_subclass is_subtype field_order resolve_method resolve_field select special_method field_count place_of static_place metered_program raw_program sandbox_program compute convert moved on_values load_element store_element array_length make_array charge_one charge_all answer host_answer perform native with_literal invoke effect pays used_class is_initialised mark with_constants constants_of initialise unwound settle step begin amounts turn turns metered_run steps plain_run
 later_arguments = refl

@@ -93,7 +93,7 @@ host_answers : host_of natives.HostHashCode (negsuc 4) ∷ host_of natives.HostI
 unfolding answer host_answer digits int_wrap most_classes chain_of interfaces_from interfaces_above is_subclass is_subtype metered_program units_read unit_read long_read two_read three_read
 host_answers = refl
 
--- names without the prefix of the library, and only in front
+-- names without the prefix of the library, which is cut only where a name begins with it
 shown : shown_class sandbox_prefix (class_type (codes "sandbox/a/B")) ∷ shown_class sandbox_prefix (array_type (class_type (codes "sandbox/B"))) ∷ shown_class sandbox_prefix (class_type (codes "a/sandbox/B"))
     ∷ shown_class [] (class_type (codes "sandbox/B")) ∷ shown_class [] (base_array bases.Long) ∷ []
     ≡ codes "a.B" ∷ codes "[LB;" ∷ codes "a.sandbox.B" ∷ codes "sandbox.B" ∷ codes "[J" ∷ []

@@ -28,6 +28,7 @@ use Rattle.dj_model.specs.trusted.Initialisation.{is_initialised, mark, with_con
 use Rattle.dj_model.specs.trusted.Step.{unwound, settle, step}
 use Rattle.dj_model.specs.trusted.Runs.{begin, steps, plain_run}
 use Rattle.dj_model.specs.Runs.{Run, RunEnds, amounts, turn, turns, metered_run}
+use Rattle.dj_ops.specs.Mnemonics.{aconst_null, iconst_0, iconst_1, iconst_4, iconst_5, aload_0, bastore, dup, ireturn, areturn, invokespecial, invokestatic, new, athrow}
 
 abbrev c_type : Ty
 c_type = class_type (codes "C")
@@ -38,21 +39,21 @@ e_type = class_type (codes "E")
 -- C, D below it and E below D; D has a method m with these flags, and a constructor that throws
 abbrev family : ℕ → List Instruction → List Class
 family flags instructions =
-    class_with (codes "C") [] (plain_constructor ∷ method_with 1 (codes "m") [] (Some int) (code (op 8 ∷ op 172 ∷ []) []) ∷ [])
-    ∷ record (class_with (codes "D") [] (method_with 1 (codes "<init>") [] None (code (op 1 ∷ op 191 ∷ []) []) ∷ method_with flags (codes "m") [] (Some int) (code (op 7 ∷ op 172 ∷ []) []) ∷ [])) { superclass = Some (codes "C") }
+    class_with (codes "C") [] (plain_constructor ∷ method_with 1 (codes "m") [] (Some int) (code (op iconst_5 ∷ op ireturn ∷ []) []) ∷ [])
+    ∷ record (class_with (codes "D") [] (method_with 1 (codes "<init>") [] None (code (op aconst_null ∷ op athrow ∷ []) []) ∷ method_with flags (codes "m") [] (Some int) (code (op iconst_4 ∷ op ireturn ∷ []) []) ∷ [])) { superclass = Some (codes "C") }
     ∷ record (class_with (codes "E") [] (method_with 9 (codes "s") (object ∷ []) (Some int) (code instructions []) ∷ [])) { superclass = Some (codes "D") } ∷ []
 
 -- E's static method s is this code, on an object of E; the int that it gives is returned as a byte
 abbrev on_object : ℕ → List Instruction → Run
 on_object flags instructions = metered_run (metered_program (a_with (verify_with
-    (op 4 ∷ newarray 8 ∷ op 89 ∷ op 3 ∷ class 187 e_type ∷ method 184 e_type (codes "s") (object ∷ []) (Some int) ∷ op 84 ∷ op 176 ∷ []) [] ∷ []) ∷ family flags instructions)) entry (1 ∷ []) usual 100
+    (op iconst_1 ∷ newarray 8 ∷ op dup ∷ op iconst_0 ∷ class new e_type ∷ method invokestatic e_type (codes "s") (object ∷ []) (Some int) ∷ op bastore ∷ op areturn ∷ []) [] ∷ []) ∷ family flags instructions)) entry (1 ∷ []) usual 100
 
 abbrev gives : ℕ → ℕ → Run
 gives byte invoke = RunEnds (outcomes.OkBytes (byte ∷ [])) (costs 40 invoke 0 0)
 
 -- a method of a class between is taken, a private one too, and a static one isn't
 abbrev calls_m : ℕ → Run
-calls_m flags = on_object flags (op 42 ∷ method 183 c_type (codes "m") [] (Some int) ∷ op 172 ∷ [])
+calls_m flags = on_object flags (op aload_0 ∷ method invokespecial c_type (codes "m") [] (Some int) ∷ op ireturn ∷ [])
 
 taken_between : map calls_m (1 ∷ 2 ∷ 9 ∷ 10 ∷ [])
     ≡ gives 4 2 ∷ gives 4 2 ∷ gives 5 2 ∷ gives 5 2 ∷ []
@@ -60,7 +61,7 @@ unfolding int_wrap digits instruction_of simple code_of has_initialiser most_cla
 taken_between = refl
 
 -- a constructor is taken from the class that is named
-taken_constructor : on_object 1 (op 42 ∷ construct c_type [] ∷ op 8 ∷ op 172 ∷ []) ∷ on_object 1 (op 42 ∷ construct (class_type (codes "D")) [] ∷ op 8 ∷ op 172 ∷ []) ∷ []
+taken_constructor : on_object 1 (op aload_0 ∷ construct c_type [] ∷ op iconst_5 ∷ op ireturn ∷ []) ∷ on_object 1 (op aload_0 ∷ construct (class_type (codes "D")) [] ∷ op iconst_5 ∷ op ireturn ∷ []) ∷ []
     ≡ gives 5 3 ∷ RunEnds (outcomes.Threw (lang_name (codes "NullPointerException")) messages.Null) (costs 40 2 0 1) ∷ []
 unfolding int_wrap digits instruction_of simple code_of has_initialiser most_classes chain_of interfaces_from interfaces_above is_subclass is_subtype field_order resolve_method resolve_field select special_method field_count place_of static_place metered_program raw_program sandbox_program compute convert moved on_values load_element store_element array_length make_array charge_one charge_all answer host_answer perform native with_literal invoke effect pays used_class is_initialised mark with_constants constants_of initialise unwound settle step begin amounts turn turns metered_run steps plain_run
 taken_constructor = refl

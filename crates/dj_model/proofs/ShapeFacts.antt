@@ -19,8 +19,9 @@ use Rattle.dj_model.specs.trusted.Program.{Code, Range}
 use Rattle.dj_model.specs.trusted.Values.{in_slots, moved}
 use Rattle.dj_model.specs.trusted.Kinds.{Signature, signature_of, Placed, Map, Read, Faulty, NoMap, frames_after, map_of}
 use Rattle.dj_model.specs.trusted.Shape.{after, state_before}
-use Rattle.dj_model.specs.SmallRuns.{op, iinc, jump, class, field, method, invokeinterface, catch_all, method_desc}
+use Rattle.dj_model.specs.SmallRuns.{op, iinc, jump, class, field, method, interface_method, catch_all, method_desc}
 use Rattle.dj_model.proofs.Shapes.{holds_test}
+use Rattle.dj_ops.specs.Mnemonics.{nop, aconst_null, iconst_0, lconst_0, fconst_0, iload_1, iload_2, lload_1, aload_0, istore_1, istore_2, istore_3, lstore_1, lstore_2, pop, pop2, ifeq, goto, ireturn, areturn, return, getstatic, putstatic, getfield, putfield, invokevirtual, invokestatic, new, athrow}
 
 -- the number of the first of this many instructions that doesn't hold, from this one on
 abbrev first_from : Signature → Code → List Placed → ℕ → ℕ → Option ℕ
@@ -57,15 +58,15 @@ frame at form = record { at = at; form = form }
 abbrev plain : List Instruction → Judged
 plain instructions = of instructions [] []
 
-straight : plain (op 42 ∷ op 176 ∷ []) ∷ plain (op 176 ∷ []) ∷ plain (op 42 ∷ []) ∷ plain (op 3 ∷ op 172 ∷ []) ∷ plain (op 3 ∷ op 176 ∷ []) ∷ plain (op 177 ∷ []) ∷ plain (op 0 ∷ op 11 ∷ op 176 ∷ [])
-    ∷ plain (op 42 ∷ op 42 ∷ op 42 ∷ op 176 ∷ []) ∷ plain (op 42 ∷ op 176 ∷ op 42 ∷ op 176 ∷ []) ∷ []
+straight : plain (op aload_0 ∷ op areturn ∷ []) ∷ plain (op areturn ∷ []) ∷ plain (op aload_0 ∷ []) ∷ plain (op iconst_0 ∷ op ireturn ∷ []) ∷ plain (op iconst_0 ∷ op areturn ∷ []) ∷ plain (op return ∷ []) ∷ plain (op nop ∷ op fconst_0 ∷ op areturn ∷ [])
+    ∷ plain (op aload_0 ∷ op aload_0 ∷ op aload_0 ∷ op areturn ∷ []) ∷ plain (op aload_0 ∷ op areturn ∷ op aload_0 ∷ op areturn ∷ []) ∷ []
     ≡ Shape ∷ Fault (Some 0) ∷ Fault (Some 0) ∷ Fault (Some 1) ∷ Fault (Some 1) ∷ Fault (Some 0) ∷ Fault (Some 1) ∷ Fault (Some 2) ∷ Fault (Some 2) ∷ []
 unfolding after instruction_of simple state_before frames_after moved
 straight = refl
 
 -- iconst_0, istore_1, L: iload_1, ifeq E, iinc 1 1, goto L, E: aload_0, areturn
 abbrev loop : List Instruction
-loop = op 3 ∷ op 60 ∷ op 27 ∷ jump 153 6 ∷ iinc 1 (pos 1) ∷ jump 167 2 ∷ op 42 ∷ op 176 ∷ []
+loop = op iconst_0 ∷ op istore_1 ∷ op iload_1 ∷ jump ifeq 6 ∷ iinc 1 (pos 1) ∷ jump goto 2 ∷ op aload_0 ∷ op areturn ∷ []
 
 loops : of loop (frame 2 (forms.Append (types.Integer ∷ [])) ∷ frame 6 forms.Same ∷ []) []
     ∷ of loop (frame 6 (forms.Append (types.Integer ∷ [])) ∷ []) []
@@ -83,15 +84,15 @@ unfolding after instruction_of simple state_before frames_after moved
 loops = refl
 
 -- after a jump there has to be a frame; a jump to itself is one
-ends_need_frames : of (jump 167 2 ∷ op 0 ∷ op 42 ∷ op 176 ∷ []) (frame 2 forms.Same ∷ []) [] ∷ of (jump 167 2 ∷ op 0 ∷ op 42 ∷ op 176 ∷ []) (frame 1 forms.Same ∷ frame 2 forms.Same ∷ []) []
-    ∷ of (jump 167 0 ∷ []) (frame 0 forms.Same ∷ []) [] ∷ of (jump 167 0 ∷ []) [] [] ∷ of (op 1 ∷ op 191 ∷ []) [] [] ∷ of (op 1 ∷ op 191 ∷ op 42 ∷ op 176 ∷ []) [] [] ∷ []
+ends_need_frames : of (jump goto 2 ∷ op nop ∷ op aload_0 ∷ op areturn ∷ []) (frame 2 forms.Same ∷ []) [] ∷ of (jump goto 2 ∷ op nop ∷ op aload_0 ∷ op areturn ∷ []) (frame 1 forms.Same ∷ frame 2 forms.Same ∷ []) []
+    ∷ of (jump goto 0 ∷ []) (frame 0 forms.Same ∷ []) [] ∷ of (jump goto 0 ∷ []) [] [] ∷ of (op aconst_null ∷ op athrow ∷ []) [] [] ∷ of (op aconst_null ∷ op athrow ∷ op aload_0 ∷ op areturn ∷ []) [] [] ∷ []
     ≡ Fault (Some 1) ∷ Shape ∷ Shape ∷ Fault (Some 0) ∷ Shape ∷ Fault (Some 2) ∷ []
 unfolding after instruction_of simple state_before frames_after moved
 ends_need_frames = refl
 
 -- a switch takes an int; each of its targets has a frame, and so has the instruction after it
 abbrev switching : Instruction → List ℕ → Judged
-switching switch framed = of (op 3 ∷ switch ∷ op 42 ∷ op 176 ∷ op 42 ∷ op 176 ∷ op 42 ∷ op 176 ∷ []) (map (λ at. frame at forms.Same) framed) []
+switching switch framed = of (op iconst_0 ∷ switch ∷ op aload_0 ∷ op areturn ∷ op aload_0 ∷ op areturn ∷ op aload_0 ∷ op areturn ∷ []) (map (λ at. frame at forms.Same) framed) []
 
 abbrev table : Instruction
 table = instruction_of (instrs.Table (pos 6) (pos 1) (pos 2 ∷ pos 4 ∷ [])) Nothing
@@ -111,23 +112,23 @@ unfolding after instruction_of simple state_before frames_after moved
 switches = refl
 
 -- a switch may stand last, and its int has to be there
-last_switches : of (op 3 ∷ instruction_of (instrs.Lookup (pos 0) []) Nothing ∷ []) (frame 0 forms.Same ∷ []) [] ∷ of (op 3 ∷ instruction_of (instrs.Table (pos 0) (pos 1) []) Nothing ∷ []) (frame 0 forms.Same ∷ []) []
-    ∷ of (op 42 ∷ instruction_of (instrs.Lookup (pos 0) []) Nothing ∷ []) (frame 0 forms.Same ∷ []) [] ∷ of (op 3 ∷ instruction_of (instrs.Lookup (pos 0) []) Nothing ∷ []) [] []
-    ∷ of (op 3 ∷ instruction_of (instrs.Lookup (pos 1) []) Nothing ∷ []) (frame 1 forms.Same ∷ []) [] ∷ []
+last_switches : of (op iconst_0 ∷ instruction_of (instrs.Lookup (pos 0) []) Nothing ∷ []) (frame 0 forms.Same ∷ []) [] ∷ of (op iconst_0 ∷ instruction_of (instrs.Table (pos 0) (pos 1) []) Nothing ∷ []) (frame 0 forms.Same ∷ []) []
+    ∷ of (op aload_0 ∷ instruction_of (instrs.Lookup (pos 0) []) Nothing ∷ []) (frame 0 forms.Same ∷ []) [] ∷ of (op iconst_0 ∷ instruction_of (instrs.Lookup (pos 0) []) Nothing ∷ []) [] []
+    ∷ of (op iconst_0 ∷ instruction_of (instrs.Lookup (pos 1) []) Nothing ∷ []) (frame 1 forms.Same ∷ []) [] ∷ []
     ≡ Shape ∷ Shape ∷ Fault (Some 1) ∷ Fault (Some 1) ∷ Fault (Some 0) ∷ []
 unfolding after instruction_of simple state_before frames_after moved
 last_switches = refl
 
 -- the parameters flow into a frame of the first instruction
-first_frames : of (op 42 ∷ op 176 ∷ []) (frame 0 (forms.Append (types.Integer ∷ [])) ∷ []) [] ∷ of (op 42 ∷ op 176 ∷ []) (frame 0 (forms.Append (types.Top ∷ [])) ∷ []) []
-    ∷ of (op 1 ∷ op 176 ∷ []) (frame 0 (forms.Chop 1) ∷ []) [] ∷ of (op 42 ∷ op 176 ∷ []) (frame 0 (forms.Chop 1) ∷ []) [] ∷ of (op 42 ∷ op 176 ∷ []) (frame 0 (forms.Stack1 types.Null) ∷ []) [] ∷ []
+first_frames : of (op aload_0 ∷ op areturn ∷ []) (frame 0 (forms.Append (types.Integer ∷ [])) ∷ []) [] ∷ of (op aload_0 ∷ op areturn ∷ []) (frame 0 (forms.Append (types.Top ∷ [])) ∷ []) []
+    ∷ of (op aconst_null ∷ op areturn ∷ []) (frame 0 (forms.Chop 1) ∷ []) [] ∷ of (op aload_0 ∷ op areturn ∷ []) (frame 0 (forms.Chop 1) ∷ []) [] ∷ of (op aload_0 ∷ op areturn ∷ []) (frame 0 (forms.Stack1 types.Null) ∷ []) [] ∷ []
     ≡ Fault (Some 0) ∷ Shape ∷ Shape ∷ Fault (Some 0) ∷ Fault (Some 0) ∷ []
 unfolding after instruction_of simple state_before frames_after moved
 first_frames = refl
 
 -- frames that declare no kinds, or don't fit; two slots each for two longs
 abbrev before_end : Form → Judged
-before_end form = of (op 0 ∷ op 0 ∷ op 1 ∷ op 176 ∷ []) (frame 2 form ∷ []) []
+before_end form = of (op nop ∷ op nop ∷ op aconst_null ∷ op areturn ∷ []) (frame 2 form ∷ []) []
 
 reported_frames : before_end (forms.Append (types.Float ∷ [])) ∷ before_end (forms.Append (types.Double ∷ [])) ∷ before_end (forms.Append (types.Uninitialized 0 ∷ [])) ∷ before_end (forms.Append (types.Uninitialized 9 ∷ []))
     ∷ before_end (forms.Chop 1) ∷ before_end (forms.Chop 2) ∷ before_end (forms.Stack1 types.Top) ∷ before_end (forms.Append (types.Top ∷ types.Top ∷ types.Top ∷ [])) ∷ before_end (forms.Append (types.Top ∷ types.Top ∷ []))
@@ -139,7 +140,7 @@ reported_frames = refl
 
 -- goto N, D: aload_0, areturn, N: new, goto D: what new made is named by its number
 abbrev made_at : ℕ → Judged
-made_at n = of (jump 167 3 ∷ op 42 ∷ op 176 ∷ class 187 object ∷ jump 167 5 ∷ op 87 ∷ jump 167 1 ∷ [])
+made_at n = of (jump goto 3 ∷ op aload_0 ∷ op areturn ∷ class new object ∷ jump goto 5 ∷ op pop ∷ jump goto 1 ∷ [])
     (frame 1 forms.Same ∷ frame 3 forms.Same ∷ frame 5 (forms.Stack1 (types.Uninitialized n)) ∷ []) []
 
 uninitialised : made_at 3 ∷ made_at 1 ∷ made_at 7 ∷ [] ≡ Shape ∷ Fault (Some 5) ∷ Fault (Some 5) ∷ []
@@ -148,7 +149,7 @@ uninitialised = refl
 
 -- frames start from the one before, and the first from the parameters
 abbrev two_frames : Form → Form → Judged
-two_frames a b = of (op 3 ∷ op 60 ∷ op 0 ∷ op 0 ∷ op 42 ∷ op 176 ∷ []) (frame 2 a ∷ frame 3 b ∷ []) []
+two_frames a b = of (op iconst_0 ∷ op istore_1 ∷ op nop ∷ op nop ∷ op aload_0 ∷ op areturn ∷ []) (frame 2 a ∷ frame 3 b ∷ []) []
 
 frames_in_order : two_frames (forms.Append (types.Integer ∷ [])) (forms.Chop 2) ∷ two_frames (forms.Append (types.Integer ∷ [])) (forms.Chop 1) ∷ two_frames forms.Same (forms.Append (types.Integer ∷ []))
     ∷ two_frames (forms.Append (types.Integer ∷ [])) (forms.Append (types.Top ∷ types.Top ∷ [])) ∷ two_frames (forms.Chop 1) (forms.Append (types.Null ∷ [])) ∷ []
@@ -158,19 +159,19 @@ frames_in_order = refl
 
 -- operands of a frame stand as it declares them, the last on top; a long takes two slots and two operands
 abbrev with_operands : List VType → List Instruction → Judged
-with_operands stack instructions = of (jump 167 1 ∷ instructions) (frame 1 (forms.Full (types.Null ∷ []) stack) ∷ []) []
+with_operands stack instructions = of (jump goto 1 ∷ instructions) (frame 1 (forms.Full (types.Null ∷ []) stack) ∷ []) []
 
-operands_in_order : with_operands (types.Integer ∷ types.Null ∷ []) (op 176 ∷ []) ∷ of (op 3 ∷ op 42 ∷ jump 167 3 ∷ op 176 ∷ []) (frame 3 (forms.Full (types.Null ∷ []) (types.Integer ∷ types.Null ∷ [])) ∷ []) []
-    ∷ of (op 3 ∷ op 42 ∷ jump 167 3 ∷ op 176 ∷ []) (frame 3 (forms.Full (types.Null ∷ []) (types.Null ∷ types.Integer ∷ [])) ∷ []) []
-    ∷ of (op 42 ∷ op 3 ∷ jump 167 3 ∷ op 87 ∷ op 176 ∷ []) (frame 3 (forms.Full (types.Null ∷ []) (types.Null ∷ types.Integer ∷ [])) ∷ []) [] ∷ []
+operands_in_order : with_operands (types.Integer ∷ types.Null ∷ []) (op areturn ∷ []) ∷ of (op iconst_0 ∷ op aload_0 ∷ jump goto 3 ∷ op areturn ∷ []) (frame 3 (forms.Full (types.Null ∷ []) (types.Integer ∷ types.Null ∷ [])) ∷ []) []
+    ∷ of (op iconst_0 ∷ op aload_0 ∷ jump goto 3 ∷ op areturn ∷ []) (frame 3 (forms.Full (types.Null ∷ []) (types.Null ∷ types.Integer ∷ [])) ∷ []) []
+    ∷ of (op aload_0 ∷ op iconst_0 ∷ jump goto 3 ∷ op pop ∷ op areturn ∷ []) (frame 3 (forms.Full (types.Null ∷ []) (types.Null ∷ types.Integer ∷ [])) ∷ []) [] ∷ []
     ≡ Fault (Some 0) ∷ Shape ∷ Fault (Some 2) ∷ Shape ∷ []
 unfolding after instruction_of simple state_before frames_after moved
 operands_in_order = refl
 
 -- of three slots: a long's second one has to be there, an increment wants an int, and a store over a half of a long leaves none
-long_slots : plain (op 9 ∷ op 64 ∷ op 42 ∷ op 176 ∷ []) ∷ plain (op 9 ∷ op 65 ∷ op 42 ∷ op 176 ∷ []) ∷ plain (op 3 ∷ op 61 ∷ op 42 ∷ op 176 ∷ []) ∷ plain (op 3 ∷ op 62 ∷ op 42 ∷ op 176 ∷ [])
-    ∷ plain (op 9 ∷ op 64 ∷ op 31 ∷ op 88 ∷ op 42 ∷ op 176 ∷ []) ∷ plain (op 9 ∷ op 64 ∷ op 3 ∷ op 61 ∷ op 31 ∷ op 88 ∷ op 42 ∷ op 176 ∷ []) ∷ plain (op 3 ∷ op 61 ∷ op 9 ∷ op 64 ∷ op 28 ∷ op 87 ∷ op 42 ∷ op 176 ∷ [])
-    ∷ plain (op 3 ∷ op 60 ∷ op 3 ∷ op 61 ∷ iinc 2 (pos 1) ∷ op 42 ∷ op 176 ∷ []) ∷ plain (iinc 0 (pos 1) ∷ op 42 ∷ op 176 ∷ []) ∷ plain (iinc 1 (pos 1) ∷ op 42 ∷ op 176 ∷ []) ∷ plain (op 9 ∷ op 64 ∷ iinc 1 (pos 1) ∷ op 42 ∷ op 176 ∷ []) ∷ []
+long_slots : plain (op lconst_0 ∷ op lstore_1 ∷ op aload_0 ∷ op areturn ∷ []) ∷ plain (op lconst_0 ∷ op lstore_2 ∷ op aload_0 ∷ op areturn ∷ []) ∷ plain (op iconst_0 ∷ op istore_2 ∷ op aload_0 ∷ op areturn ∷ []) ∷ plain (op iconst_0 ∷ op istore_3 ∷ op aload_0 ∷ op areturn ∷ [])
+    ∷ plain (op lconst_0 ∷ op lstore_1 ∷ op lload_1 ∷ op pop2 ∷ op aload_0 ∷ op areturn ∷ []) ∷ plain (op lconst_0 ∷ op lstore_1 ∷ op iconst_0 ∷ op istore_2 ∷ op lload_1 ∷ op pop2 ∷ op aload_0 ∷ op areturn ∷ []) ∷ plain (op iconst_0 ∷ op istore_2 ∷ op lconst_0 ∷ op lstore_1 ∷ op iload_2 ∷ op pop ∷ op aload_0 ∷ op areturn ∷ [])
+    ∷ plain (op iconst_0 ∷ op istore_1 ∷ op iconst_0 ∷ op istore_2 ∷ iinc 2 (pos 1) ∷ op aload_0 ∷ op areturn ∷ []) ∷ plain (iinc 0 (pos 1) ∷ op aload_0 ∷ op areturn ∷ []) ∷ plain (iinc 1 (pos 1) ∷ op aload_0 ∷ op areturn ∷ []) ∷ plain (op lconst_0 ∷ op lstore_1 ∷ iinc 1 (pos 1) ∷ op aload_0 ∷ op areturn ∷ []) ∷ []
     ≡ Shape ∷ Fault (Some 1) ∷ Shape ∷ Fault (Some 1) ∷ Shape ∷ Fault (Some 4) ∷ Fault (Some 4) ∷ Shape ∷ Fault (Some 0) ∷ Fault (Some 0) ∷ Fault (Some 2) ∷ []
 unfolding after instruction_of simple state_before frames_after moved
 long_slots = refl
@@ -178,7 +179,7 @@ long_slots = refl
 -- handlers: iconst_0, istore_1, iconst_0, istore_1, aload_0, areturn, H: pop, aload_0, areturn
 abbrev handling : List Frame → ℕ → ℕ → Judged
 handling frames start end =
-    of (op 3 ∷ op 60 ∷ op 3 ∷ op 60 ∷ op 42 ∷ op 176 ∷ op 87 ∷ op 42 ∷ op 176 ∷ []) frames (catch_all start end 6 ∷ [])
+    of (op iconst_0 ∷ op istore_1 ∷ op iconst_0 ∷ op istore_1 ∷ op aload_0 ∷ op areturn ∷ op pop ∷ op aload_0 ∷ op areturn ∷ []) frames (catch_all start end 6 ∷ [])
 
 abbrev caught_with : List VType → List VType → List Frame
 caught_with locals stack = frame 6 (forms.Full locals stack) ∷ []
@@ -194,28 +195,28 @@ handlers = refl
 -- parameters
 abbrev with_parameters : List Kind → ℕ → Judged
 with_parameters parameters max_locals =
-    judged (record { parameters = parameters; result = None }) (record { max_stack = 0; max_locals = max_locals; instructions = op 177 ∷ []; ranges = []; frames = Some [] })
+    judged (record { parameters = parameters; result = None }) (record { max_stack = 0; max_locals = max_locals; instructions = op return ∷ []; ranges = []; frames = Some [] })
 
 parameters_fit : with_parameters [] 0 ∷ with_parameters (kinds.Ref ∷ []) 0 ∷ with_parameters (kinds.Ref ∷ kinds.Long ∷ []) 2 ∷ with_parameters (kinds.Ref ∷ kinds.Long ∷ []) 3 ∷ []
     ≡ Shape ∷ Fault (Some 0) ∷ Fault (Some 0) ∷ Shape ∷ []
 unfolding after instruction_of simple state_before frames_after
 parameters_fit = refl
 
-no_map : judged takes_array (record { max_stack = 2; max_locals = 3; instructions = op 42 ∷ op 176 ∷ []; ranges = []; frames = None }) ≡ Fault None
+no_map : judged takes_array (record { max_stack = 2; max_locals = 3; instructions = op aload_0 ∷ op areturn ∷ []; ranges = []; frames = None }) ≡ Fault None
 no_map = refl
 
 -- calls and fields, by their descriptors
 abbrev f_type : Ty
 f_type = base_type bases.Float
 
-calls_and_fields : plain (op 42 ∷ op 3 ∷ method 182 object (codes "m") (int ∷ []) (Some object) ∷ op 176 ∷ []) ∷ plain (op 42 ∷ op 42 ∷ method 182 object (codes "m") (int ∷ []) (Some object) ∷ op 176 ∷ [])
-    ∷ plain (op 3 ∷ op 3 ∷ method 182 object (codes "m") (int ∷ []) (Some object) ∷ op 176 ∷ []) ∷ plain (op 3 ∷ method 184 object (codes "m") (int ∷ []) (Some object) ∷ op 176 ∷ [])
-    ∷ plain (op 42 ∷ method 184 object (codes "m") [] None ∷ op 176 ∷ []) ∷ plain (op 42 ∷ method 184 object (codes "m") [] (Some long) ∷ op 88 ∷ op 176 ∷ []) ∷ plain (op 42 ∷ method 184 object (codes "m") [] (Some f_type) ∷ op 87 ∷ op 176 ∷ [])
-    ∷ plain (method 184 object (codes "m") [] (Some long) ∷ op 88 ∷ op 42 ∷ op 176 ∷ []) ∷ plain (op 42 ∷ method 184 object (codes "m") (f_type ∷ []) None ∷ op 176 ∷ [])
-    ∷ plain (op 42 ∷ op 3 ∷ invokeinterface 2 object (codes "m") (int ∷ []) (Some object) ∷ op 176 ∷ []) ∷ plain (op 42 ∷ op 3 ∷ invokeinterface 1 object (codes "m") (int ∷ []) (Some object) ∷ op 176 ∷ [])
-    ∷ plain (op 42 ∷ field 180 object (codes "f") object ∷ op 176 ∷ []) ∷ plain (op 3 ∷ field 180 object (codes "f") object ∷ op 176 ∷ []) ∷ plain (op 42 ∷ op 3 ∷ field 181 object (codes "f") int ∷ op 42 ∷ op 176 ∷ [])
-    ∷ plain (op 42 ∷ op 42 ∷ field 181 object (codes "f") int ∷ op 42 ∷ op 176 ∷ []) ∷ plain (field 178 object (codes "f") object ∷ op 176 ∷ []) ∷ plain (op 3 ∷ field 179 object (codes "f") int ∷ op 42 ∷ op 176 ∷ [])
-    ∷ plain (op 42 ∷ field 179 object (codes "f") int ∷ op 42 ∷ op 176 ∷ []) ∷ plain (field 178 object (codes "f") f_type ∷ op 87 ∷ op 42 ∷ op 176 ∷ []) ∷ []
+calls_and_fields : plain (op aload_0 ∷ op iconst_0 ∷ method invokevirtual object (codes "m") (int ∷ []) (Some object) ∷ op areturn ∷ []) ∷ plain (op aload_0 ∷ op aload_0 ∷ method invokevirtual object (codes "m") (int ∷ []) (Some object) ∷ op areturn ∷ [])
+    ∷ plain (op iconst_0 ∷ op iconst_0 ∷ method invokevirtual object (codes "m") (int ∷ []) (Some object) ∷ op areturn ∷ []) ∷ plain (op iconst_0 ∷ method invokestatic object (codes "m") (int ∷ []) (Some object) ∷ op areturn ∷ [])
+    ∷ plain (op aload_0 ∷ method invokestatic object (codes "m") [] None ∷ op areturn ∷ []) ∷ plain (op aload_0 ∷ method invokestatic object (codes "m") [] (Some long) ∷ op pop2 ∷ op areturn ∷ []) ∷ plain (op aload_0 ∷ method invokestatic object (codes "m") [] (Some f_type) ∷ op pop ∷ op areturn ∷ [])
+    ∷ plain (method invokestatic object (codes "m") [] (Some long) ∷ op pop2 ∷ op aload_0 ∷ op areturn ∷ []) ∷ plain (op aload_0 ∷ method invokestatic object (codes "m") (f_type ∷ []) None ∷ op areturn ∷ [])
+    ∷ plain (op aload_0 ∷ op iconst_0 ∷ interface_method 2 object (codes "m") (int ∷ []) (Some object) ∷ op areturn ∷ []) ∷ plain (op aload_0 ∷ op iconst_0 ∷ interface_method 1 object (codes "m") (int ∷ []) (Some object) ∷ op areturn ∷ [])
+    ∷ plain (op aload_0 ∷ field getfield object (codes "f") object ∷ op areturn ∷ []) ∷ plain (op iconst_0 ∷ field getfield object (codes "f") object ∷ op areturn ∷ []) ∷ plain (op aload_0 ∷ op iconst_0 ∷ field putfield object (codes "f") int ∷ op aload_0 ∷ op areturn ∷ [])
+    ∷ plain (op aload_0 ∷ op aload_0 ∷ field putfield object (codes "f") int ∷ op aload_0 ∷ op areturn ∷ []) ∷ plain (field getstatic object (codes "f") object ∷ op areturn ∷ []) ∷ plain (op iconst_0 ∷ field putstatic object (codes "f") int ∷ op aload_0 ∷ op areturn ∷ [])
+    ∷ plain (op aload_0 ∷ field putstatic object (codes "f") int ∷ op aload_0 ∷ op areturn ∷ []) ∷ plain (field getstatic object (codes "f") f_type ∷ op pop ∷ op aload_0 ∷ op areturn ∷ []) ∷ []
     ≡ Shape ∷ Fault (Some 2) ∷ Fault (Some 2) ∷ Shape ∷ Shape ∷ Fault (Some 1) ∷ Fault (Some 1) ∷ Shape ∷ Fault (Some 1) ∷ Shape ∷ Fault (Some 2) ∷ Shape ∷ Fault (Some 1) ∷ Shape ∷ Fault (Some 2)
     ∷ Shape ∷ Shape ∷ Fault (Some 1) ∷ Fault (Some 0) ∷ []
 unfolding after instruction_of simple state_before frames_after moved

@@ -42,10 +42,11 @@ use Rattle.dj_model.specs.Standing.{RunStands, IsEntry, Starves}
 use Rattle.dj_model.specs.trusted.State.{Terms, Uncounted}
 use Rattle.dj_model.specs.trusted.Runs.{Report, begin, steps, plain_run}
 use Rattle.dj_model.specs.Runs.{RunEnds, amounts, turn, turns, metered_run}
-use Rattle.dj_model.specs.SmallRuns.{op, ldc, jump, newarray, class, field, method, invokeinterface, construct, a_class, a_type, method_with, plain_constructor, class_with, field_with, catch, byte_array, entry, costs, usual, lang_name}
+use Rattle.dj_model.specs.SmallRuns.{op, constant, jump, newarray, class, field, method, interface_method, construct, a_class, a_type, method_with, plain_constructor, class_with, field_with, catch, byte_array, entry, costs, usual, lang_name}
 use Rattle.dj_model.proofs.SoundPrograms.{sound_test, sound_from}
 use Rattle.dj_model.proofs.SoundRuns.{metered_stands, plain_stands}
 use Rattle.dj_model.proofs.QuietLibraries.{quiet_all, to_asks, metered_asks_nothing}
+use Rattle.dj_ops.specs.Mnemonics.{aconst_null, iconst_1, iconst_2, lconst_1, iload_0, iload_1, aload_0, aload_2, istore_1, lstore_3, astore_2, pop, pop2, dup, iadd, ladd, ifne, goto, ireturn, areturn, return, getstatic, putstatic, getfield, putfield, invokevirtual, invokestatic, new, arraylength, athrow}
 
 abbrev frame : ℕ → Form → Frame
 frame at form = record { at = at; form = form }
@@ -72,15 +73,15 @@ reported = types.Object 1 ∷ types.Integer ∷ types.Object 1 ∷ types.Long �
 -- another look at the input, and else an Error with a text or null is thrown, caught at 37, and the input returned
 abbrev verify_code : List Instruction
 verify_code =
-    ldc (AText (codes "ab")) ∷ method 182 string (codes "length") [] (Some int) ∷ op 60
-    ∷ class 187 c_type ∷ op 89 ∷ construct c_type [] ∷ op 77 ∷ op 44 ∷ op 27 ∷ field 181 b_type (codes "f") int
-    ∷ op 10 ∷ field 178 c_type (codes "n") long ∷ op 97 ∷ op 66
-    ∷ op 44 ∷ invokeinterface 1 i_type (codes "m") [] (Some int) ∷ op 44 ∷ method 182 b_type (codes "m") [] (Some int) ∷ op 96 ∷ method 184 a_type (codes "k") (int ∷ []) (Some int)
+    constant (AText (codes "ab")) ∷ method invokevirtual string (codes "length") [] (Some int) ∷ op istore_1
+    ∷ class new c_type ∷ op dup ∷ construct c_type [] ∷ op astore_2 ∷ op aload_2 ∷ op iload_1 ∷ field putfield b_type (codes "f") int
+    ∷ op lconst_1 ∷ field getstatic c_type (codes "n") long ∷ op ladd ∷ op lstore_3
+    ∷ op aload_2 ∷ interface_method 1 i_type (codes "m") [] (Some int) ∷ op aload_2 ∷ method invokevirtual b_type (codes "m") [] (Some int) ∷ op iadd ∷ method invokestatic a_type (codes "k") (int ∷ []) (Some int)
     ∷ instruction_of (instrs.Table (pos 28) (pos 1) (pos 21 ∷ pos 24 ∷ [])) Nothing
-    ∷ op 5 ∷ newarray 8 ∷ op 176
-    ∷ op 42 ∷ op 190 ∷ op 60 ∷ jump 167 21
-    ∷ class 187 error ∷ op 89 ∷ op 27 ∷ jump 154 34 ∷ op 1 ∷ jump 167 35 ∷ ldc (AText (codes "x")) ∷ construct error (string ∷ []) ∷ op 191
-    ∷ op 87 ∷ op 42 ∷ op 176 ∷ []
+    ∷ op iconst_2 ∷ newarray 8 ∷ op areturn
+    ∷ op aload_0 ∷ op arraylength ∷ op istore_1 ∷ jump goto 21
+    ∷ class new error ∷ op dup ∷ op iload_1 ∷ jump ifne 34 ∷ op aconst_null ∷ jump goto 35 ∷ constant (AText (codes "x")) ∷ construct error (string ∷ []) ∷ op athrow
+    ∷ op pop ∷ op aload_0 ∷ op areturn ∷ []
 
 abbrev verify_frames : List Frame
 verify_frames =
@@ -92,7 +93,7 @@ verify_frames =
 -- 7 gives 1, and every other int 2, which goes through a static field
 abbrev k_method : Method
 k_method = method_with 9 (codes "k") (int ∷ []) (Some int) (body
-    (op 26 ∷ instruction_of (instrs.Lookup (pos 4) ((pos 7, pos 2) ∷ [])) Nothing ∷ op 4 ∷ op 172 ∷ op 5 ∷ field 179 a_type (codes "t") int ∷ field 178 a_type (codes "t") int ∷ op 172 ∷ [])
+    (op iload_0 ∷ instruction_of (instrs.Lookup (pos 4) ((pos 7, pos 2) ∷ [])) Nothing ∷ op iconst_1 ∷ op ireturn ∷ op iconst_2 ∷ field putstatic a_type (codes "t") int ∷ field getstatic a_type (codes "t") int ∷ op ireturn ∷ [])
     [] (frame 2 forms.Same ∷ frame 4 forms.Same ∷ []))
 
 abbrev verify_method : Method
@@ -101,8 +102,8 @@ verify_method = method_with 9 (codes "verify") (byte_array ∷ []) (Some byte_ar
 abbrev files : List Class
 files =
     class_with a_class (field_with 8 (codes "t") int None ∷ []) (verify_method ∷ k_method ∷ [])
-    ∷ class_with (codes "B") (field_with 0 (codes "f") int None ∷ []) (plain_constructor ∷ method_with 1 (codes "m") [] (Some int) (body (op 42 ∷ field 180 b_type (codes "f") int ∷ op 172 ∷ []) [] []) ∷ [])
-    ∷ record (class_with (codes "C") (field_with 8 (codes "n") long (Some (Long (pos 5))) ∷ []) (method_with 1 (codes "<init>") [] None (body (op 42 ∷ construct b_type [] ∷ op 177 ∷ []) [] []) ∷ []))
+    ∷ class_with (codes "B") (field_with 0 (codes "f") int None ∷ []) (plain_constructor ∷ method_with 1 (codes "m") [] (Some int) (body (op aload_0 ∷ field getfield b_type (codes "f") int ∷ op ireturn ∷ []) [] []) ∷ [])
+    ∷ record (class_with (codes "C") (field_with 8 (codes "n") long (Some (Long (pos 5))) ∷ []) (method_with 1 (codes "<init>") [] None (body (op aload_0 ∷ construct b_type [] ∷ op return ∷ []) [] []) ∷ []))
     { superclass = Some (codes "B"); interfaces = codes "I" ∷ [] }
     ∷ record (class_with (codes "I") [] (method_with 1025 (codes "m") [] (Some int) Abstract ∷ [])) { flags = 1537 } ∷ []
 
@@ -138,7 +139,7 @@ runs_once = refl
 
 abbrev asking_method : Method
 asking_method = method_with 9 (codes "verify") (byte_array ∷ []) (Some byte_array) (body
-    (op 42 ∷ method 182 object (codes "hashCode") [] (Some int) ∷ op 87 ∷ method 184 (class_type (lang_name (codes "System"))) (codes "nanoTime") [] (Some long) ∷ op 88 ∷ op 42 ∷ op 176 ∷ []) [] [])
+    (op aload_0 ∷ method invokevirtual object (codes "hashCode") [] (Some int) ∷ op pop ∷ method invokestatic (class_type (lang_name (codes "System"))) (codes "nanoTime") [] (Some long) ∷ op pop2 ∷ op aload_0 ∷ op areturn ∷ []) [] [])
 
 abbrev asking : List Class
 asking = class_with a_class [] (asking_method ∷ []) ∷ []

@@ -30,6 +30,7 @@ use Rattle.dj_model.specs.SmallRuns.{op, jump, iinc, class, construct, method, a
 use Rattle.dj_model.proofs.SoundPrograms.{sound_test, sound_from, code_test}
 use Rattle.dj_model.proofs.SoundRuns.{metered_stands}
 use Rattle.dj_model.proofs.QuietLibraries.{quiet_all, to_asks, metered_asks_nothing}
+use Rattle.dj_ops.specs.Mnemonics.{nop, iconst_0, iload_1, aload_0, istore_1, pop, dup, ifne, goto, areturn, return, invokestatic, new}
 
 abbrev frame : ℕ → Form → Frame
 frame at form = record { at = at; form = form }
@@ -39,7 +40,7 @@ body instructions ranges frames = Runs (record { max_stack = 2; max_locals = 2; 
 
 -- new C, dup, invokespecial <init>, pop, iconst_0, istore_1, L: iload_1, ifne E, iinc 1 1, goto L, E: aload_0, areturn, H: pop, aload_0, areturn
 abbrev loop : List Instruction
-loop = class 187 (class_type (codes "C")) ∷ op 89 ∷ construct (class_type (codes "C")) [] ∷ op 87 ∷ op 3 ∷ op 60 ∷ op 27 ∷ jump 154 10 ∷ iinc 1 (pos 1) ∷ jump 167 6 ∷ op 42 ∷ op 176 ∷ op 87 ∷ op 42 ∷ op 176 ∷ []
+loop = class new (class_type (codes "C")) ∷ op dup ∷ construct (class_type (codes "C")) [] ∷ op pop ∷ op iconst_0 ∷ op istore_1 ∷ op iload_1 ∷ jump ifne 10 ∷ iinc 1 (pos 1) ∷ jump goto 6 ∷ op aload_0 ∷ op areturn ∷ op pop ∷ op aload_0 ∷ op areturn ∷ []
 
 abbrev loop_frames : List Frame
 loop_frames = frame 6 (forms.Append (types.Integer ∷ [])) ∷ frame 10 forms.Same ∷ frame 12 (forms.Full (types.Object 1 ∷ []) (types.Object 2 ∷ [])) ∷ []
@@ -57,7 +58,7 @@ abbrev c_of : List Field → List Method → Class
 c_of fields methods = class_with (codes "C") fields (plain_constructor ∷ methods)
 
 abbrev c_sound : Class
-c_sound = c_of (field_with 8 (codes "f") int (Some (Int (pos 1))) ∷ []) (method_with 8 (codes "<clinit>") [] None (body (op 177 ∷ []) [] []) ∷ [])
+c_sound = c_of (field_with 8 (codes "f") int (Some (Int (pos 1))) ∷ []) (method_with 8 (codes "<clinit>") [] None (body (op return ∷ []) [] []) ∷ [])
 
 abbrev i_of : Option Name → ℕ → Class
 i_of superclass flags = record (class_with (codes "I") [] []) { superclass = superclass; flags = flags }
@@ -121,11 +122,11 @@ other_native is =
     let no : None ≡ Some kinds.Int = ap result_of (is.bodies (method_with 9 (codes "n") [] None (Native natives.StringLength)) (0, omega arith, refl)) in absurd cc
 
 abbrev calling_class : Class
-calling_class = class_with (codes "C") [] (method_with 9 (codes "n") [] None (body (method 184 a_type (codes "none") [] None ∷ op 177 ∷ []) [] []) ∷ [])
+calling_class = class_with (codes "C") [] (method_with 9 (codes "n") [] None (body (method invokestatic a_type (codes "none") [] None ∷ op return ∷ []) [] []) ∷ [])
 
 other_call : IsSoundClass (files a_sound calling_class i_sound) [] calling_class → ⊥
 unfolding metered_program most_classes chain_of interfaces_from interfaces_above resolve_method is_linked instruction_of
-other_call is = let no = (is.bodies (method_with 9 (codes "n") [] None (body (method 184 a_type (codes "none") [] None ∷ op 177 ∷ []) [] [])) (0, omega arith, refl)).linked in absurd cc
+other_call is = let no = (is.bodies (method_with 9 (codes "n") [] None (body (method invokestatic a_type (codes "none") [] None ∷ op return ∷ []) [] [])) (0, omega arith, refl)).linked in absurd cc
 
 -- ---- well-formed programs
 
@@ -164,19 +165,19 @@ abbrev code : List Instruction → List Range → List Frame → Code
 code instructions ranges frames = record { max_stack = 2; max_locals = 2; instructions = instructions; ranges = ranges; frames = Some frames }
 
 abbrev two : List Instruction
-two = op 42 ∷ op 176 ∷ []
+two = op aload_0 ∷ op areturn ∷ []
 
 -- the last place is inside; a range may end after it
-codes_inside : map code_test (code two [] [] ∷ code (op 0 ∷ jump 167 1 ∷ []) [] [] ∷ code two (catch_all 1 2 1 ∷ []) [] ∷ code two [] (frame 1 forms.Same ∷ []) ∷ []) ≡ true ∷ true ∷ true ∷ true ∷ []
+codes_inside : map code_test (code two [] [] ∷ code (op nop ∷ jump goto 1 ∷ []) [] [] ∷ code two (catch_all 1 2 1 ∷ []) [] ∷ code two [] (frame 1 forms.Same ∷ []) ∷ []) ≡ true ∷ true ∷ true ∷ true ∷ []
 unfolding instruction_of simple
 codes_inside = refl
 
 no_code : IsCode (code [] [] []) → ⊥
 no_code is = let no = is.some in absurd (omega (arith, no))
 
-target_outside : IsCode (code (jump 167 1 ∷ []) [] []) → ⊥
+target_outside : IsCode (code (jump goto 1 ∷ []) [] []) → ⊥
 unfolding instruction_of
-target_outside is = let no = is.targets_within (jump 167 1) (0, omega arith, refl) in absurd cc
+target_outside is = let no = is.targets_within (jump goto 1) (0, omega arith, refl) in absurd cc
 
 handler_outside : IsCode (code two (catch_all 0 1 2 ∷ []) []) → ⊥
 handler_outside is = let no : 2 < 2 = is.handlers_within (catch_all 0 1 2) (0, omega arith, refl) in absurd (omega (arith, no))

@@ -47,8 +47,8 @@ use Rattle.dj_model.specs.Standing.{HasKinds, HasSoundEffect, IsStarved, AnswerK
 
 -- ---- names and code
 
--- what an instruction does, pays and uses where each class has another name, each method other code, and more classes come before the others, is what
--- it does, pays and uses, with the other names
+-- The other program has another name for each class, other code for each method, and more classes before the others. In it an instruction does, pays and uses
+-- the same, under the other names
 pub record IsMapped (f : Name → Name) (p q : Prefix) (program other : Program) : Type 0 where
   pub does : (terms : Terms) (own : Name) (i : Instruction) (x : Part)
       → effect other q terms (f own) (instruction_map f i) (part_map f x) ≡ option_map (effect_map f) (effect program p terms own i x)

@@ -24,6 +24,7 @@ use Rattle.dj_model.specs.trusted.State.{Uncounted, Accounted}
 use Rattle.dj_model.specs.trusted.Runs.{plain_run}
 use Rattle.dj_model.specs.Runs.{RunsTo}
 use Rattle.dj_names.specs.Types.{sandbox_prefix, in_sandbox}
+use Rattle.dj_ops.specs.Mnemonics.{aconst_null, iconst_m1, iconst_0, iconst_1, sipush, ldc, aload, iload_0, iload_1, iload_2, aload_0, aload_1, aload_3, baload, astore, istore_1, istore_2, astore_0, astore_1, astore_3, bastore, pop, dup, iadd, isub, ifeq, ifne, ifle, if_icmpge, goto, ireturn, areturn, return, getstatic, putstatic, invokevirtual, invokespecial, invokestatic, new, arraylength, athrow}
 
 -- ---- instructions
 
@@ -35,9 +36,9 @@ op n = instruction_of (instrs.Simple n) Nothing
 abbrev pub push : ℕ → ℤ → Instruction
 push n z = instruction_of (instrs.Push n z) Nothing
 
--- ldc of what is named
-abbrev pub ldc : Named → Instruction
-ldc named = instruction_of (instrs.Literal 18 7) named
+-- a constant that ldc pushes
+abbrev pub constant : Named → Instruction
+constant named = instruction_of (instrs.Literal ldc 7) named
 
 abbrev pub slot : ℕ → ℕ → Instruction
 slot n at = instruction_of (instrs.Local n at false) Nothing
@@ -67,12 +68,12 @@ field n ty name of = instruction_of (instrs.Member n 7) (AField (member_named ty
 abbrev pub method : ℕ → Ty → Name → List Ty → Option Ty → Instruction
 method n ty name params ret = instruction_of (instrs.Member n 7) (AMethod (member_named ty name (method_desc params ret)))
 
-abbrev pub invokeinterface : ℕ → Ty → Name → List Ty → Option Ty → Instruction
-invokeinterface count ty name params ret = instruction_of (instrs.Interface 7 count) (AnInterfaceMethod (member_named ty name (method_desc params ret)))
+abbrev pub interface_method : ℕ → Ty → Name → List Ty → Option Ty → Instruction
+interface_method count ty name params ret = instruction_of (instrs.Interface 7 count) (AnInterfaceMethod (member_named ty name (method_desc params ret)))
 
 -- invokespecial of a constructor
 abbrev pub construct : Ty → List Ty → Instruction
-construct ty params = method 183 ty (codes "<init>") params None
+construct ty params = method invokespecial ty (codes "<init>") params None
 
 -- ---- programs
 
@@ -106,7 +107,7 @@ initialiser_with instructions = method_with 8 (codes "<clinit>") [] None (code i
 
 -- aload_0, invokespecial Object <init>, return
 abbrev pub plain_constructor : Method
-plain_constructor = method_with 1 (codes "<init>") [] None (code (op 42 ∷ construct object [] ∷ op 177 ∷ []) [])
+plain_constructor = method_with 1 (codes "<init>") [] None (code (op aload_0 ∷ construct object [] ∷ op return ∷ []) [])
 
 abbrev pub class_with : Name → List Field → List Method → Class
 class_with name fields methods = record {
@@ -155,39 +156,39 @@ throws_plainly name = outcomes.Threw (lang_name name) messages.Null
 -- the sum of the input's bytes, in a loop
 abbrev pub sum_class : Class
 sum_class = a_with (verify_with
-    (op 3 ∷ op 60 ∷ op 3 ∷ op 61 ∷ op 28 ∷ op 42 ∷ op 190 ∷ jump 162 16 ∷ op 27 ∷ op 42 ∷ op 28 ∷ op 51 ∷ op 96 ∷ op 60 ∷ iinc 2 (pos 1) ∷ jump 167 4
-    ∷ op 4 ∷ newarray 8 ∷ op 89 ∷ op 3 ∷ op 27 ∷ op 84 ∷ op 176 ∷ []) [] ∷ [])
+    (op iconst_0 ∷ op istore_1 ∷ op iconst_0 ∷ op istore_2 ∷ op iload_2 ∷ op aload_0 ∷ op arraylength ∷ jump if_icmpge 16 ∷ op iload_1 ∷ op aload_0 ∷ op iload_2 ∷ op baload ∷ op iadd ∷ op istore_1 ∷ iinc 2 (pos 1) ∷ jump goto 4
+    ∷ op iconst_1 ∷ newarray 8 ∷ op dup ∷ op iconst_0 ∷ op iload_1 ∷ op bastore ∷ op areturn ∷ []) [] ∷ [])
 
 abbrev pub negative_class : Class
-negative_class = a_with (verify_with (op 2 ∷ newarray 8 ∷ op 176 ∷ []) [] ∷ [])
+negative_class = a_with (verify_with (op iconst_m1 ∷ newarray 8 ∷ op areturn ∷ []) [] ∷ [])
 
 -- a loop under a handler that catches everything, called from another
 abbrev pub stopped_class : Class
 stopped_class = a_with
-    (method_with 9 (codes "f") [] None (code (jump 167 0 ∷ op 75 ∷ op 42 ∷ op 191 ∷ []) (catch_all 0 2 1 ∷ []))
-    ∷ verify_with (method 184 a_type (codes "f") [] None ∷ op 42 ∷ op 176 ∷ op 76 ∷ op 43 ∷ op 191 ∷ []) (catch_all 0 4 3 ∷ []) ∷ [])
+    (method_with 9 (codes "f") [] None (code (jump goto 0 ∷ op astore_0 ∷ op aload_0 ∷ op athrow ∷ []) (catch_all 0 2 1 ∷ []))
+    ∷ verify_with (method invokestatic a_type (codes "f") [] None ∷ op aload_0 ∷ op areturn ∷ op astore_1 ∷ op aload_1 ∷ op athrow ∷ []) (catch_all 0 4 3 ∷ []) ∷ [])
 
 -- a handler before what it catches
 abbrev pub again_class : Class
-again_class = a_with (verify_with (op 1 ∷ op 87 ∷ op 1 ∷ op 190 ∷ op 87 ∷ op 42 ∷ op 176 ∷ []) (catch_all 2 4 1 ∷ []) ∷ [])
+again_class = a_with (verify_with (op aconst_null ∷ op pop ∷ op aconst_null ∷ op arraylength ∷ op pop ∷ op aload_0 ∷ op areturn ∷ []) (catch_all 2 4 1 ∷ []) ∷ [])
 
 -- the number of the third object
 abbrev pub hash_class : Class
 hash_class = a_with (verify_with
-    (class 187 object ∷ op 89 ∷ construct object [] ∷ op 87 ∷ class 187 object ∷ op 89 ∷ construct object [] ∷ method 182 object (codes "hashCode") [] (Some int) ∷ op 60
-    ∷ op 4 ∷ newarray 8 ∷ op 89 ∷ op 3 ∷ op 27 ∷ op 84 ∷ op 176 ∷ []) [] ∷ [])
+    (class new object ∷ op dup ∷ construct object [] ∷ op pop ∷ class new object ∷ op dup ∷ construct object [] ∷ method invokevirtual object (codes "hashCode") [] (Some int) ∷ op istore_1
+    ∷ op iconst_1 ∷ newarray 8 ∷ op dup ∷ op iconst_0 ∷ op iload_1 ∷ op bastore ∷ op areturn ∷ []) [] ∷ [])
 
 -- the length of a literal
 abbrev pub literal_class : Class
 literal_class = class_with (codes "a/B") [] (verify_with
-    (op 4 ∷ newarray 8 ∷ op 89 ∷ op 3 ∷ ldc (AText (codes "a/B")) ∷ method 182 string (codes "length") [] (Some int) ∷ op 84 ∷ op 176 ∷ []) [] ∷ [])
+    (op iconst_1 ∷ newarray 8 ∷ op dup ∷ op iconst_0 ∷ constant (AText (codes "a/B")) ∷ method invokevirtual string (codes "length") [] (Some int) ∷ op bastore ∷ op areturn ∷ []) [] ∷ [])
 
 -- an object of a class with an initialiser
 abbrev pub c_type : Ty
 c_type = class_type (codes "C")
 
 abbrev pub new_class : Class
-new_class = a_with (verify_with (class 187 c_type ∷ op 89 ∷ construct c_type [] ∷ op 87 ∷ op 42 ∷ op 176 ∷ []) [] ∷ [])
+new_class = a_with (verify_with (class new c_type ∷ op dup ∷ construct c_type [] ∷ op pop ∷ op aload_0 ∷ op areturn ∷ []) [] ∷ [])
 
 abbrev pub c_class : List Instruction → Class
 c_class initialiser = class_with (codes "C") [] (plain_constructor ∷ initialiser_with initialiser ∷ [])
@@ -196,12 +197,12 @@ c_class initialiser = class_with (codes "C") [] (plain_constructor ∷ initialis
 abbrev pub deep_class : ℤ → Class
 deep_class n = a_with
     (method_with 9 (codes "f") (int ∷ []) None
-    (code (op 26 ∷ jump 153 6 ∷ op 26 ∷ op 4 ∷ op 100 ∷ method 184 a_type (codes "f") (int ∷ []) None ∷ op 177 ∷ []) [])
-    ∷ verify_with (push 17 n ∷ method 184 a_type (codes "f") (int ∷ []) None ∷ op 42 ∷ op 176 ∷ []) [] ∷ [])
+    (code (op iload_0 ∷ jump ifeq 6 ∷ op iload_0 ∷ op iconst_1 ∷ op isub ∷ method invokestatic a_type (codes "f") (int ∷ []) None ∷ op return ∷ []) [])
+    ∷ verify_with (push sipush n ∷ method invokestatic a_type (codes "f") (int ∷ []) None ∷ op aload_0 ∷ op areturn ∷ []) [] ∷ [])
 
 -- a string's method on an array
 abbrev pub wrong_class : Class
-wrong_class = a_with (verify_with (op 42 ∷ method 182 string (codes "length") [] (Some int) ∷ op 87 ∷ op 42 ∷ op 176 ∷ []) [] ∷ [])
+wrong_class = a_with (verify_with (op aload_0 ∷ method invokevirtual string (codes "length") [] (Some int) ∷ op pop ∷ op aload_0 ∷ op areturn ∷ []) [] ∷ [])
 
 -- an interface, a class that implements it, and code with a finally, whose handler covers itself
 abbrev pub check_type : Ty
@@ -215,7 +216,7 @@ positive_type = class_type (codes "a/Positive")
 
 abbrev pub positive_class : Class
 positive_class = record (class_with (codes "a/Positive") [] (plain_constructor
-    ∷ method_with 1 (codes "ok") (int ∷ []) (Some boolean) (code (op 27 ∷ jump 158 4 ∷ op 4 ∷ jump 167 5 ∷ op 3 ∷ op 172 ∷ []) []) ∷ [])) { interfaces = codes "a/Check" ∷ [] }
+    ∷ method_with 1 (codes "ok") (int ∷ []) (Some boolean) (code (op iload_1 ∷ jump ifle 4 ∷ op iconst_1 ∷ jump goto 5 ∷ op iconst_0 ∷ op ireturn ∷ []) []) ∷ [])) { interfaces = codes "a/Check" ∷ [] }
 
 abbrev pub pay_type : Ty
 pay_type = class_type (codes "a/Pay")
@@ -225,13 +226,13 @@ illegal_type = class_type (lang_name (codes "IllegalArgumentException"))
 
 abbrev pub pay_class : Class
 pay_class = class_with (codes "a/Pay") (field_with 8 (codes "total") int None ∷ []) (verify_with
-    (class 187 positive_type ∷ op 89 ∷ construct positive_type [] ∷ op 76
-    ∷ op 42 ∷ op 3 ∷ op 51 ∷ op 61 ∷ op 43 ∷ op 28 ∷ invokeinterface 2 check_type (codes "ok") (int ∷ []) (Some boolean) ∷ jump 154 24
-    ∷ class 187 illegal_type ∷ op 89 ∷ class 187 builder ∷ op 89 ∷ construct builder [] ∷ ldc (AText (codes "bad amount "))
-    ∷ method 182 builder (codes "append") (string ∷ []) (Some builder) ∷ op 28 ∷ method 182 builder (codes "append") (int ∷ []) (Some builder)
-    ∷ method 182 builder (codes "toString") [] (Some string) ∷ construct illegal_type (string ∷ []) ∷ op 191
-    ∷ op 42 ∷ op 78 ∷ field 178 pay_type (codes "total") int ∷ op 4 ∷ op 96 ∷ field 179 pay_type (codes "total") int ∷ op 45 ∷ op 176
-    ∷ slot 58 4 ∷ field 178 pay_type (codes "total") int ∷ op 4 ∷ op 96 ∷ field 179 pay_type (codes "total") int ∷ slot 25 4 ∷ op 191 ∷ [])
+    (class new positive_type ∷ op dup ∷ construct positive_type [] ∷ op astore_1
+    ∷ op aload_0 ∷ op iconst_0 ∷ op baload ∷ op istore_2 ∷ op aload_1 ∷ op iload_2 ∷ interface_method 2 check_type (codes "ok") (int ∷ []) (Some boolean) ∷ jump ifne 24
+    ∷ class new illegal_type ∷ op dup ∷ class new builder ∷ op dup ∷ construct builder [] ∷ constant (AText (codes "bad amount "))
+    ∷ method invokevirtual builder (codes "append") (string ∷ []) (Some builder) ∷ op iload_2 ∷ method invokevirtual builder (codes "append") (int ∷ []) (Some builder)
+    ∷ method invokevirtual builder (codes "toString") [] (Some string) ∷ construct illegal_type (string ∷ []) ∷ op athrow
+    ∷ op aload_0 ∷ op astore_3 ∷ field getstatic pay_type (codes "total") int ∷ op iconst_1 ∷ op iadd ∷ field putstatic pay_type (codes "total") int ∷ op aload_3 ∷ op areturn
+    ∷ slot astore 4 ∷ field getstatic pay_type (codes "total") int ∷ op iconst_1 ∷ op iadd ∷ field putstatic pay_type (codes "total") int ∷ slot aload 4 ∷ op athrow ∷ [])
     (catch_all 4 26 32 ∷ catch_all 32 33 32 ∷ []) ∷ [])
 
 pub record WorkedMetered : Type 0 where
@@ -242,8 +243,8 @@ pub record WorkedMetered : Type 0 where
   pub hash : Meters (hash_class ∷ []) [] usual (outcomes.OkBytes (3 ∷ [])) (costs 56 3 0 0)
   pub literal : RunsTo (metered_program (literal_class ∷ [])) (verify_of (codes "a/B")) [] usual (outcomes.OkBytes (3 ∷ [])) (costs 24 1 0 0)
   -- with an initialiser that returns, and with one that throws null
-  pub initialised : Meters (new_class ∷ c_class (op 177 ∷ []) ∷ []) (1 ∷ []) usual (outcomes.OkBytes (1 ∷ [])) (costs 16 2 0 0)
-  pub failed : Meters (new_class ∷ c_class (op 1 ∷ op 191 ∷ []) ∷ []) (1 ∷ []) usual
+  pub initialised : Meters (new_class ∷ c_class (op return ∷ []) ∷ []) (1 ∷ []) usual (outcomes.OkBytes (1 ∷ [])) (costs 16 2 0 0)
+  pub failed : Meters (new_class ∷ c_class (op aconst_null ∷ op athrow ∷ []) ∷ []) (1 ∷ []) usual
       (outcomes.Init (codes "C") (lang_name (codes "NullPointerException")) messages.Null) (costs 16 0 0 1)
   pub deep : Meters (deep_class (pos 3) ∷ []) (1 ∷ []) usual (outcomes.OkBytes (1 ∷ [])) (costs 0 4 4 0)
   pub deepest : Meters (deep_class (pos 1022) ∷ []) (1 ∷ []) usual (outcomes.OkBytes (1 ∷ [])) (costs 0 1023 1023 0)
@@ -262,16 +263,16 @@ Raws classes input answers most outcome steps taken =
 
 -- a large array, and a loop
 abbrev pub large_class : Class
-large_class = a_with (verify_with (ldc (AnInt (pos 67108864)) ∷ newarray 8 ∷ op 176 ∷ []) [] ∷ [])
+large_class = a_with (verify_with (constant (AnInt (pos 67108864)) ∷ newarray 8 ∷ op areturn ∷ []) [] ∷ [])
 
 abbrev pub loop_class : Class
-loop_class = a_with (verify_with (jump 167 0 ∷ []) [] ∷ [])
+loop_class = a_with (verify_with (jump goto 0 ∷ []) [] ∷ [])
 
 -- rewritten code: two jumps are recorded
 abbrev pub recording_class : Class
 recording_class = record (class_with (in_sandbox a_class) [] (verify_with
-    (method 184 (class_type (codes "djvm/Accounter")) (codes "recordJump") [] None ∷ method 184 (class_type (codes "djvm/Accounter")) (codes "recordJump") [] None
-    ∷ op 42 ∷ op 176 ∷ []) [] ∷ [])) { superclass = Some (codes "sandbox/java/lang/Object") }
+    (method invokestatic (class_type (codes "djvm/Accounter")) (codes "recordJump") [] None ∷ method invokestatic (class_type (codes "djvm/Accounter")) (codes "recordJump") [] None
+    ∷ op aload_0 ∷ op areturn ∷ []) [] ∷ [])) { superclass = Some (codes "sandbox/java/lang/Object") }
 
 abbrev pub Records : ℕ → Outcome → ℕ → ℕ → Type 0
 Records most outcome jumps steps =

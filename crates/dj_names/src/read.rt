@@ -148,7 +148,7 @@ fn after_close(bytes: &[u8]) -> Option<&[u8]>
     }
 }
 
-/// The type at the front, and the bytes after it.
+/// The type that the bytes begin with, and the bytes after it.
 fn type_of(alloc: Global, bytes: &[u8]) -> Result<(Ty, &[u8]), DescError>
     ensures { GivesRead is_memory (λ x. (x.0, x.1.now)) result (type_read bytes.now) }
 {

@@ -1,7 +1,7 @@
 ghost use Rattle.std.specs.Prelude.{◌≡◌, ◌≤◌, ◌<◌, ℕ, List, length, option_map, IsTrue, IfSome};
 ghost use Rattle.dj_names.specs.trusted.UnitReading.{unit_read, long_read, two_read, three_read, is_tail};
 
-/// The unit at the front, and the bytes after its spelling.
+/// The first unit, and the bytes after its spelling.
 #[inline]
 #[tactic(auto, unfolding(crate::specs::trusted::UnitReading::unit_read))]
 pub fn unit_at(bytes: &[u8]) -> Option<(u16, &[u8])>

@@ -136,7 +136,7 @@ fn slots_at(dims: u8, element: ElementView<'_>) -> u16
     }
 }
 
-/// The type at the front, and the bytes after it.
+/// The type that the bytes begin with, and the bytes after it.
 #[tactic(auto, unfolding(crate::specs::trusted::DescReading::type_read))]
 pub fn type_at(bytes: &[u8]) -> Option<(u8, ElementView<'_>, &[u8])>
     ensures { option_map (λ x. (record { dims = x.0; of = element_of x.1 }, x.2.now)) result ≡ type_read bytes.now }
@@ -150,7 +150,7 @@ pub fn type_at(bytes: &[u8]) -> Option<(u8, ElementView<'_>, &[u8])>
     }
 }
 
-/// The brackets at the front, and the bytes after them.
+/// How many brackets the bytes begin with, and the bytes after them.
 #[tactic(auto, unfolding(crate::specs::trusted::DescReading::dims_read))]
 fn dims_at(bytes: &[u8]) -> Option<(u8, &[u8])>
     ensures { option_map (λ x. (x.0, x.1.now)) result ≡ dims_read 0 bytes.now }

@@ -23,7 +23,7 @@ use Rattle.dj_ops.proofs.Refused.{Refused, form_fails, form_refuses}
 
 -- ---- what is read
 
--- these bytes at the front are the instruction
+-- these bytes at the beginning are the instruction
 record Prefix (c : Cursor) (x : Instr × Cursor) : Type 0 where
   pub text : List ℕ
   pub some : 0 < length text

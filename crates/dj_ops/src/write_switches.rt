@@ -17,7 +17,7 @@ pub fn offset_of(at: u32, target: i64) -> i32
     (target - i64::from(at)) as i32
 }
 
-/// tableswitch.
+/// Writes a tableswitch.
 pub fn write_table(
     default: i64,
     low: i32,
@@ -40,7 +40,7 @@ pub fn write_table(
     put(&bytes, out)
 }
 
-/// lookupswitch.
+/// Writes a lookupswitch.
 pub fn write_lookup(
     default: i64,
     pairs: &[(i32, i64)],

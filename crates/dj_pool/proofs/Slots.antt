@@ -14,7 +14,7 @@ use Rattle.dj_pool.proofs.ConstantLaws.{constant_reads}
 
 -- ---- what may stand at the indexes
 
--- whole constants, a hole after each that takes two indexes, and, where one stands before them, a hole at their front
+-- whole constants, with a hole after each one that takes two indexes; after such a constant the list begins with its hole
 abbrev pub AreSlots : List Constant → Bool → Type 0
 AreSlots [] wide = ⊤
 AreSlots (k ∷ ks) true = (k ≡ Hole) × AreSlots ks false
@@ -57,7 +57,7 @@ slots_read d n wide index = record { takes = slots_take d n wide index; again = 
 
 -- ---- constants at their indexes
 
--- the indexes that a hole takes at the front
+-- the indexes that a hole takes at the beginning
 abbrev pub skip : Bool → ℕ
 skip true = 1
 skip false = 0

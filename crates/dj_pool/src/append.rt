@@ -18,7 +18,7 @@ pub enum AppendError {
     #[error("the pool is full")]
     Full,
     /// There was no memory.
-    #[error("there was no memory")]
+    #[error("out of memory")]
     Memory,
 }
 

@@ -61,7 +61,7 @@ pub enum PoolError {
     #[error("text {0} is not modified UTF-8")]
     Text(u16),
     /// There was no memory.
-    #[error("there was no memory")]
+    #[error("out of memory")]
     Memory,
 }
 

@@ -9,6 +9,7 @@ use Rattle.dj_names.specs.trusted.Tests.{units_read}
 use Rattle.dj_names.specs.trusted.Types.{class_type, base_type, base_array}
 use Rattle.dj_names.specs.trusted.UnitReading.{unit_read, long_read, two_read}
 use Rattle.dj_ops.specs.declared.instruction.Instr.TheVariants as instrs
+use Rattle.dj_ops.specs.Mnemonics.{nop, ldc, goto, return, getfield, invokevirtual}
 use Rattle.dj_pool.specs.trusted.Pool.{Constant, Utf8, Integer, Float, Long, Hole, Class, Text, Field, Method, InterfaceMethod, NameAndType, Dynamic}
 use Rattle.dj_class.specs.trusted.ClassFile.{MemberInfo}
 use Rattle.dj_model.specs.trusted.Types.{Member}
@@ -61,13 +62,13 @@ named_others = refl
 
 -- ---- instructions
 
-instructions : map (instruction_in pool) (instrs.Simple 0 ∷ instrs.Literal 18 6 ∷ instrs.Member 180 5 ∷ instrs.Member 182 15 ∷ instrs.Branch 167 (pos 3) ∷ [])
+instructions : map (instruction_in pool) (instrs.Simple nop ∷ instrs.Literal ldc 6 ∷ instrs.Member getfield 5 ∷ instrs.Member invokevirtual 15 ∷ instrs.Branch goto (pos 3) ∷ [])
     ≡ Nop ∷ Push (values.Int (pos 7)) ∷ GetField field_a ∷ Invoke Virtual method_a ∷ Goto 3 ∷ []
 unfolding pool field_a method_a named_by desc_in type_in dims_read name_read class_read of_read type_read params_read field_read return_read method_read desc_read reads_class_name instruction_of simple
 instructions = refl
 
 -- a float, and a field where a method is asked for
-other_instructions : map (instruction_in pool) (instrs.Literal 18 11 ∷ instrs.Member 182 5 ∷ []) ≡ Other 18 Another ∷ Other 182 (AField field_a) ∷ []
+other_instructions : map (instruction_in pool) (instrs.Literal ldc 11 ∷ instrs.Member invokevirtual 5 ∷ []) ≡ Other 18 Another ∷ Other 182 (AField field_a) ∷ []
 unfolding pool field_a named_by desc_in type_in dims_read name_read class_read of_read type_read params_read field_read return_read method_read desc_read reads_class_name instruction_of
 other_instructions = refl
 
@@ -83,7 +84,7 @@ abbrev parts : CodeParts
 parts = record {
   max_stack = 4;
   max_locals = 3;
-  labelled = record { code = instrs.Simple 0 ∷ instrs.Simple 0 ∷ instrs.Simple 177 ∷ []; ranges = record { start = 0; end = 2; handler = 1; catch_type = 2 } ∷ [] };
+  labelled = record { code = instrs.Simple nop ∷ instrs.Simple nop ∷ instrs.Simple return ∷ []; ranges = record { start = 0; end = 2; handler = 1; catch_type = 2 } ∷ [] };
   frames = Some [];
 }
 

@@ -1,4 +1,4 @@
--- Lists that are strictly sorted by a total order that tells different keys apart.
+-- Lists that are strictly sorted by a total order in which different keys are never equal.
 use Rattle.std.proofs.Common.{◌≡◌, ℕ, suc, zero, ◌<◌, false, List, [], ◌∷◌, ◌++◌, refl, ap, ◌∙◌, sym, subst, arith, length, get_or, Ordering, Contains, ◌↔◌, inl, inr}
 use Rattle.std.specs.Prelude.{◌⊎◌}
 use Rattle.std.specs.declared.cmp.Ordering.TheVariants.{Less, Equal, Greater}

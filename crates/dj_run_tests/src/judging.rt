@@ -1,9 +1,9 @@
 ghost use Rattle.std.specs.Prelude.{◌<◌, ◌^◌, ◌↔◌, length, All, IsTrue};
 
-use crate::files::{A, BREAKS, FileText, NATIVE, PathText, UNDER_ITSELF, build, lend};
 use dj_judge::rules;
 use dj_report::{PathFile, Violation};
 use dj_rules::RulesError;
+use dj_test_files::{A, BREAKS, FileText, NATIVE, PathText, UNDER_ITSELF, build, lend};
 use std::alloc::Global;
 
 /// A path, a member, a number and a rule.

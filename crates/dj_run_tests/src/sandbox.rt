@@ -3,7 +3,6 @@ ghost use Rattle.dj_straight.specs.Methods.{program_view};
 ghost use Rattle.dj_sandbox.specs.trusted.Limits.{most_file_bytes};
 ghost use Rattle.dj_sandbox.specs.Shaped.{AreShort};
 
-use crate::files::{A, class_file};
 use crate::judging::{ViolationRow, is_row};
 use dj_names::{Costs, Kind, Name, Outcome, Thresholds};
 use dj_report::{PathFile, Report, Violation};
@@ -11,6 +10,7 @@ use dj_sandbox::{
     ClassSet, SandboxError, check, entry_name, entry_of, has_entry, run_violations, verify,
 };
 use dj_straight::{Action, StraightClass, StraightMethod};
+use dj_test_files::{A, class_file};
 use std::alloc::{AllocError, Global};
 
 // The set of one file.

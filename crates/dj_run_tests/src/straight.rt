@@ -1,4 +1,3 @@
-use crate::files::{A, class_file};
 use dj_names::{Kind, Name, Outcome, Thresholds, Value};
 use dj_report::PathFile;
 use dj_rules::judge_files;
@@ -6,6 +5,7 @@ use dj_straight::{
     Action, IntOperation, StraightEnding, StraightMethod, StraightSet, read_instrs, run_method,
     shape_fault, straight_set,
 };
+use dj_test_files::{A, class_file};
 use std::alloc::{AllocError, Global};
 
 // Opcodes (JVMS 6.5).

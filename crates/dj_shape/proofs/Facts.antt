@@ -9,6 +9,7 @@ use Rattle.dj_names.specs.trusted.NameReading.{reads_class_name}
 use Rattle.dj_ops.specs.declared.frames.Form.TheVariants as forms
 use Rattle.dj_ops.specs.declared.instruction.Instr.{Instr}
 use Rattle.dj_ops.specs.declared.instruction.Instr.TheVariants as instrs
+use Rattle.dj_ops.specs.Mnemonics.{nop, lconst_0, ldc, ldc_w, ldc2_w, dup2, getstatic, putstatic, getfield, putfield, invokevirtual, invokestatic, new, anewarray, checkcast, instanceof}
 use Rattle.dj_pool.specs.trusted.Pool.{Constant, Utf8, Integer, Float, Long as LongConstant, Double, Class, Text, Field, Method, InterfaceMethod, NameAndType, Hole}
 use Rattle.dj_model.specs.trusted.Kinds.{Signature, Kinds, Entries, Placed, Map, Read, form_entries, frames_after}
 use Rattle.dj_model.specs.trusted.Opcodes.{instruction_of, simple}
@@ -36,7 +37,7 @@ abbrev left : List Constant → ℕ → List Kind → Instr → Option (List Kin
 left pool most stack instr = on_stack (after none (room_for most) (instruction_in pool instr) (record { locals = Some Int ∷ Some Long ∷ None ∷ Some Ref ∷ []; stack = stack }))
 
 -- a long takes two of max_stack
-room : left [] 1 [] (instrs.Simple 9) ∷ left [] 2 [] (instrs.Simple 9) ∷ left [] 3 (Long ∷ []) (instrs.Simple 92) ∷ left [] 4 (Long ∷ []) (instrs.Simple 92) ∷ left [] 0 [] (instrs.Simple 0) ∷ []
+room : left [] 1 [] (instrs.Simple lconst_0) ∷ left [] 2 [] (instrs.Simple lconst_0) ∷ left [] 3 (Long ∷ []) (instrs.Simple dup2) ∷ left [] 4 (Long ∷ []) (instrs.Simple dup2) ∷ left [] 0 [] (instrs.Simple nop) ∷ []
     ≡ None ∷ Some (Long ∷ []) ∷ None ∷ Some (Long ∷ Long ∷ []) ∷ Some [] ∷ []
 unfolding after instruction_of simple moved
 room = refl
@@ -76,11 +77,11 @@ kept_calls = refl
 abbrev of_pool : List Kind → Instr → Option (List Kind)
 of_pool stack instr = left pool 7 stack instr
 
-constants_and_members : of_pool [] (instrs.Literal 18 11) ∷ of_pool [] (instrs.Literal 18 12) ∷ of_pool [] (instrs.Literal 20 12) ∷ of_pool [] (instrs.Literal 19 14) ∷ of_pool [] (instrs.Literal 18 2)
-    ∷ of_pool [] (instrs.Member 178 8) ∷ of_pool (Long ∷ Int ∷ []) (instrs.Member 179 8) ∷ of_pool (Ref ∷ []) (instrs.Member 180 8) ∷ of_pool (Long ∷ Ref ∷ []) (instrs.Member 181 8) ∷ of_pool (Ref ∷ Long ∷ []) (instrs.Member 181 8)
-    ∷ of_pool (Long ∷ Int ∷ Ref ∷ Int ∷ []) (instrs.Member 182 9) ∷ of_pool (Int ∷ Long ∷ Ref ∷ []) (instrs.Member 182 9) ∷ of_pool (Long ∷ Int ∷ Ref ∷ []) (instrs.Member 184 9) ∷ of_pool (Long ∷ Int ∷ Ref ∷ []) (instrs.Member 182 10)
+constants_and_members : of_pool [] (instrs.Literal ldc 11) ∷ of_pool [] (instrs.Literal ldc 12) ∷ of_pool [] (instrs.Literal ldc2_w 12) ∷ of_pool [] (instrs.Literal ldc_w 14) ∷ of_pool [] (instrs.Literal ldc 2)
+    ∷ of_pool [] (instrs.Member getstatic 8) ∷ of_pool (Long ∷ Int ∷ []) (instrs.Member putstatic 8) ∷ of_pool (Ref ∷ []) (instrs.Member getfield 8) ∷ of_pool (Long ∷ Ref ∷ []) (instrs.Member putfield 8) ∷ of_pool (Ref ∷ Long ∷ []) (instrs.Member putfield 8)
+    ∷ of_pool (Long ∷ Int ∷ Ref ∷ Int ∷ []) (instrs.Member invokevirtual 9) ∷ of_pool (Int ∷ Long ∷ Ref ∷ []) (instrs.Member invokevirtual 9) ∷ of_pool (Long ∷ Int ∷ Ref ∷ []) (instrs.Member invokestatic 9) ∷ of_pool (Long ∷ Int ∷ Ref ∷ []) (instrs.Member invokevirtual 10)
     ∷ of_pool (Long ∷ Int ∷ Ref ∷ []) (instrs.Interface 10 4) ∷ of_pool (Long ∷ Int ∷ Ref ∷ []) (instrs.Interface 10 3) ∷ of_pool (Long ∷ Int ∷ Ref ∷ []) (instrs.Interface 9 4)
-    ∷ of_pool [] (instrs.Class 187 2) ∷ of_pool (Int ∷ []) (instrs.Class 189 2) ∷ of_pool (Ref ∷ []) (instrs.Class 192 2) ∷ of_pool (Ref ∷ []) (instrs.Class 193 2) ∷ of_pool (Int ∷ []) (instrs.Class 193 2) ∷ []
+    ∷ of_pool [] (instrs.Class new 2) ∷ of_pool (Int ∷ []) (instrs.Class anewarray 2) ∷ of_pool (Ref ∷ []) (instrs.Class checkcast 2) ∷ of_pool (Ref ∷ []) (instrs.Class instanceof 2) ∷ of_pool (Int ∷ []) (instrs.Class instanceof 2) ∷ []
     ≡ Some (Int ∷ []) ∷ None ∷ Some (Long ∷ []) ∷ Some (Ref ∷ []) ∷ None
     ∷ Some (Long ∷ []) ∷ Some (Int ∷ []) ∷ Some (Long ∷ []) ∷ Some [] ∷ None
     ∷ Some (Int ∷ []) ∷ None ∷ Some (Ref ∷ []) ∷ None

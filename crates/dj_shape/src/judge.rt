@@ -23,7 +23,7 @@ use dj_ops::Frames;
 use dj_program::MethodCode;
 use std::alloc::Global;
 
-/// Code without shape.
+/// Where code fails to have shape.
 #[derive(Clone, Copy, Debug, PartialEq, Eq)]
 pub struct ShapeFault {
     /// The number of the instruction at which it fails; none where the attribute is no stack map.
@@ -118,12 +118,9 @@ fn fault_with_frames(
 fn fault_reported(fault: Option<u32>) -> Option<ShapeFault>
     ensures { result ≡ fault_reported fault }
 {
-    match fault {
-        None => None,
-        Some(number) => Some(ShapeFault {
-            number: Some(number),
-        }),
-    }
+    Some(ShapeFault {
+        number: Some(fault?),
+    })
 }
 
 /// The first fault of code in shape, if it has one. `desc` is the index of the method's descriptor, which has no float and no double.

@@ -75,10 +75,7 @@ pub fn depth_within(stack: &[Kind], most: u32) -> Option<u32>
 pub fn local_at(locals: &[Option<Kind>], slot: usize) -> Option<Kind>
     ensures { result ≡ local_at locals.now slot }
 {
-    match locals.get(slot) {
-        None => None,
-        Some(kind) => *kind,
-    }
+    *locals.get(slot)?
 }
 
 // Whether there is a kind, and it takes two slots.

@@ -104,7 +104,7 @@ no_line_said [] more said = said
 no_line_said (x ∷ items) more said = said
 
 -- the last of what says a line is its end
-pub last_said : (items : List Item) (us : List Placed) → Said (items ++ Ended ∷ []) us → (front : List Placed) × (e : Placed) × (us ≡ front ++ e ∷ []) × (e.token ≡ LineEnd)
+pub last_said : (items : List Item) (us : List Placed) → Said (items ++ Ended ∷ []) us → (first : List Placed) × (e : Placed) × (us ≡ first ++ e ∷ []) × (e.token ≡ LineEnd)
 last_said [] [] said = absurd said
 last_said [] (u ∷ []) said = ([], u, refl, said.0)
 last_said [] (u ∷ v ∷ us) said = absurd said.1

@@ -6,7 +6,7 @@ use Rattle.std.proofs.lemmas.Bool.{cases_Bool, false≢true, false_from_ne_true}
 use Rattle.std.proofs.lemmas.List.Sums.{sum_by-cons}
 use Rattle.dj_names.specs.trusted.Types.{same_name}
 use Rattle.dj_source.specs.declared.syntax.Line as the_line
-use Rattle.dj_source.specs.declared.label_table.Mark as the_mark
+use Rattle.dj_source.specs.declared.label_table.LabelPlace as the_place
 use Rattle.dj_source.specs.trusted.Lines.{Label, Labelled, Line, Beside}
 use Rattle.dj_source.specs.trusted.Labels.{is_instruction, instruction_count, marks, label_number}
 use Rattle.dj_source.specs.LineViews.{line_view}
@@ -94,7 +94,7 @@ by_rows : (table : Marks) (body : List Line) (label : Label) → ((l : Label) �
     → number_in (instruction_count body) (row_of table label) ≡ label_number body label
 by_rows table body label alike = ap (number_in (instruction_count body)) (alike label) ∙ by_row body label
 
-pub number_of_mark : (table : Marks) (lines : List the_line.Line) (label : Label) (mark : the_mark.Mark) → ((l : Label) → row_of table l ≡ row_of (marks_of (map line_view lines)) l)
+pub number_of_mark : (table : Marks) (lines : List the_line.Line) (label : Label) (mark : the_place.LabelPlace) → ((l : Label) → row_of table l ≡ row_of (marks_of (map line_view lines)) l)
     → Some (mark_view mark) ≡ row_of table label → mark.number ≡ label_number (map line_view lines) label
 number_of_mark table lines label mark alike e =
     ap (number_in (instruction_count (map line_view lines))) e ∙ by_rows table (map line_view lines) label alike

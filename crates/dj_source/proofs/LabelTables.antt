@@ -17,7 +17,7 @@ use Rattle.std.proofs.lemmas.Slice.Eq.{bytes_eq-Decides}
 use Rattle.std.proofs.lemmas.Option.{slice_get_read, slice_get-get_or, get_or_from_slice_get}
 use Rattle.dj_bytes.proofs.Options.{some_is}
 use Rattle.dj_source.specs.declared.syntax.Line as the_line
-use Rattle.dj_source.specs.declared.label_table.Mark as the_mark
+use Rattle.dj_source.specs.declared.label_table.LabelPlace as the_place
 use Rattle.dj_source.specs.trusted.Lines.{Label, Line}
 use Rattle.dj_source.specs.trusted.Labels.{is_instruction}
 use Rattle.dj_source.specs.LineViews.{line_view}
@@ -32,7 +32,7 @@ use denote.Param.Members.{Mut}
 abbrev lines_view : List the_line.Line → List Line
 lines_view lines = map line_view lines
 
-abbrev at : ℕ → ℕ → the_mark.Mark
+abbrev at : ℕ → ℕ → the_place.LabelPlace
 at place number = record { place = place; number = number }
 
 abbrev label_or_none : Option the_line.Line → Label
@@ -44,7 +44,7 @@ rows_after : (lines : List the_line.Line) (place number : ℕ) (label : Option L
 rows_after lines place number None more e f = refl
 rows_after lines place number (Some label) more e f = ap (λ l. (l, record { place = place; number = number }) ∷ more) (sym f)
 
-pub marked_more : (lines : List the_line.Line) (old new : List the_mark.Mark) (place number : ℕ) (line : the_line.Line) → place < length lines → line ≡ get_or lines place line
+pub marked_more : (lines : List the_line.Line) (old new : List the_place.LabelPlace) (place number : ℕ) (line : the_line.Line) → place < length lines → line ≡ get_or lines place line
     → new ≡ old ++ marked (defined_by (line_view line)) (at place number)
     → map (mark_row lines) new ++ marks_from (place + 1) (number_after (line_view line) number) (map line_view (drop (place + 1) lines))
     ≡ map (mark_row lines) old ++ marks_from place number (map line_view (drop place lines))
@@ -72,7 +72,7 @@ number_more line number place most = by (is_instruction (line_view line)) where
   by true = omega (arith, most)
   by false = omega (arith, most)
 
-pub marked_all : (lines : List the_line.Line) (marks : List the_mark.Mark) (place number : ℕ) → length lines ≤ place
+pub marked_all : (lines : List the_line.Line) (marks : List the_place.LabelPlace) (place number : ℕ) → length lines ≤ place
     → map (mark_row lines) marks ++ marks_from place number (map line_view (drop place lines)) ≡ map (mark_row lines) marks
 unfolding marks_from
 marked_all lines marks place number past =
@@ -87,8 +87,8 @@ label_order : (lines : List the_line.Line) → IsStrictWeakOrder (is_label_befor
 label_order lines = ranks_by nat_list_cmp_total (label_of_mark lines)
 
 -- what a sort asks of the closure that compares two marks
-pub compares_labels : (lines : List the_line.Line) {F : Type 0} {g : Mut F (Bor the_mark.Mark × (Bor the_mark.Mark × Unit {0})) Ordering} {f : F}
-    → ((a : Bor the_mark.Mark × (Bor the_mark.Mark × Unit {0})) (r : Ordering) (f' : F) → Called g f a r f'
+pub compares_labels : (lines : List the_line.Line) {F : Type 0} {g : Mut F (Bor the_place.LabelPlace × (Bor the_place.LabelPlace × Unit {0})) Ordering} {f : F}
+    → ((a : Bor the_place.LabelPlace × (Bor the_place.LabelPlace × Unit {0})) (r : Ordering) (f' : F) → Called g f a r f'
     → (r ≡ slice_cmp nat_cmp (label_of_mark lines a.0.now) (label_of_mark lines a.1.0.now)) × (f' ≡ f))
     → IsStrictWeakOrder (is_label_before lines) × ComparesAs g (is_label_before lines) f
 compares_labels lines {g = g} {f = f} h = (
@@ -107,18 +107,18 @@ equal_itself a = tied_itself nat_list_cmp_total a
 
 module _ (lines : List the_line.Line) (label : Label) where
   -- the row of the first of the marks
-  first_mark : List the_mark.Mark → Option LabelMark
+  first_mark : List the_place.LabelPlace → Option LabelMark
   first_mark [] = None
   first_mark (mark ∷ marks) = Some (mark_view mark)
 
-  module _ (x : the_mark.Mark) (is : label_of_mark lines x ≡ label) where
-    tied : (m : the_mark.Mark) → label_of_mark lines m ≡ label → ties (is_label_before lines) x m ≡ true
+  module _ (x : the_place.LabelPlace) (is : label_of_mark lines x ≡ label) where
+    tied : (m : the_place.LabelPlace) → label_of_mark lines m ≡ label → ties (is_label_before lines) x m ≡ true
     tied m e =
         let same : label_of_mark lines m ≡ label_of_mark lines x = e ∙ sym is in
         ap (λ k. not (is_lt (cmp (label_of_mark lines x) k)) && not (is_lt (cmp k (label_of_mark lines x)))) same
         ∙ ap (λ r. not (is_lt r) && not (is_lt r)) (equal_itself (label_of_mark lines x))
 
-    not_tied : (m : the_mark.Mark) → (label_of_mark lines m ≡ label → ⊥) → ties (is_label_before lines) x m ≡ false
+    not_tied : (m : the_place.LabelPlace) → (label_of_mark lines m ≡ label → ⊥) → ties (is_label_before lines) x m ≡ false
     not_tied m n = by (cmp (label_of_mark lines x) (label_of_mark lines m)) refl where
       by : (r : Ordering) → cmp (label_of_mark lines x) (label_of_mark lines m) ≡ r → not (is_lt (cmp (label_of_mark lines x) (label_of_mark lines m))) && not (is_lt (cmp (label_of_mark lines m) (label_of_mark lines x))) ≡ false
       by Less e = ap (λ r. not (is_lt r) && not (is_lt (cmp (label_of_mark lines m) (label_of_mark lines x)))) e
@@ -127,14 +127,14 @@ module _ (lines : List the_line.Line) (label : Label) where
           ap (λ r. not (is_lt r) && not (is_lt (cmp (label_of_mark lines m) (label_of_mark lines x)))) e
           ∙ ap (λ r. not (is_lt r)) (less_back (label_of_mark lines x) (label_of_mark lines m) e)
 
-    tie_is : (m : the_mark.Mark) → ties (is_label_before lines) x m ≡ bytes_eq (label_of_mark lines m) label
+    tie_is : (m : the_place.LabelPlace) → ties (is_label_before lines) x m ≡ bytes_eq (label_of_mark lines m) label
     tie_is m =
         elim (cases_Bool (bytes_eq (label_of_mark lines m) label)) [
           | inl t ↦ tied m ((bytes_eq-Decides (label_of_mark lines m) label).0 t) ∙ sym t
           | inr t ↦ not_tied m (λ e. true≢false (sym ((bytes_eq-Decides (label_of_mark lines m) label).1 e) ∙ t)) ∙ sym t
         ]
 
-    first_of_ties : (marks : List the_mark.Mark) → row_of (map (mark_row lines) marks) label ≡ first_mark (filter (ties (is_label_before lines) x) marks)
+    first_of_ties : (marks : List the_place.LabelPlace) → row_of (map (mark_row lines) marks) label ≡ first_mark (filter (ties (is_label_before lines) x) marks)
     unfolding first_mark
     first_of_ties [] = refl
     first_of_ties (m ∷ marks) =
@@ -145,10 +145,10 @@ module _ (lines : List the_line.Line) (label : Label) where
           by true e = refl
           by false e = e
 
-    same_at : (old new : List the_mark.Mark) → IsStableBy (is_label_before lines) old new → row_of (map (mark_row lines) new) label ≡ row_of (map (mark_row lines) old) label
+    same_at : (old new : List the_place.LabelPlace) → IsStableBy (is_label_before lines) old new → row_of (map (mark_row lines) new) label ≡ row_of (map (mark_row lines) old) label
     same_at old new stable = first_of_ties new ∙ (ap first_mark (stable x) ∙ sym (first_of_ties old))
 
-  with_label : (marks : List the_mark.Mark) (found : LabelMark) → row_of (map (mark_row lines) marks) label ≡ Some found → (x : the_mark.Mark) × (label_of_mark lines x ≡ label)
+  with_label : (marks : List the_place.LabelPlace) (found : LabelMark) → row_of (map (mark_row lines) marks) label ≡ Some found → (x : the_place.LabelPlace) × (label_of_mark lines x ≡ label)
   with_label [] found e = absurd cc
   with_label (m ∷ marks) found e =
       elim (cases_Bool (bytes_eq (label_of_mark lines m) label)) [
@@ -156,7 +156,7 @@ module _ (lines : List the_line.Line) (label : Label) where
         | inr t ↦ with_label marks found (sym (ap (λ b. cond b (Some (mark_view m)) (row_of (map (mark_row lines) marks) label)) t) ∙ e)
       ]
 
-  stable_at : (old new : List the_mark.Mark) → IsStableBy (is_label_before lines) old new → row_of (map (mark_row lines) new) label ≡ row_of (map (mark_row lines) old) label
+  stable_at : (old new : List the_place.LabelPlace) → IsStableBy (is_label_before lines) old new → row_of (map (mark_row lines) new) label ≡ row_of (map (mark_row lines) old) label
   stable_at old new stable = by (row_of (map (mark_row lines) old) label) (row_of (map (mark_row lines) new) label) refl refl where
     by : (o p : Option LabelMark) → row_of (map (mark_row lines) old) label ≡ o → row_of (map (mark_row lines) new) label ≡ p → row_of (map (mark_row lines) new) label ≡ row_of (map (mark_row lines) old) label
     by None None e f = f ∙ sym e
@@ -166,7 +166,7 @@ module _ (lines : List the_line.Line) (label : Label) where
   -- ---- looked up
 
   -- it comes before the label
-  abbrev comes_before : the_mark.Mark → Bool
+  abbrev comes_before : the_place.LabelPlace → Bool
   comes_before m = is_lt (slice_cmp nat_cmp (label_of_mark lines m) label)
 
   -- what is no later than a label before it comes before it too
@@ -184,12 +184,12 @@ module _ (lines : List the_line.Line) (label : Label) where
     by Greater e Equal f t = absurd (true≢false (sym t))
     by Greater e Greater f t = absurd (true≢false (sym t))
 
-  parted : (marks : List the_mark.Mark) → IsSortedBy (is_label_before lines) marks → IsPartitionedBy (λ m. is_lt (slice_cmp nat_cmp (label_of_mark lines m) label)) marks
+  parted : (marks : List the_place.LabelPlace) → IsSortedBy (is_label_before lines) marks → IsPartitionedBy (λ m. is_lt (slice_cmp nat_cmp (label_of_mark lines m) label)) marks
   parted marks sorted i j d up within t =
       before_with (label_of_mark lines (get_or marks i d)) (label_of_mark lines (get_or marks j d))
       (sorted_far (is_label_before lines) (label_order lines) marks sorted i j d up within) t
 
-  unequal : (m : the_mark.Mark) → (label_of_mark lines m ≡ label → ⊥) → bytes_eq (label_of_mark lines m) label ≡ false
+  unequal : (m : the_place.LabelPlace) → (label_of_mark lines m ≡ label → ⊥) → bytes_eq (label_of_mark lines m) label ≡ false
   unequal m n =
       elim (cases_Bool (bytes_eq (label_of_mark lines m) label)) [
         | inl t ↦ absurd (n ((bytes_eq-Decides (label_of_mark lines m) label).0 t))
@@ -197,13 +197,13 @@ module _ (lines : List the_line.Line) (label : Label) where
       ]
 
   -- a row that is passed
-  passed : (m : the_mark.Mark) (marks : List the_mark.Mark) → (label_of_mark lines m ≡ label → ⊥) → row_of (map (mark_row lines) (m ∷ marks)) label ≡ row_of (map (mark_row lines) marks) label
+  passed : (m : the_place.LabelPlace) (marks : List the_place.LabelPlace) → (label_of_mark lines m ≡ label → ⊥) → row_of (map (mark_row lines) (m ∷ marks)) label ≡ row_of (map (mark_row lines) marks) label
   passed m marks n = ap (λ b. cond b (Some (mark_view m)) (row_of (map (mark_row lines) marks) label)) (unequal m n)
 
-  not_before : (m : the_mark.Mark) → is_lt (cmp (label_of_mark lines m) label) ≡ true → label_of_mark lines m ≡ label → ⊥
+  not_before : (m : the_place.LabelPlace) → is_lt (cmp (label_of_mark lines m) label) ≡ true → label_of_mark lines m ≡ label → ⊥
   not_before m t e = true≢false (sym t ∙ (ap (λ k. is_lt (cmp k label)) e ∙ ap is_lt (equal_itself label)))
 
-  found_at : (marks : List the_mark.Mark) (i : ℕ) (x : the_mark.Mark) → ((k : ℕ) (d : the_mark.Mark) → k < i → is_lt (cmp (label_of_mark lines (get_or marks k d)) label) ≡ true)
+  found_at : (marks : List the_place.LabelPlace) (i : ℕ) (x : the_place.LabelPlace) → ((k : ℕ) (d : the_place.LabelPlace) → k < i → is_lt (cmp (label_of_mark lines (get_or marks k d)) label) ≡ true)
       → slice_get marks i ≡ Some x → label_of_mark lines x ≡ label → row_of (map (mark_row lines) marks) label ≡ Some (mark_view x)
   found_at [] i x before at e = absurd cc
   found_at (m ∷ marks) zero x before at e =
@@ -214,25 +214,25 @@ module _ (lines : List the_line.Line) (label : Label) where
       passed m marks (not_before m (before 0 m (omega arith)))
       ∙ found_at marks i x (λ k d below. before (suc k) d (omega (arith, below))) at e
 
-  none_at : (marks : List the_mark.Mark) → ((k : ℕ) (d : the_mark.Mark) → k < length marks → label_of_mark lines (get_or marks k d) ≡ label → ⊥) → row_of (map (mark_row lines) marks) label ≡ None
+  none_at : (marks : List the_place.LabelPlace) → ((k : ℕ) (d : the_place.LabelPlace) → k < length marks → label_of_mark lines (get_or marks k d) ≡ label → ⊥) → row_of (map (mark_row lines) marks) label ≡ None
   none_at [] none = refl
   none_at (m ∷ marks) none = passed m marks (none 0 m (omega arith)) ∙ none_at marks (λ k d below. none (suc k) d (omega (arith, below)))
 
-  abbrev IsPoint : List the_mark.Mark → ℕ → Type 0
+  abbrev IsPoint : List the_place.LabelPlace → ℕ → Type 0
   IsPoint marks i = IsPartitionPoint (λ m. is_lt (slice_cmp nat_cmp (label_of_mark lines m) label) ≡ true) (λ m. is_lt (slice_cmp nat_cmp (label_of_mark lines m) label) ≡ false) marks i
 
-  found_row : (marks : List the_mark.Mark) (i : ℕ) (x : the_mark.Mark) → IsPoint marks i → slice_get marks i ≡ Some x → cmp (label_of_mark lines x) label ≡ Equal
+  found_row : (marks : List the_place.LabelPlace) (i : ℕ) (x : the_place.LabelPlace) → IsPoint marks i → slice_get marks i ≡ Some x → cmp (label_of_mark lines x) label ≡ Equal
       → row_of (map (mark_row lines) marks) label ≡ Some (mark_view x)
   found_row marks i x point at e = found_at marks i x (λ k d below. point.0 k d (omega arith) below) at (same_label (label_of_mark lines x) label e)
 
-  past_rows : (marks : List the_mark.Mark) (i : ℕ) → IsPoint marks i → length marks ≤ i → row_of (map (mark_row lines) marks) label ≡ None
+  past_rows : (marks : List the_place.LabelPlace) (i : ℕ) → IsPoint marks i → length marks ≤ i → row_of (map (mark_row lines) marks) label ≡ None
   past_rows marks i point past = none_at marks (λ k d below. not_before (get_or marks k d) (point.0 k d (omega arith) (omega (arith, below, past))))
 
   -- the first that isn't before the label is after it
-  no_row_of : (marks : List the_mark.Mark) (i : ℕ) (x : the_mark.Mark) → IsSortedBy (is_label_before lines) marks → IsPoint marks i → slice_get marks i ≡ Some x
+  no_row_of : (marks : List the_place.LabelPlace) (i : ℕ) (x : the_place.LabelPlace) → IsSortedBy (is_label_before lines) marks → IsPoint marks i → slice_get marks i ≡ Some x
       → cmp (label_of_mark lines x) label ≡ Greater → row_of (map (mark_row lines) marks) label ≡ None
   no_row_of marks i x sorted point at e = none_at marks each where
-    each : (k : ℕ) (d : the_mark.Mark) → k < length marks → label_of_mark lines (get_or marks k d) ≡ label → ⊥
+    each : (k : ℕ) (d : the_place.LabelPlace) → k < length marks → label_of_mark lines (get_or marks k d) ≡ label → ⊥
     each k d below same =
         elim (cases_lt k i) [
           | inl earlier ↦ not_before (get_or marks k d) (point.0 k d (omega arith) earlier) same
@@ -247,35 +247,35 @@ module _ (lines : List the_line.Line) (label : Label) where
 -- ---- for the table's own functions
 
 -- sorting keeps what labels have
-pub stable_rows : (lines : List the_line.Line) (old new : List the_mark.Mark) (label : Label) → IsStableBy (is_label_before lines) old new
+pub stable_rows : (lines : List the_line.Line) (old new : List the_place.LabelPlace) (label : Label) → IsStableBy (is_label_before lines) old new
     → row_of (map (mark_row lines) new) label ≡ row_of (map (mark_row lines) old) label
 stable_rows lines old new label stable = stable_at lines label old new stable
 
 -- what a look-up asks, and what the marks from there on say
-pub parted_by : (lines : List the_line.Line) (label : Label) (marks : List the_mark.Mark) → IsSortedBy (is_label_before lines) marks
+pub parted_by : (lines : List the_line.Line) (label : Label) (marks : List the_place.LabelPlace) → IsSortedBy (is_label_before lines) marks
     → IsPartitionedBy (λ m. is_lt (slice_cmp nat_cmp (label_of_mark lines m) label)) marks
 parted_by lines label marks sorted = parted lines label marks sorted
 
-itself : (marks : List the_mark.Mark) (i : ℕ) (d : the_mark.Mark) → i < length marks → slice_get marks i ≡ Some (get_or marks i d)
+itself : (marks : List the_place.LabelPlace) (i : ℕ) (d : the_place.LabelPlace) → i < length marks → slice_get marks i ≡ Some (get_or marks i d)
 itself marks i d within = slice_get-get_or marks i d within
 
-pub row_found : (lines : List the_line.Line) (label : Label) (marks : List the_mark.Mark) (i : ℕ) (d : the_mark.Mark)
+pub row_found : (lines : List the_line.Line) (label : Label) (marks : List the_place.LabelPlace) (i : ℕ) (d : the_place.LabelPlace)
     → IsPartitionPoint (λ m. is_lt (slice_cmp nat_cmp (label_of_mark lines m) label) ≡ true) (λ m. is_lt (slice_cmp nat_cmp (label_of_mark lines m) label) ≡ false) marks i
     → i < length marks → Equal ≡ slice_cmp nat_cmp (label_of_mark lines (get_or marks i d)) label → Some (mark_view (get_or marks i d)) ≡ row_of (map (mark_row lines) marks) label
 row_found lines label marks i d point within e = sym (found_row lines label marks i (get_or marks i d) point (itself marks i d within) (sym e))
 
-pub row_missing : (lines : List the_line.Line) (label : Label) (marks : List the_mark.Mark) (i : ℕ) (d : the_mark.Mark) → IsSortedBy (is_label_before lines) marks
+pub row_missing : (lines : List the_line.Line) (label : Label) (marks : List the_place.LabelPlace) (i : ℕ) (d : the_place.LabelPlace) → IsSortedBy (is_label_before lines) marks
     → IsPartitionPoint (λ m. is_lt (slice_cmp nat_cmp (label_of_mark lines m) label) ≡ true) (λ m. is_lt (slice_cmp nat_cmp (label_of_mark lines m) label) ≡ false) marks i
     → i < length marks → Greater ≡ slice_cmp nat_cmp (label_of_mark lines (get_or marks i d)) label → None ≡ row_of (map (mark_row lines) marks) label
 row_missing lines label marks i d sorted point within e = sym (no_row_of lines label marks i (get_or marks i d) sorted point (itself marks i d within) (sym e))
 
 -- the mark there isn't before the label
-pub row_less : (lines : List the_line.Line) (label : Label) (marks : List the_mark.Mark) (i : ℕ) (d : the_mark.Mark)
+pub row_less : (lines : List the_line.Line) (label : Label) (marks : List the_place.LabelPlace) (i : ℕ) (d : the_place.LabelPlace)
     → IsPartitionPoint (λ m. is_lt (slice_cmp nat_cmp (label_of_mark lines m) label) ≡ true) (λ m. is_lt (slice_cmp nat_cmp (label_of_mark lines m) label) ≡ false) marks i
     → i < length marks → Less ≡ slice_cmp nat_cmp (label_of_mark lines (get_or marks i d)) label → None ≡ row_of (map (mark_row lines) marks) label
 row_less lines label marks i d point within e = absurd (true≢false (ap is_lt e ∙ point.1 i d (omega arith) within))
 
-pub row_past_all : (lines : List the_line.Line) (label : Label) (marks : List the_mark.Mark) (i : ℕ)
+pub row_past_all : (lines : List the_line.Line) (label : Label) (marks : List the_place.LabelPlace) (i : ℕ)
     → IsPartitionPoint (λ m. is_lt (slice_cmp nat_cmp (label_of_mark lines m) label) ≡ true) (λ m. is_lt (slice_cmp nat_cmp (label_of_mark lines m) label) ≡ false) marks i
     → length marks ≤ i → None ≡ row_of (map (mark_row lines) marks) label
 row_past_all lines label marks i point past = sym (past_rows lines label marks i point past)

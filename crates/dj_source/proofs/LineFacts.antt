@@ -22,7 +22,7 @@ IsSaid line bytes = AllZip Says (items_of line ++ Ended ∷ []) (words_of bytes)
 flags : SaysFlags 33 (Word (codes "21"))
 flags = record { digits = codes "21"; word = refl; numeral = (omega arith, (omega arith, (omega arith, tt))); few = omega arith; value = refl }
 
--- upper and lower case, and zeros in front
+-- upper and lower case, and leading zeros
 more_flags : SaysFlags 190 (Word (codes "00bE"))
 more_flags = record { digits = codes "00bE"; word = refl; numeral = (omega arith, (omega arith, (omega arith, (omega arith, (omega arith, tt))))); few = omega arith; value = refl }
 

@@ -10,7 +10,7 @@ use Rattle.dj_source.specs.trusted.Items.{Item, Exactly, Number, Ended, Says}
 use Rattle.dj_source.specs.trusted.Lines.{Label, IsTarget, pair_items, default_items}
 use Rattle.dj_tokens.specs.WordReading.{number_in}
 use Rattle.dj_source.specs.Reading.{Read, Large, read_map, word_of, is_signed, ◌&◌}
-use Rattle.dj_source.specs.LineReading.{label, line_end, TargetStart, DefaultWord, Target, target_start, default_after, targets_from, targets, MatchStart, DefaultMatch, MatchOf, match_in, match_start, Pairs, matches_from, target_from, pairs_after}
+use Rattle.dj_source.specs.LineReading.{label, line_end, TargetStart, DefaultWord, Target, target_start, default_after, targets_from, targets, MatchStart, DefaultMatch, MatchOf, match_in, match_start, LabelPairs, matches_from, target_from, pairs_after}
 use Rattle.dj_source.proofs.Readers.{Lang, Started, LargeFrom, ReadFrom, IsReader, both, sequence_reads, IsMade, IsSeenAs, seen_read, mapped_reads}
 use Rattle.dj_source.proofs.Choices.{after_first, HasFirst, IsChoice, IsReported, of_kind, kind_read, none_begun, nothing_left, place}
 use Rattle.dj_source.proofs.WordLaws.{word_reported, number_word_reported, signed_32}
@@ -122,23 +122,23 @@ targets_reads = record { some = targets_some; each = targets_each }
 abbrev pub IsSmallPair : ℤ × Label → Type 0
 IsSmallPair pair = FitsSigned w32 pair.0
 
-abbrev pub pairs_lang : Lang Pairs
+abbrev pub pairs_lang : Lang LabelPairs
 pairs_lang = record {
   items = λ x. (flat_map pair_items x.0 ++ default_items x.1) ++ Ended ∷ [];
   is = all;
   fits = λ x. AllByRecursion IsSmallPair x.0;
 }
 
-abbrev no_pairs : Label → Pairs
+abbrev no_pairs : Label → LabelPairs
 no_pairs last = ([], last)
 
-abbrev one_pair : ℤ → Label × Pairs → Pairs
+abbrev one_pair : ℤ → Label × LabelPairs → LabelPairs
 one_pair n x = ((n, x.0) ∷ x.1.0, x.1.1)
 
-abbrev pair_of : ℤ → Label → Pairs → Pairs
+abbrev pair_of : ℤ → Label → LabelPairs → LabelPairs
 pair_of n first x = ((n, first) ∷ x.0, x.1)
 
-abbrev ArePairs : MatchStart → Pairs → Type 0
+abbrev ArePairs : MatchStart → LabelPairs → Type 0
 ArePairs DefaultMatch x = IsMade no_pairs all x
 ArePairs (MatchOf n) x = IsMade (one_pair n) all x
 
@@ -178,11 +178,11 @@ pairs_choice = record {
   is = λ k x p. tt;
   items = items;
 } where
-  kind : (x : Pairs) → ⊤ → (k : MatchStart) × ArePairs k x
+  kind : (x : LabelPairs) → ⊤ → (k : MatchStart) × ArePairs k x
   kind ([], last) i = (DefaultMatch, (last, refl, tt))
   kind ((n, first) ∷ others, last) i = (MatchOf n, ((first, (others, last)), refl, tt))
 
-  items : (k : MatchStart) (x : Pairs) → ArePairs k x → HasFirst pairs_lang (match_item k) x
+  items : (k : MatchStart) (x : LabelPairs) → ArePairs k x → HasFirst pairs_lang (match_item k) x
   items DefaultMatch x p = subst (HasFirst pairs_lang (Exactly (codes "default"))) (sym p.1) refl
   items (MatchOf n) x p = subst (HasFirst pairs_lang (Number n)) (sym p.1) refl
 
@@ -190,10 +190,10 @@ pairs_some : Started pairs_lang []
 pairs_some = record { value = ([], []); is = tt; fits = tt; more = place (Word (codes "default")) ∷ place (Word []) ∷ place LineEnd ∷ []; said = (refl, (refl, (refl, tt))) }
 
 -- after a match its target stands
-abbrev after_match : ℤ → Lang Pairs
+abbrev after_match : ℤ → Lang LabelPairs
 after_match n = after_first pairs_lang ArePairs (MatchOf n)
 
-abbrev IsPairOf : ℤ → Label → Pairs → Type 0
+abbrev IsPairOf : ℤ → Label → LabelPairs → Type 0
 IsPairOf n first x = IsMade (pair_of n first) all x
 
 target_choice : (n : ℤ) → IsChoice (after_match n) (IsPairOf n) Exactly word_of
@@ -242,11 +242,11 @@ large_match here rest n e unfit = record {
   };
   none = λ x us more after i fits said same.
       let o = of_kind pairs_lang ArePairs match_item match_start pairs_choice here rest (MatchOf n) e x us more after i said same in
-      let small : AllByRecursion IsSmallPair (one_pair n o.1.0).0 = subst (λ (y : Pairs). AllByRecursion IsSmallPair y.0) o.1.1 fits in
+      let small : AllByRecursion IsSmallPair (one_pair n o.1.0).0 = subst (λ (y : LabelPairs). AllByRecursion IsSmallPair y.0) o.1.1 fits in
       true≢false (sym ((signed_32 n).1 small.0) ∙ unfit);
 }
 
-abbrev pending_lang : Option ℤ → Lang Pairs
+abbrev pending_lang : Option ℤ → Lang LabelPairs
 pending_lang None = pairs_lang
 pending_lang (Some n) = after_match n
 
@@ -258,7 +258,7 @@ pending_some : (pending : Option ℤ) → IsSmallPending pending → Started (pe
 pending_some None small = pairs_some
 pending_some (Some n) small = after_match_some n small
 
-match_step : (here : Placed) (rest : List Placed) (o : Option MatchStart) (more : ℤ → Read Pairs) → match_start here.token ≡ o
+match_step : (here : Placed) (rest : List Placed) (o : Option MatchStart) (more : ℤ → Read LabelPairs) → match_start here.token ≡ o
     → ((n : ℤ) → FitsSigned w32 n → ReadFrom (after_match n) rest (more n)) → ReadFrom pairs_lang (here ∷ rest) (matches_from o here rest more)
 match_step here rest None more e each = none_begun pairs_lang ArePairs match_item match_start pairs_choice pairs_some here rest e
 match_step here rest (Some DefaultMatch) more e each =
@@ -269,7 +269,7 @@ match_step here rest (Some (MatchOf n)) more e each = by (is_signed 31 n) refl w
   by true t = kind_read pairs_lang ArePairs match_item match_start pairs_choice here rest (MatchOf n) e (more n) (each n ((signed_32 n).0 t))
   by false t = large_match here rest n e t
 
-target_step : (n : ℤ) → FitsSigned w32 n → (here : Placed) (rest : List Placed) (o : Option Label) (more : Read Pairs) → word_of here.token ≡ o → ReadFrom pairs_lang rest more
+target_step : (n : ℤ) → FitsSigned w32 n → (here : Placed) (rest : List Placed) (o : Option Label) (more : Read LabelPairs) → word_of here.token ≡ o → ReadFrom pairs_lang rest more
     → ReadFrom (after_match n) (here ∷ rest) (target_from n o here rest more)
 target_step n fit here rest None more e each = none_begun (after_match n) (IsPairOf n) Exactly word_of (target_choice n) (after_match_some n fit) here rest e
 target_step n fit here rest (Some first) more e each =

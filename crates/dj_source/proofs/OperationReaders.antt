@@ -13,7 +13,7 @@ use Rattle.dj_source.specs.trusted.Items.{Item, Ended}
 use Rattle.dj_source.specs.trusted.Lines.{Label, Literal, IsLiteralName, Operation, Plain, Push, Local, Increment, Load, LoadLong, Jump, Table, Lookup, Member, Dynamic, ClassOf, Array, Multi, operation_items, IsSizedOperation, FitsBits, slot_bits, FitsIncrement}
 use Rattle.dj_tokens.specs.WordReading.{class_text_test}
 use Rattle.dj_source.specs.Reading.{◌&◌, is_signed, is_between}
-use Rattle.dj_source.specs.LineReading.{line_end, number, name, label, keyword, base, fits_16, slot_fits, increment_fits, literal, targets, Pairs, pairs_after, interface_end, plain, push, slot, increment, load, load_long, jump, table, lookup, field_use, open_method_use, method_use, dynamic, class_of, array, multi}
+use Rattle.dj_source.specs.LineReading.{line_end, number, name, label, keyword, base, fits_16, slot_fits, increment_fits, literal, targets, LabelPairs, pairs_after, interface_end, plain, push, slot, increment, load, load_long, jump, table, lookup, field_use, open_method_use, method_use, dynamic, class_of, array, multi}
 use Rattle.dj_source.proofs.Readers.{Lang, IsReader, both, sequence_reads, IsMade, mapped_reads}
 use Rattle.dj_source.proofs.WordLaws.{bits_decide, signed_8, signed_16, signed_32}
 use Rattle.dj_source.proofs.FieldReaders.{all, end_lang, end_reads, label_lang, label_reads, keyword_lang, keyword_reads, base_lang, base_reads, number_lang, number_reads, name_lang, class_text_reads, field_name_reads, method_name_reads, field_desc_reads, method_desc_reads, array_desc_reads}
@@ -46,7 +46,7 @@ jump_of op x = Jump op x.0
 abbrev pub table_of : ℤ × (List Label × Label) → Operation
 table_of x = Table x.0 x.1.0 x.1.1
 
-abbrev pub lookup_of : Pairs → Operation
+abbrev pub lookup_of : LabelPairs → Operation
 lookup_of x = Lookup x.0 x.1
 
 abbrev pub member_of : ℕ → Name × (Name × (Name × ⊤)) → Operation

@@ -29,7 +29,7 @@ stop_map f stops.Missing (Got a rest) s = absurd s
 stop_map f stops.Missing (Wrong rest) s = s
 stop_map f stops.Missing (Large rest) s = s
 
--- what reading one type says of the token at the front
+-- what reading one type says of the token at the beginning
 abbrev OneType : List Placed → FrameType → List Placed → Type 0
 OneType tokens ty rest = (here : Placed) × (tokens ≡ here ∷ rest) × (type_of here.token ≡ Some ty)
 

@@ -78,7 +78,7 @@ simple_decides w =
     (Decides-or (bytes_eq w (codes "null")) (bytes_eq w (codes "this")) (bytes_eq-Decides w (codes "null")) (bytes_eq-Decides w (codes "this")))))))
 
 begins_with : (word prefix : List ℕ) → bytes_eq (take 4 word) prefix ≡ true → word ≡ prefix ++ drop 4 word
-begins_with word prefix t = sym (take-append-drop 4 word) ∙ ap (λ front. front ++ drop 4 word) ((bytes_eq-Decides (take 4 word) prefix).0 t)
+begins_with word prefix t = sym (take-append-drop 4 word) ∙ ap (λ first. first ++ drop 4 word) ((bytes_eq-Decides (take 4 word) prefix).0 t)
 
 abbrev IsSaid : FrameType → List ℕ → Type 0
 IsSaid type word = IsFrameType type × Says (type_item type) (Word word)

@@ -130,21 +130,21 @@ match_in word = if bytes_eq (codes "default") word then Some DefaultMatch else o
 abbrev pub match_start : Token → Option MatchStart
 match_start token = word_of token >>= match_in
 
-abbrev pub Pairs : Type 0
-Pairs = List (ℤ × Label) × Label
+abbrev pub LabelPairs : Type 0
+LabelPairs = List (ℤ × Label) × Label
 
-abbrev pub matches_from : Option MatchStart → Placed → List Placed → (ℤ → Read Pairs) → Read Pairs
+abbrev pub matches_from : Option MatchStart → Placed → List Placed → (ℤ → Read LabelPairs) → Read LabelPairs
 matches_from None here rest more = Wrong (here ∷ rest)
 matches_from (Some DefaultMatch) here rest more = read_map (λ (last : Label). ([], last)) (default_after rest)
 matches_from (Some (MatchOf n)) here rest more = if is_signed 31 n then more n else Large (here ∷ rest)
 
 -- with the target of a match
-abbrev pub target_from : ℤ → Option Label → Placed → List Placed → Read Pairs → Read Pairs
+abbrev pub target_from : ℤ → Option Label → Placed → List Placed → Read LabelPairs → Read LabelPairs
 target_from n None here rest more = Wrong (here ∷ rest)
-target_from n (Some first) here rest more = read_map (λ (x : Pairs). ((n, first) ∷ x.0, x.1)) more
+target_from n (Some first) here rest more = read_map (λ (x : LabelPairs). ((n, first) ∷ x.0, x.1)) more
 
 -- after a number comes its target
-unfoldable pub pairs_after : Option ℤ → List Placed → Read Pairs
+unfoldable pub pairs_after : Option ℤ → List Placed → Read LabelPairs
 pairs_after pending [] = Wrong []
 pairs_after None (here ∷ rest) = matches_from (match_start here.token) here rest (λ n. pairs_after (Some n) rest)
 pairs_after (Some n) (here ∷ rest) = target_from n (word_of here.token) here rest (pairs_after None rest)
@@ -188,7 +188,7 @@ abbrev pub table : Reader Operation
 table = mapped (λ (x : ℤ × (List Label × Label)). Table x.0 x.1.0 x.1.1) (number (is_signed 31) & targets)
 
 abbrev pub lookup : Reader Operation
-lookup = mapped (λ (x : Pairs). Lookup x.0 x.1) (pairs_after None)
+lookup = mapped (λ (x : LabelPairs). Lookup x.0 x.1) (pairs_after None)
 
 abbrev pub field_use : ℕ → Reader Operation
 field_use op =

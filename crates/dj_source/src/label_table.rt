@@ -18,7 +18,7 @@ use std::marker::Model;
 
 /// How many lines and how many instructions come before a label.
 #[derive(Clone, Copy)]
-pub(crate) struct Mark {
+pub(crate) struct LabelPlace {
     pub place: u32,
     pub number: u32,
 }
@@ -28,7 +28,7 @@ pub(crate) struct Mark {
 #[derive(Drop)]
 pub(crate) struct LabelTable<'l, 't> {
     lines: &'l [Line<'t>],
-    marks: Vec<Mark>,
+    marks: Vec<LabelPlace>,
     ghost sorted: { IsSortedBy (is_label_before lines.now) marks.items },
 }
 
@@ -58,7 +58,7 @@ impl<'l, 't> LabelTable<'l, 't> {
     }
 
     /// Where a label is defined first.
-    pub(crate) fn mark(&self, label: Word<'t>) -> Option<Mark>
+    pub(crate) fn mark(&self, label: Word<'t>) -> Option<LabelPlace>
         ensures { option_map mark_view result ≡ row_of self.now (units_of label.entry) }
     {
         mark_in(&self.marks, self.lines, label.bytes)
@@ -67,7 +67,7 @@ impl<'l, 't> LabelTable<'l, 't> {
 
 /// The first mark of a label among marks that are sorted.
 #[tactic(auto, using(crate::proofs::LabelTables::row_found, crate::proofs::LabelTables::row_missing, crate::proofs::LabelTables::row_less, crate::proofs::LabelTables::row_past_all))]
-fn mark_in(marks: &[Mark], lines: &[Line<'_>], label: &[u8]) -> Option<Mark>
+fn mark_in(marks: &[LabelPlace], lines: &[Line<'_>], label: &[u8]) -> Option<LabelPlace>
     requires { IsSortedBy (is_label_before lines.now) marks.now }
     ensures { option_map mark_view result ≡ row_of (map (mark_row lines.now) marks.now) (word_units 0 label.now) }
 {
@@ -83,7 +83,7 @@ fn mark_in(marks: &[Mark], lines: &[Line<'_>], label: &[u8]) -> Option<Mark>
 }
 
 /// How many of the sorted marks have labels before this one.
-fn first_not_before(marks: &[Mark], lines: &[Line<'_>], label: &[u8]) -> usize
+fn first_not_before(marks: &[LabelPlace], lines: &[Line<'_>], label: &[u8]) -> usize
     requires { IsSortedBy (is_label_before lines.now) marks.now }
     ensures bound { result ≤ length marks.now }
     ensures point { IsPartitionPoint (λ m. is_lt (slice_cmp nat_cmp (label_of_mark lines.now m) (word_units 0 label.now)) ≡ true) (λ m. is_lt (slice_cmp nat_cmp (label_of_mark lines.now m) (word_units 0 label.now)) ≡ false) marks.now result }
@@ -92,7 +92,7 @@ fn first_not_before(marks: &[Mark], lines: &[Line<'_>], label: &[u8]) -> usize
 }
 
 /// How the label at a mark compares with another.
-fn compare_with(lines: &[Line<'_>], mark: Mark, label: &[u8]) -> Ordering
+fn compare_with(lines: &[Line<'_>], mark: LabelPlace, label: &[u8]) -> Ordering
     ensures { result ≡ slice_cmp nat_cmp (label_of_mark lines.now mark) (word_units 0 label.now) }
 {
     compare_words(label_at(lines, mark), label)
@@ -100,7 +100,7 @@ fn compare_with(lines: &[Line<'_>], mark: Mark, label: &[u8]) -> Ordering
 
 /// The marks of the labels of these lines, in the order of the lines.
 #[tactic(auto, using(crate::proofs::LabelTables::marked_all))]
-fn marks_in(alloc: Global, lines: &[Line<'_>]) -> Result<Vec<Mark>, AllocError>
+fn marks_in(alloc: Global, lines: &[Line<'_>]) -> Result<Vec<LabelPlace>, AllocError>
     requires { length lines.now < 2 ^ 32 }
     ensures { IfOk result (λ marks. map (mark_row lines.now) marks.items ≡ marks_of (map line_view lines.now)) }
 {
@@ -108,7 +108,7 @@ fn marks_in(alloc: Global, lines: &[Line<'_>]) -> Result<Vec<Mark>, AllocError>
     let mut number = 0;
     for place in 0..lines.len() {
         let line = &lines[place];
-        let mark = Mark {
+        let mark = LabelPlace {
             place: place as u32,
             number,
         };
@@ -119,7 +119,11 @@ fn marks_in(alloc: Global, lines: &[Line<'_>]) -> Result<Vec<Mark>, AllocError>
 }
 
 /// Appends the mark of a line, where that defines a label.
-fn push_mark(marks: &mut Vec<Mark>, line: &Line<'_>, mark: Mark) -> Result<(), AllocError>
+fn push_mark(
+    marks: &mut Vec<LabelPlace>,
+    line: &Line<'_>,
+    mark: LabelPlace,
+) -> Result<(), AllocError>
     ensures { IfOk result (λ x. marks.new.items ≡ marks.old.items ++ marked (defined_by (line_view line.now)) mark) }
 {
     match defined_label(line) {
@@ -171,7 +175,7 @@ pub(crate) fn defined_label<'t>(line: &Line<'t>) -> Option<Word<'t>>
 }
 
 /// Whether a line is an instruction.
-pub(crate) fn is_instruction(line: &Line<'_>) -> bool
+pub fn is_instruction(line: &Line<'_>) -> bool
     ensures { result ≡ is_instruction (line_view line.now) }
 {
     match line {
@@ -193,7 +197,7 @@ pub(crate) fn is_instruction(line: &Line<'_>) -> bool
 }
 
 /// Sorts by labels. Marks of one label keep their order.
-fn sort_by_label(marks: &mut Vec<Mark>, lines: &[Line<'_>]) -> Result<(), AllocError>
+fn sort_by_label(marks: &mut Vec<LabelPlace>, lines: &[Line<'_>]) -> Result<(), AllocError>
     ensures sorted { IfOk result (λ x. IsSortedBy (is_label_before lines.now) marks.new.items) }
     ensures stable { IsStableBy (is_label_before lines.now) marks.old.items marks.new.items }
 {
@@ -203,7 +207,7 @@ fn sort_by_label(marks: &mut Vec<Mark>, lines: &[Line<'_>]) -> Result<(), AllocE
 
 /// The word of the label that the line at a mark defines.
 #[tactic(auto, unfolding(dj_tokens::specs::trusted::Words::word_units))]
-fn label_at<'t>(lines: &[Line<'t>], mark: Mark) -> &'t [u8]
+fn label_at<'t>(lines: &[Line<'t>], mark: LabelPlace) -> &'t [u8]
     ensures { word_units 0 result.now ≡ label_of_mark lines.now mark }
 {
     match lines.get(mark.place as usize) {

@@ -30,6 +30,7 @@ mod whole_text;
 pub use dj_tokens::{LineTokens, Placed, Quoted, Text, Token, Word};
 pub use error::AsmError;
 pub use frame_types::FrameTypes;
+pub use label_table::is_instruction;
 pub use labelling::section_size;
 pub use laws::{no_fault_of_source, one_source, one_word_fault, source_or_fault};
 pub use method_labels::MethodLabels;

@@ -74,9 +74,7 @@ impl<'t> SourceLines<'t> {
     fn label_error(&self, place: usize) -> Option<AsmError>
         ensures { result ≡ label_error self.now.numbers (Some place) }
     {
-        match self.number(place) {
-            Some(line) => Some(AsmError::Label { line }),
-            None => None,
-        }
+        let line = self.number(place)?;
+        Some(AsmError::Label { line })
     }
 }

@@ -76,10 +76,7 @@ pub(crate) fn start_of(bytes: &[u8]) -> Option<LineStart<'_>>
     if let Some(label) = label_of(bytes) {
         return Some(LineStart::Label(Word { bytes: label }));
     }
-    match opcode_of(bytes) {
-        Some(op) => Some(LineStart::Operation(op)),
-        None => None,
-    }
+    Some(LineStart::Operation(opcode_of(bytes)?))
 }
 
 /// The line after the word that begins it.

@@ -8,7 +8,7 @@ pub enum PushError {
     #[error("there are 1,024 frames")]
     TooDeep,
     /// There was no memory.
-    #[error("there was no memory")]
+    #[error("out of memory")]
     Memory,
 }
 

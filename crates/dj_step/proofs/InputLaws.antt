@@ -18,12 +18,13 @@ use Rattle.dj_names.specs.trusted.Types.{class_type, base_array}
 use Rattle.dj_model.specs.trusted.Runs.{input_array}
 use Rattle.dj_natives.specs.Numbered as numbered
 use Rattle.dj_heap.specs.Heaps.{LimitedHeap, Makes, Refuses, Replaces, element_in, low_bits, with_number}
+use Rattle.dj_heap.specs.declared.errors.HeapError.{HeapError}
 use Rattle.dj_heap.specs.declared.errors.HeapError.TheVariants as errors
 use Rattle.dj_calls.specs.Known.{IsKnown}
 use Rattle.dj_types.specs.Typed.{types_of}
 use Rattle.dj_image.specs.Imaged.{Imaged, typed_of}
-use Rattle.dj_step.specs.declared.answers.StartError.TheVariants as starts
-use Rattle.dj_step.specs.Running.{FillsBytes, FillsTo, HasZeros, HoldsInput, RefusesInput, bytes_heap, filled}
+use Rattle.dj_step.specs.declared.answers.StartError.{StartError}
+use Rattle.dj_step.specs.Running.{FillsBytes, FillsTo, HasZeros, HoldsInput, RefusesInput, bytes_heap, filled, start_error}
 
 -- ---- bytes that are filled in
 
@@ -128,11 +129,16 @@ holds imaged input limit class count r old mid new typed none long makes fills =
           (record { class = slice_get_within (types_of (typed_of imaged)) class (base_array bases.Byte) typed; holds = λ none. absurd (false≢true none) }));
     }
 
-pub refused : (input : List ℕ) (limit count used size : ℕ) (h : LimitedHeap) → h ≡ empty limit → count ≡ length input → Refuses h (array_size elements.Byte count) (errors.Full used size)
-    → RefusesInput input limit (starts.Full used size)
-refused input limit count used size h none long refuses =
+refused_by : (input : List ℕ) (limit count : ℕ) (h : LimitedHeap) (e : HeapError) → h ≡ empty limit → count ≡ length input → Refuses h (array_size elements.Byte count) e
+    → RefusesInput input limit (start_error e)
+refused_by input limit count h errors.Memory none long refuses = tt
+refused_by input limit count h (errors.Full used size) none long refuses =
     let nothing : h.heap.used ≡ 0 = ap (λ (h : LimitedHeap). h.heap.used) none in
     let limited : h.limit ≡ limit = ap (λ (h : LimitedHeap). h.limit) none in
     let sizes : array_size elements.Byte count ≡ object_size (input_array input) = ap (array_size elements.Byte) (long ∙ sym (length-map input (cast_signed w8))) in
     let past = refuses.2 in
     (refuses.0 ∙ nothing, refuses.1 ∙ sizes, omega (arith, past, nothing, limited, sizes))
+
+pub refused : (input : List ℕ) (limit count : ℕ) (h : LimitedHeap) (e : HeapError) (start : StartError) → h ≡ empty limit → count ≡ length input → Refuses h (array_size elements.Byte count) e
+    → start ≡ start_error e → RefusesInput input limit start
+refused input limit count h e start none long refuses same = subst (RefusesInput input limit) (sym same) (refused_by input limit count h e none long refuses)

@@ -12,6 +12,8 @@ use Rattle.dj_model.specs.trusted.Initialisation.{new_frame}
 use Rattle.dj_model.specs.trusted.Linking.{static_count}
 use Rattle.dj_model.specs.trusted.Runs.{input_array, input_heap}
 use Rattle.dj_heap.specs.Heaps.{LimitedHeap}
+use Rattle.dj_heap.specs.declared.errors.HeapError.{HeapError}
+use Rattle.dj_heap.specs.declared.errors.HeapError.TheVariants as heap_errors
 use Rattle.dj_stack.specs.Frames.{StackFrame}
 use Rattle.dj_calls.specs.Counting.{Counter}
 use Rattle.dj_calls.specs.Calls.{counting_of, typed_heap}
@@ -48,6 +50,10 @@ pub record HoldsInput (imaged : Imaged) (input : List ℕ) (limit : ℕ) (heap :
   pub limited : heap.limit ≡ limit
   pub fits : object_size (input_array input) ≤ limit
   pub known : AreKnown (types_of (typed_of imaged)) heap
+
+abbrev pub start_error : HeapError → StartError
+start_error (heap_errors.Full used size) = starts.Full used size
+start_error heap_errors.Memory = starts.Memory
 
 -- the input doesn't fit, or there is no memory
 abbrev pub RefusesInput : List ℕ → ℕ → StartError → Type 0

@@ -1,3 +1,4 @@
+use dj_heap::HeapError;
 use std::alloc::AllocError;
 use thiserror::Error;
 
@@ -34,5 +35,19 @@ impl From<AllocError> for StartError {
 
     fn from(_e: AllocError) -> StartError {
         StartError::Memory
+    }
+}
+
+impl From<HeapError> for StartError {
+    ghost use Rattle.std.specs.Prelude.{◌≡◌};
+    ghost use Rattle.dj_step.specs.Running.{start_error};
+
+    ghost from_gives = { λ e start. start ≡ start_error e };
+
+    fn from(error: HeapError) -> StartError {
+        match error {
+            HeapError::Full { used, size } => StartError::Full { used, size },
+            HeapError::Memory => StartError::Memory,
+        }
     }
 }

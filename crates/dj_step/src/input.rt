@@ -6,7 +6,7 @@ ghost use Rattle.dj_image.specs.Imaged.{typed_of};
 ghost use Rattle.dj_step.specs.Running.{FillsBytes, HasZeros, HoldsInput, RefusesInput};
 
 use crate::answers::StartError;
-use dj_heap::{Heap, HeapError};
+use dj_heap::Heap;
 use dj_image::Image;
 use dj_names::Element;
 use std::alloc::Global;
@@ -28,11 +28,7 @@ pub(crate) fn input_heap(
     let Ok(count) = u32::try_from(input.len()) else {
         return Err(StartError::Memory);
     };
-    match heap.array(class, Element::Byte, count) {
-        Ok(_) => {}
-        Err(HeapError::Full { used, size }) => return Err(StartError::Full { used, size }),
-        Err(HeapError::Memory) => return Err(StartError::Memory),
-    }
+    heap.array(class, Element::Byte, count)?;
     fill(&mut heap, input, count);
     Ok(heap)
 }

@@ -25,6 +25,7 @@ use Rattle.dj_straight.specs.trusted.Step.{Answer, Ended, Went, IllFormed, messa
 use Rattle.dj_straight.specs.trusted.Charges.{paid, Paid, Exceeds}
 use Rattle.dj_straight.specs.trusted.FrameKinds.{kind_slots}
 use Rattle.dj_straight.specs.SmallRuns.{class_with, limited_to, field_with, text_desc, beginning, initialiser_with, entry, verify_with, op}
+use Rattle.dj_ops.specs.Mnemonics.{aconst_null, pop, arraylength}
 
 -- ---- arrays
 
@@ -412,7 +413,7 @@ throws_through_initialiser = refl
 
 -- a handler of everything catches it too, at the instructions of its range
 abbrev catching : Program
-catching = class_with (verify_with (op 1 ∷ op 87 ∷ op 1 ∷ op 190 ∷ op 87 ∷ []) (record { start = 1; end = 3; handler = 4; catches = None } ∷ []) ∷ []) ∷ []
+catching = class_with (verify_with (op aconst_null ∷ op pop ∷ op aconst_null ∷ op arraylength ∷ op pop ∷ []) (record { start = 1; end = 3; handler = 4; catches = None } ∷ []) ∷ []) ∷ []
 
 abbrev verify_at : ℕ → Frame
 verify_at number = record { method = entry; number = number; locals = Some (values.Ref 1) ∷ []; operands = values.Int (pos 1) ∷ []; paid = true }

@@ -6,19 +6,19 @@ use Rattle.dj_names.specs.trusted.Values.{raised_class}
 use Rattle.dj_straight.specs.trusted.Instructions.{Instruction}
 use Rattle.dj_straight.specs.trusted.Effects as model
 use Rattle.dj_straight.specs.trusted.Effects.{Terms, StraightPart, Effect, effect, goes}
-use Rattle.dj_straight.specs.declared.machine.heap.Found.{Found}
-use Rattle.dj_straight.specs.declared.machine.heap.Found.TheVariants as founds
+use Rattle.dj_straight.specs.declared.machine.heap.Referent.{Referent}
+use Rattle.dj_straight.specs.declared.machine.heap.Referent.TheVariants as referents
 use Rattle.dj_straight.specs.declared.machine.parts.StraightMachine.{StraightMachine}
 use Rattle.dj_straight.specs.declared.machine.parts.Progress.{Progress}
 use Rattle.dj_straight.specs.declared.machine.parts.Progress.TheVariants as ways
 
-abbrev pub found_view : Found → model.Found
-found_view founds.Null = model.Null
-found_view founds.NoArray = model.NoArray
-found_view (founds.Bytes bytes) = model.IsArray (codes "[B") elements.Byte bytes.now
+abbrev pub referent_view : Referent → model.Found
+referent_view referents.Null = model.Null
+referent_view referents.NoArray = model.NoArray
+referent_view (referents.Bytes bytes) = model.IsArray (codes "[B") elements.Byte bytes.now
 
-abbrev pub IsShort : Found → Type 0
-IsShort (founds.Bytes bytes) = length bytes.now < 2 ^ 31
+abbrev pub IsShort : Referent → Type 0
+IsShort (referents.Bytes bytes) = length bytes.now < 2 ^ 31
 IsShort _ = ⊤
 
 abbrev pub machine_view : StraightMachine → StraightPart

@@ -1,5 +1,5 @@
 -- Whole runs of small programs, each with what it returns or raises and what it is charged (JVMS 6.5).
-use Rattle.std.specs.Prelude.{◌≡◌, ℕ, Option, Result, Ok, Err, List, [], ◌∷◌, ◌++◌, map, Some, None, codes, pos, negsuc, false}
+use Rattle.std.specs.Prelude.{◌≡◌, ℕ, ℤ, Option, Result, Ok, Err, List, [], ◌∷◌, ◌++◌, map, Some, None, codes, pos, negsuc, false}
 use Rattle.dj_names.specs.declared.run.Value.{Value}
 use Rattle.dj_names.specs.declared.run.Value.TheVariants as values
 use Rattle.dj_names.specs.declared.run.Charge.TheVariants as charges
@@ -19,6 +19,7 @@ use Rattle.dj_straight.specs.trusted.Program.{Name, Class, Field, Constant, Int,
 use Rattle.dj_straight.specs.trusted.Effects.{Terms}
 use Rattle.dj_straight.specs.trusted.Step.{Answer, Went, Ended, IllFormed}
 use Rattle.dj_straight.specs.trusted.Metered.{RunsTo, run, Stuck, begin, input_array, metered_terms}
+use Rattle.dj_ops.specs.Mnemonics.{nop, aconst_null, iconst_m1, iconst_0, iconst_1, iconst_2, iconst_3, iconst_4, iconst_5, bipush, sipush, iload, aload, iload_2, aload_0, aload_1, baload, istore, astore, istore_2, astore_1, bastore, pop, dup, iadd, isub, imul, iand, ior, ixor, areturn, arraylength}
 
 -- ---- programs of one class
 
@@ -99,107 +100,84 @@ class_below name above = record (class_with []) { name = name; superclass = Some
 abbrev pub op : ℕ → Instr
 op n = instrs.Simple n
 
+-- a number that is pushed
+abbrev pub push : ℕ → ℤ → Instr
+push = instrs.Push
+
+-- a local variable is loaded or stored
+abbrev pub slot : ℕ → ℕ → Instr
+slot n place = instrs.Local n place false
+
 abbrev pub newarray_byte : Instr
 newarray_byte = instrs.Array 8
 
 -- iconst_1, newarray byte, dup, iconst_0, these, bastore, areturn: these push an int, whose low byte is returned
 abbrev pub Pushes : List Instr → List ℕ → ℕ → Type 0
 Pushes code input byte =
-    Returns (op 4 ∷ newarray_byte ∷ op 89 ∷ op 3 ∷ code ++ op 84 ∷ op 176 ∷ []) input (byte ∷ []) 24
+    Returns (op iconst_1 ∷ newarray_byte ∷ op dup ∷ op iconst_0 ∷ code ++ op bastore ∷ op areturn ∷ []) input (byte ∷ []) 24
 
 -- ---- the runs
 
 -- what is returned, and local variables
 pub record WorkedReturns : Type 0 where
-  -- aload_0, areturn
-  pub same_input : Returns (op 42 ∷ op 176 ∷ []) (10 ∷ 11 ∷ []) (10 ∷ 11 ∷ []) 0
-  pub no_input : Returns (op 42 ∷ op 176 ∷ []) [] [] 0
-  -- aconst_null, areturn
-  pub null : RunsCode (op 1 ∷ op 176 ∷ []) (1 ∷ []) 67108864 outcomes.OkNull 0
-  -- nop, iconst_3, pop, aload_0, areturn
-  pub popped : Returns (op 0 ∷ op 6 ∷ op 87 ∷ op 42 ∷ op 176 ∷ []) (9 ∷ []) (9 ∷ []) 0
-  -- aload_0, astore_1, aload_1, areturn
-  pub other_slot : Returns (op 42 ∷ op 76 ∷ op 43 ∷ op 176 ∷ []) (9 ∷ []) (9 ∷ []) 0
-  -- bipush 7, istore_2, iload_2
-  pub int_slot : Pushes (instrs.Push 16 (pos 7) ∷ op 61 ∷ op 28 ∷ []) [] 7
-  -- bipush 7, istore 2, iload 2
-  pub reported_slot : Pushes (instrs.Push 16 (pos 7) ∷ instrs.Local 54 2 false ∷ instrs.Local 21 2 false ∷ []) [] 7
-  -- aload 0, astore 2, aload 2, areturn
-  pub reported_reference : Returns (instrs.Local 25 0 false ∷ instrs.Local 58 2 false ∷ instrs.Local 25 2 false ∷ op 176 ∷ []) (9 ∷ []) (9 ∷ []) 0
+  pub same_input : Returns (op aload_0 ∷ op areturn ∷ []) (10 ∷ 11 ∷ []) (10 ∷ 11 ∷ []) 0
+  pub no_input : Returns (op aload_0 ∷ op areturn ∷ []) [] [] 0
+  pub null : RunsCode (op aconst_null ∷ op areturn ∷ []) (1 ∷ []) 67108864 outcomes.OkNull 0
+  pub popped : Returns (op nop ∷ op iconst_3 ∷ op pop ∷ op aload_0 ∷ op areturn ∷ []) (9 ∷ []) (9 ∷ []) 0
+  pub other_slot : Returns (op aload_0 ∷ op astore_1 ∷ op aload_1 ∷ op areturn ∷ []) (9 ∷ []) (9 ∷ []) 0
+  pub int_slot : Pushes (push bipush (pos 7) ∷ op istore_2 ∷ op iload_2 ∷ []) [] 7
+  pub reported_slot : Pushes (push bipush (pos 7) ∷ slot istore 2 ∷ slot iload 2 ∷ []) [] 7
+  pub reported_reference : Returns (slot aload 0 ∷ slot astore 2 ∷ slot aload 2 ∷ op areturn ∷ []) (9 ∷ []) (9 ∷ []) 0
 
 -- ints
 pub record WorkedInts : Type 0 where
-  -- sipush 300
-  pub low_byte : Pushes (instrs.Push 17 (pos 300) ∷ []) [] 44
-  -- sipush -300
-  pub low_byte_negative : Pushes (instrs.Push 17 (negsuc 299) ∷ []) [] 212
-  -- iconst_5, dup, iadd
-  pub doubled : Pushes (op 8 ∷ op 89 ∷ op 96 ∷ []) [] 10
-  -- bipush 100, dup, iadd
-  pub added : Pushes (instrs.Push 16 (pos 100) ∷ op 89 ∷ op 96 ∷ []) [] 200
-  -- iconst_2, iconst_5, isub
-  pub subtracted : Pushes (op 5 ∷ op 8 ∷ op 100 ∷ []) [] 253
-  -- bipush -3, iconst_5, imul
-  pub multiplied : Pushes (instrs.Push 16 (negsuc 2) ∷ op 8 ∷ op 104 ∷ []) [] 241
-  -- bipush 12, bipush 10, iand
-  pub and : Pushes (instrs.Push 16 (pos 12) ∷ instrs.Push 16 (pos 10) ∷ op 126 ∷ []) [] 8
-  -- iconst_m1, bipush 100, iand
-  pub and_negative : Pushes (op 2 ∷ instrs.Push 16 (pos 100) ∷ op 126 ∷ []) [] 100
-  -- bipush 12, bipush 10, ior
-  pub or : Pushes (instrs.Push 16 (pos 12) ∷ instrs.Push 16 (pos 10) ∷ op 128 ∷ []) [] 14
-  -- bipush -128, iconst_1, ior
-  pub or_negative : Pushes (instrs.Push 16 (negsuc 127) ∷ op 4 ∷ op 128 ∷ []) [] 129
-  -- bipush 12, bipush 10, ixor
-  pub xor : Pushes (instrs.Push 16 (pos 12) ∷ instrs.Push 16 (pos 10) ∷ op 130 ∷ []) [] 6
-  -- iconst_m1, bipush 85, ixor
-  pub xor_negative : Pushes (op 2 ∷ instrs.Push 16 (pos 85) ∷ op 130 ∷ []) [] 170
+  pub low_byte : Pushes (push sipush (pos 300) ∷ []) [] 44
+  pub low_byte_negative : Pushes (push sipush (negsuc 299) ∷ []) [] 212
+  pub doubled : Pushes (op iconst_5 ∷ op dup ∷ op iadd ∷ []) [] 10
+  pub added : Pushes (push bipush (pos 100) ∷ op dup ∷ op iadd ∷ []) [] 200
+  pub subtracted : Pushes (op iconst_2 ∷ op iconst_5 ∷ op isub ∷ []) [] 253
+  pub multiplied : Pushes (push bipush (negsuc 2) ∷ op iconst_5 ∷ op imul ∷ []) [] 241
+  pub and : Pushes (push bipush (pos 12) ∷ push bipush (pos 10) ∷ op iand ∷ []) [] 8
+  pub and_negative : Pushes (op iconst_m1 ∷ push bipush (pos 100) ∷ op iand ∷ []) [] 100
+  pub or : Pushes (push bipush (pos 12) ∷ push bipush (pos 10) ∷ op ior ∷ []) [] 14
+  pub or_negative : Pushes (push bipush (negsuc 127) ∷ op iconst_1 ∷ op ior ∷ []) [] 129
+  pub xor : Pushes (push bipush (pos 12) ∷ push bipush (pos 10) ∷ op ixor ∷ []) [] 6
+  pub xor_negative : Pushes (op iconst_m1 ∷ push bipush (pos 85) ∷ op ixor ∷ []) [] 170
   -- sipush -32768, dup, imul, iconst_4, imul, newarray byte, areturn: 2 to the power of 32 wraps to 0
-  pub wraps_to_zero : Returns (instrs.Push 17 (negsuc 32767) ∷ op 89 ∷ op 104 ∷ op 7 ∷ op 104 ∷ newarray_byte ∷ op 176 ∷ []) [] [] 16
+  pub wraps_to_zero : Returns (push sipush (negsuc 32767) ∷ op dup ∷ op imul ∷ op iconst_4 ∷ op imul ∷ newarray_byte ∷ op areturn ∷ []) [] [] 16
   -- sipush -32768, dup, imul, dup, iadd, newarray byte, areturn: 2 to the power of 31 wraps to a negative
   pub wraps_to_negative : Raises
-      (instrs.Push 17 (negsuc 32767) ∷ op 89 ∷ op 104 ∷ op 89 ∷ op 96 ∷ newarray_byte ∷ op 176 ∷ []) [] raises.NegativeArraySize
+      (push sipush (negsuc 32767) ∷ op dup ∷ op imul ∷ op dup ∷ op iadd ∷ newarray_byte ∷ op areturn ∷ []) [] raises.NegativeArraySize
 
 -- arrays
 pub record WorkedArrays : Type 0 where
-  -- aload_0, iconst_1, baload
-  pub loaded : Pushes (op 42 ∷ op 4 ∷ op 51 ∷ []) (7 ∷ (8 ∷ [])) 8
+  pub loaded : Pushes (op aload_0 ∷ op iconst_1 ∷ op baload ∷ []) (7 ∷ (8 ∷ [])) 8
   -- aload_0, iconst_0, baload, bipush 100, isub, on the byte -5: bytes have a sign
-  pub sign : Pushes (op 42 ∷ op 3 ∷ op 51 ∷ instrs.Push 16 (pos 100) ∷ op 100 ∷ []) (251 ∷ []) 151
-  -- aload_0, iconst_1, bipush 65, bastore, aload_0, areturn
-  pub stored : Returns (op 42 ∷ op 4 ∷ instrs.Push 16 (pos 65) ∷ op 84 ∷ op 42 ∷ op 176 ∷ []) (1 ∷ (2 ∷ [])) (1 ∷ (65 ∷ [])) 0
-  -- aload_0, arraylength
-  pub counted : Pushes (op 42 ∷ op 190 ∷ []) (7 ∷ (8 ∷ (9 ∷ []))) 3
-  -- aload_0, iconst_1, baload, pop, aload_0, areturn
-  pub loads_outside : Raises (op 42 ∷ op 4 ∷ op 51 ∷ op 87 ∷ op 42 ∷ op 176 ∷ []) (7 ∷ []) raises.ArrayIndexOutOfBounds
-  -- aload_0, iconst_m1, baload, pop, aload_0, areturn
-  pub loads_negative : Raises (op 42 ∷ op 2 ∷ op 51 ∷ op 87 ∷ op 42 ∷ op 176 ∷ []) (7 ∷ []) raises.ArrayIndexOutOfBounds
-  -- aload_0, iconst_1, iconst_0, bastore, aload_0, areturn
-  pub stores_outside : Raises (op 42 ∷ op 4 ∷ op 3 ∷ op 84 ∷ op 42 ∷ op 176 ∷ []) (7 ∷ []) raises.ArrayIndexOutOfBounds
+  pub sign : Pushes (op aload_0 ∷ op iconst_0 ∷ op baload ∷ push bipush (pos 100) ∷ op isub ∷ []) (251 ∷ []) 151
+  pub stored : Returns (op aload_0 ∷ op iconst_1 ∷ push bipush (pos 65) ∷ op bastore ∷ op aload_0 ∷ op areturn ∷ []) (1 ∷ (2 ∷ [])) (1 ∷ (65 ∷ [])) 0
+  pub counted : Pushes (op aload_0 ∷ op arraylength ∷ []) (7 ∷ (8 ∷ (9 ∷ []))) 3
+  pub loads_outside : Raises (op aload_0 ∷ op iconst_1 ∷ op baload ∷ op pop ∷ op aload_0 ∷ op areturn ∷ []) (7 ∷ []) raises.ArrayIndexOutOfBounds
+  pub loads_negative : Raises (op aload_0 ∷ op iconst_m1 ∷ op baload ∷ op pop ∷ op aload_0 ∷ op areturn ∷ []) (7 ∷ []) raises.ArrayIndexOutOfBounds
+  pub stores_outside : Raises (op aload_0 ∷ op iconst_1 ∷ op iconst_0 ∷ op bastore ∷ op aload_0 ∷ op areturn ∷ []) (7 ∷ []) raises.ArrayIndexOutOfBounds
   -- aconst_null, iconst_m1, baload, pop, aload_0, areturn: null is tested first
-  pub loads_null : Raises (op 1 ∷ op 2 ∷ op 51 ∷ op 87 ∷ op 42 ∷ op 176 ∷ []) [] raises.NullPointer
-  -- aconst_null, iconst_m1, iconst_0, bastore, aload_0, areturn
-  pub stores_null : Raises (op 1 ∷ op 2 ∷ op 3 ∷ op 84 ∷ op 42 ∷ op 176 ∷ []) [] raises.NullPointer
-  -- aconst_null, arraylength, pop, aload_0, areturn
-  pub counts_null : Raises (op 1 ∷ op 190 ∷ op 87 ∷ op 42 ∷ op 176 ∷ []) [] raises.NullPointer
-  -- iconst_m1, newarray byte, areturn
-  pub negative_size : Raises (op 2 ∷ newarray_byte ∷ op 176 ∷ []) [] raises.NegativeArraySize
+  pub loads_null : Raises (op aconst_null ∷ op iconst_m1 ∷ op baload ∷ op pop ∷ op aload_0 ∷ op areturn ∷ []) [] raises.NullPointer
+  pub stores_null : Raises (op aconst_null ∷ op iconst_m1 ∷ op iconst_0 ∷ op bastore ∷ op aload_0 ∷ op areturn ∷ []) [] raises.NullPointer
+  pub counts_null : Raises (op aconst_null ∷ op arraylength ∷ op pop ∷ op aload_0 ∷ op areturn ∷ []) [] raises.NullPointer
+  pub negative_size : Raises (op iconst_m1 ∷ newarray_byte ∷ op areturn ∷ []) [] raises.NegativeArraySize
 
 -- what is charged
 pub record WorkedCharges : Type 0 where
-  -- iconst_0, newarray byte, areturn
-  pub no_bytes : Returns (op 3 ∷ newarray_byte ∷ op 176 ∷ []) [] [] 16
-  -- sipush 1000, newarray byte, pop, aload_0, areturn
-  pub not_rounded : Returns (instrs.Push 17 (pos 1000) ∷ newarray_byte ∷ op 87 ∷ op 42 ∷ op 176 ∷ []) [] [] 1016
-  -- sipush 1001, newarray byte, pop, aload_0, areturn
-  pub rounded_up : Returns (instrs.Push 17 (pos 1001) ∷ newarray_byte ∷ op 87 ∷ op 42 ∷ op 176 ∷ []) [] [] 1024
+  pub no_bytes : Returns (op iconst_0 ∷ newarray_byte ∷ op areturn ∷ []) [] [] 16
+  pub not_rounded : Returns (push sipush (pos 1000) ∷ newarray_byte ∷ op pop ∷ op aload_0 ∷ op areturn ∷ []) [] [] 1016
+  pub rounded_up : Returns (push sipush (pos 1001) ∷ newarray_byte ∷ op pop ∷ op aload_0 ∷ op areturn ∷ []) [] [] 1024
   -- iconst_1, newarray byte, areturn where no more than 24 bytes may be charged, and where no more than 23 may
-  pub at_threshold : RunsCode (op 4 ∷ newarray_byte ∷ op 176 ∷ []) [] 24 (outcomes.OkBytes (0 ∷ [])) 24
-  pub above_threshold : RunsCode (op 4 ∷ newarray_byte ∷ op 176 ∷ []) [] 23 (outcomes.Stopped charges.Alloc) 24
+  pub at_threshold : RunsCode (op iconst_1 ∷ newarray_byte ∷ op areturn ∷ []) [] 24 (outcomes.OkBytes (0 ∷ [])) 24
+  pub above_threshold : RunsCode (op iconst_1 ∷ newarray_byte ∷ op areturn ∷ []) [] 23 (outcomes.Stopped charges.Alloc) 24
   -- iconst_1, newarray byte, pop, iconst_1, newarray byte, areturn where no more than 48 bytes may be charged,
   -- and where no more than 47 may
-  pub sum_at_threshold : RunsCode (op 4 ∷ newarray_byte ∷ op 87 ∷ op 4 ∷ newarray_byte ∷ op 176 ∷ []) [] 48 (outcomes.OkBytes (0 ∷ [])) 48
+  pub sum_at_threshold : RunsCode (op iconst_1 ∷ newarray_byte ∷ op pop ∷ op iconst_1 ∷ newarray_byte ∷ op areturn ∷ []) [] 48 (outcomes.OkBytes (0 ∷ [])) 48
   pub sum_above_threshold : RunsCode
-      (op 4 ∷ newarray_byte ∷ op 87 ∷ op 4 ∷ newarray_byte ∷ op 176 ∷ []) [] 47 (outcomes.Stopped charges.Alloc) 48
+      (op iconst_1 ∷ newarray_byte ∷ op pop ∷ op iconst_1 ∷ newarray_byte ∷ op areturn ∷ []) [] 47 (outcomes.Stopped charges.Alloc) 48
 
 abbrev pub null_pointer : Name
 null_pointer = raised_class raises.NullPointer
@@ -208,41 +186,41 @@ null_pointer = raised_class raises.NullPointer
 pub record WorkedHandlers : Type 0 where
   -- aconst_null, pop, aconst_null, arraylength, pop, aload_0, areturn, where what the arraylength raises is caught at the first pop,
   -- time and again: the pop is charged each time, the first included
-  pub again : RunsMethods (verify_with (op 1 ∷ op 87 ∷ op 1 ∷ op 190 ∷ op 87 ∷ op 42 ∷ op 176 ∷ [])
+  pub again : RunsMethods (verify_with (op aconst_null ∷ op pop ∷ op aconst_null ∷ op arraylength ∷ op pop ∷ op aload_0 ∷ op areturn ∷ [])
       (record { start = 2; end = 4; handler = 1; catches = None } ∷ []) ∷ []) (outcomes.Stopped charges.Throw) 6
   -- aconst_null, arraylength, pop, aload_0, areturn: the first range doesn't hold the arraylength, the second catches another class, and
   -- the third catches at the pop; the areturn is the first of a handler too
-  pub by_class : RunsMethods (verify_with (op 1 ∷ op 190 ∷ op 87 ∷ op 42 ∷ op 176 ∷ [])
+  pub by_class : RunsMethods (verify_with (op aconst_null ∷ op arraylength ∷ op pop ∷ op aload_0 ∷ op areturn ∷ [])
       (record { start = 0; end = 1; handler = 4; catches = None }
       ∷ record { start = 1; end = 2; handler = 4; catches = Some (codes "X") }
       ∷ record { start = 1; end = 2; handler = 2; catches = Some null_pointer } ∷ []) ∷ []) (outcomes.OkBytes (1 ∷ [])) 2
   -- aconst_null, arraylength, and then pop, aload_0, areturn, or else pop, aconst_null, areturn: of two ranges that catch the first decides
-  pub first_range : RunsMethods (verify_with (op 1 ∷ op 190 ∷ op 87 ∷ op 42 ∷ op 176 ∷ op 87 ∷ op 1 ∷ op 176 ∷ [])
+  pub first_range : RunsMethods (verify_with (op aconst_null ∷ op arraylength ∷ op pop ∷ op aload_0 ∷ op areturn ∷ op pop ∷ op aconst_null ∷ op areturn ∷ [])
       (record { start = 1; end = 2; handler = 2; catches = None } ∷ record { start = 1; end = 2; handler = 5; catches = None } ∷ []) ∷ [])
       (outcomes.OkBytes (1 ∷ [])) 1
   -- the same, where the first range catches a class below the exception's, and the second one above it
   pub superclass_caught : RunsProgram
-      (class_with (verify_with (op 1 ∷ op 190 ∷ op 87 ∷ op 42 ∷ op 176 ∷ op 87 ∷ op 1 ∷ op 176 ∷ [])
+      (class_with (verify_with (op aconst_null ∷ op arraylength ∷ op pop ∷ op aload_0 ∷ op areturn ∷ op pop ∷ op aconst_null ∷ op areturn ∷ [])
       (record { start = 1; end = 2; handler = 2; catches = Some (codes "L") }
       ∷ record { start = 1; end = 2; handler = 5; catches = Some (codes "H") } ∷ []) ∷ [])
       ∷ class_below (codes "L") null_pointer ∷ class_below null_pointer (codes "M") ∷ class_below (codes "M") (codes "H") ∷ []) outcomes.OkNull 1
   -- iconst_0, aconst_null, arraylength, pop, pop: at the handler the exception is the one operand, so the second pop finds none
-  pub one_operand : SticksAfter (op 3 ∷ op 1 ∷ op 190 ∷ op 87 ∷ op 87 ∷ op 42 ∷ op 176 ∷ [])
+  pub one_operand : SticksAfter (op iconst_0 ∷ op aconst_null ∷ op arraylength ∷ op pop ∷ op pop ∷ op aload_0 ∷ op areturn ∷ [])
       (record { start = 2; end = 3; handler = 3; catches = None } ∷ []) 10
   -- iconst_1, newarray byte, areturn, where the newarray is the first of a handler: the throw is charged before the bytes
   pub throw_before_bytes : RunsTo
-      (class_with (verify_with (op 4 ∷ newarray_byte ∷ op 176 ∷ []) (record { start = 0; end = 1; handler = 1; catches = None } ∷ []) ∷ []) ∷ [])
+      (class_with (verify_with (op iconst_1 ∷ newarray_byte ∷ op areturn ∷ []) (record { start = 0; end = 1; handler = 1; catches = None } ∷ []) ∷ []) ∷ [])
       entry [] (record (throws_at_most 0) { alloc = 24 }) (outcomes.Stopped charges.Throw) (throws_cost 1)
   pub bytes_after_throw : RunsTo
-      (class_with (verify_with (op 4 ∷ newarray_byte ∷ op 176 ∷ []) (record { start = 0; end = 1; handler = 1; catches = None } ∷ []) ∷ []) ∷ [])
+      (class_with (verify_with (op iconst_1 ∷ newarray_byte ∷ op areturn ∷ []) (record { start = 0; end = 1; handler = 1; catches = None } ∷ []) ∷ []) ∷ [])
       entry [] (record (throws_at_most 1) { alloc = 23 }) (outcomes.Stopped charges.Alloc) (record (throws_cost 1) { alloc = 24 })
   -- aload_0, areturn, and in the initialisers of A and of B above it aconst_null, arraylength: B's runs first
   pub highest_initialiser : RunsProgram
-      (record (class_with (verify_with (op 42 ∷ op 176 ∷ []) [] ∷ initialiser_with (op 1 ∷ op 190 ∷ []) ∷ [])) { superclass = Some (codes "B") }
-      ∷ record (class_with (initialiser_with (op 1 ∷ op 190 ∷ []) ∷ [])) { name = codes "B" } ∷ [])
+      (record (class_with (verify_with (op aload_0 ∷ op areturn ∷ []) [] ∷ initialiser_with (op aconst_null ∷ op arraylength ∷ []) ∷ [])) { superclass = Some (codes "B") }
+      ∷ record (class_with (initialiser_with (op aconst_null ∷ op arraylength ∷ []) ∷ [])) { name = codes "B" } ∷ [])
       (outcomes.Init (codes "B") null_pointer messages.Null) 0
   -- aload_0, areturn, and in the initialiser aconst_null, arraylength
-  pub by_initialiser : RunsMethods (verify_with (op 42 ∷ op 176 ∷ []) [] ∷ initialiser_with (op 1 ∷ op 190 ∷ []) ∷ [])
+  pub by_initialiser : RunsMethods (verify_with (op aload_0 ∷ op areturn ∷ []) [] ∷ initialiser_with (op aconst_null ∷ op arraylength ∷ []) ∷ [])
       (outcomes.Init (codes "A") null_pointer messages.Null) 0
 
 -- ---- beginnings

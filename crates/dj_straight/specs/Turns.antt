@@ -15,8 +15,8 @@ use Rattle.dj_straight.specs.trusted.Step.{result_outcome}
 use Rattle.dj_straight.specs.trusted.Charges as model
 use Rattle.dj_straight.specs.trusted.Charges.{Amount, paid, own_amounts}
 use Rattle.dj_straight.specs.Machines.{straight_effect}
-use Rattle.dj_straight.specs.declared.machine.pay.Payment.{Payment}
-use Rattle.dj_straight.specs.declared.machine.pay.Payment.TheVariants as payments
+use Rattle.dj_straight.specs.declared.machine.pay.Charged.{Charged}
+use Rattle.dj_straight.specs.declared.machine.pay.Charged.TheVariants as charged
 use Rattle.dj_straight.specs.declared.machine.turns.Advance.{Advance}
 use Rattle.dj_straight.specs.declared.machine.turns.Advance.TheVariants as turns
 
@@ -24,13 +24,13 @@ use Rattle.dj_straight.specs.declared.machine.turns.Advance.TheVariants as turns
 abbrev pub straight_amounts : Instruction → List Value → List Amount
 straight_amounts i operands = own_amounts [] (Some i) operands
 
-abbrev pub payment_view : Payment → model.Payment
-payment_view (payments.Paid costs) = model.Paid costs
-payment_view (payments.Exceeds costs) = model.Exceeds charges.Alloc costs
+abbrev pub charged_view : Charged → model.Payment
+charged_view (charged.Paid costs) = model.Paid costs
+charged_view (charged.Exceeds costs) = model.Exceeds charges.Alloc costs
 
-abbrev pub PaysWithin : Thresholds → Payment → Type 0
-PaysWithin most (payments.Paid costs) = costs.alloc ≤ most.alloc
-PaysWithin most (payments.Exceeds costs) = ⊤
+abbrev pub PaysWithin : Thresholds → Charged → Type 0
+PaysWithin most (charged.Paid costs) = costs.alloc ≤ most.alloc
+PaysWithin most (charged.Exceeds costs) = ⊤
 
 -- the run ends in this way where an instruction ends it
 abbrev pub FlowEnds : Heap → Flow → Outcome → Type 0

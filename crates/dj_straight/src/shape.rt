@@ -85,10 +85,7 @@ fn kind_of(value: Value) -> Kind
 fn kind_at(locals: &[Option<Kind>], slot: usize) -> Option<Kind>
     ensures { result ≡ kind_at locals.now slot }
 {
-    match locals.get(slot) {
-        None => None,
-        Some(kind) => *kind,
-    }
+    *locals.get(slot)?
 }
 
 // Where this slot is the second of a long, the long loses its kind.

@@ -13,7 +13,7 @@ use Rattle.dj_tokens.proofs.UnitLaws.{word_escape, word_byte, units_skip}
 abbrev digit : ℕ → Bool
 digit b = is_digit b 16
 
--- what an escape at the front has
+-- what an escape at the beginning has
 record Escape (bytes : List ℕ) : Type 0 where
   pub first : slice_index bytes 0 ≡ 92
   pub second : (slice_index bytes 1 == 117) ≡ true
@@ -32,7 +32,7 @@ escape_from bytes a b c d =
     and_from ((slice_index bytes 0 == 92) && (slice_index bytes 1 == 117) && nat_le 6 (length bytes)) (list_all digit (slice_range bytes 2 6))
     (and_from ((slice_index bytes 0 == 92) && (slice_index bytes 1 == 117)) (nat_le 6 (length bytes)) (and_from (slice_index bytes 0 == 92) (slice_index bytes 1 == 117) a b) (le-leb 6 (length bytes) c)) d
 
--- a byte that stands in no escape but at its front
+-- a byte that stands in no escape but at its beginning
 record Stops (c : ℕ) : Type 0 where
   pub other : (c == 117) ≡ false
   pub no_digit : digit c ≡ false

@@ -34,7 +34,7 @@ past_piece line column (suc n) b bytes some =
     ∙ tokens_skip line (column + 1) n bytes
     ∙ ap (λ (k : ℕ). tokens_after line k 0 (drop n bytes)) (omega arith)
 
--- the piece at the front, and the tokens after it
+-- the piece at the beginning, and the tokens after it
 pub at_word : (line column : ℕ) (bytes : List ℕ) (piece : Piece) → piece ≡ piece_of bytes → 0 < length bytes → is_blank (slice_index bytes 0) ≡ false → 0 < piece.size
     → tokens_after line column 0 bytes ≡ placed_at line column piece.tokens ++ tokens_after line (column + piece.size) 0 (drop piece.size bytes)
 at_word line column [] piece same full word some = absurd (omega arith)

@@ -38,7 +38,7 @@ fn before_colon(bytes: &[u8], at: usize, unit: u16) -> Option<&[u8]>
     Some(&bytes[..at])
 }
 
-/// The unit at the front of a word's bytes, and how many of them it is.
+/// The first unit of a word's bytes, and how many bytes it takes.
 #[tactic(auto, unfolding(crate::specs::trusted::Words::word_units), using(crate::proofs::UnitLaws::word_steps))]
 fn first_unit(bytes: &[u8]) -> (u16, usize)
     requires { 0 < length bytes.now }

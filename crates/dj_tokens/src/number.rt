@@ -62,7 +62,7 @@ pub fn number_of(bytes: &[u8], low: i64, high: i64) -> Number
     }
 }
 
-/// The bytes after a minus at the front.
+/// The bytes after a minus, where they begin with one.
 fn after_minus(bytes: &[u8]) -> Option<&[u8]>
     ensures { MatchOption result (slice_index (word_units 0 bytes.now) 0 ≢ 45) (λ x. word_units 0 bytes.now ≡ 45 ∷ word_units 0 x.now) }
 {

@@ -3,7 +3,7 @@ ghost use Rattle.dj_tokens.specs.trusted.Words.{word_units};
 
 use crate::bytes::escape_at;
 
-/// The unit at the front of a word's bytes, and the bytes after it.
+/// The first unit of a word's bytes, and the bytes after it.
 #[tactic(auto, unfolding(crate::specs::trusted::Words::word_units), using(crate::proofs::UnitLaws::word_steps))]
 pub fn unit_at(bytes: &[u8]) -> Option<(u16, &[u8])>
     ensures units { MatchOption result (word_units 0 bytes.now ≡ []) (λ x. word_units 0 bytes.now ≡ x.0 ∷ word_units 0 x.1.now) }

@@ -22,17 +22,18 @@ use Rattle.dj_model.specs.trusted.Charging.{new_account}
 use Rattle.dj_model.specs.trusted.Effects.{effect, used_class}
 use Rattle.dj_model.specs.trusted.Initialisation.{Ready, Waits, is_initialised, mark, with_constants, constants_of, initialise, new_frame}
 use Rattle.dj_model.specs.trusted.Step.{Ended, Went, part_of, prepared, settle, step, unwound}
-use Rattle.dj_model.specs.SmallRuns.{a_type, a_with, c_type, catch, class, class_with, code, entry, field, field_with, initialiser_with, invokeinterface, lang_name, ldc, method, method_desc, method_with, newarray, op, throws_plainly, verify_with}
+use Rattle.dj_model.specs.SmallRuns.{a_type, a_with, c_type, catch, class, class_with, code, entry, field, field_with, initialiser_with, interface_method, lang_name, constant, method, method_desc, method_with, newarray, op, throws_plainly, verify_with}
 use Rattle.dj_turning.specs.Memory.{NeedsNoMemory, makes, raises}
+use Rattle.dj_ops.specs.Mnemonics.{nop, iconst_5, aload_0, iaload, iastore, pop, iadd, ireturn, areturn, return, getstatic, getfield, putfield, invokevirtual, invokespecial, invokestatic, new, anewarray, arraylength, athrow, checkcast, instanceof}
 
 -- ---- which instructions make something
 
-made : makes (class 187 c_type) ∷ makes (newarray 8) ∷ makes (class 189 c_type) ∷ makes (ldc (AText (codes "a"))) ∷ makes (method 182 c_type (codes "f") [] None) ∷ makes (method 183 c_type (codes "f") [] None) ∷ makes (method 184 c_type (codes "f") [] None) ∷ makes (invokeinterface 1 c_type (codes "f") [] None) ∷ []
+made : makes (class new c_type) ∷ makes (newarray 8) ∷ makes (class anewarray c_type) ∷ makes (constant (AText (codes "a"))) ∷ makes (method invokevirtual c_type (codes "f") [] None) ∷ makes (method invokespecial c_type (codes "f") [] None) ∷ makes (method invokestatic c_type (codes "f") [] None) ∷ makes (interface_method 1 c_type (codes "f") [] None) ∷ []
     ≡ true ∷ true ∷ true ∷ true ∷ true ∷ true ∷ true ∷ true ∷ []
 unfolding instruction_of simple
 made = refl
 
-not_made : makes (op 0) ∷ makes (op 42) ∷ makes (ldc (AnInt (pos 1))) ∷ makes (op 46) ∷ makes (op 79) ∷ makes (op 96) ∷ makes (op 172) ∷ makes (op 190) ∷ makes (op 191) ∷ makes (field 178 c_type (codes "s") int) ∷ makes (field 181 c_type (codes "n") int) ∷ makes (class 192 c_type) ∷ makes (class 193 c_type) ∷ []
+not_made : makes (op nop) ∷ makes (op aload_0) ∷ makes (constant (AnInt (pos 1))) ∷ makes (op iaload) ∷ makes (op iastore) ∷ makes (op iadd) ∷ makes (op ireturn) ∷ makes (op arraylength) ∷ makes (op athrow) ∷ makes (field getstatic c_type (codes "s") int) ∷ makes (field putfield c_type (codes "n") int) ∷ makes (class checkcast c_type) ∷ makes (class instanceof c_type) ∷ []
     ≡ false ∷ false ∷ false ∷ false ∷ false ∷ false ∷ false ∷ false ∷ false ∷ false ∷ false ∷ false ∷ false ∷ []
 unfolding instruction_of simple
 not_made = refl
@@ -42,8 +43,8 @@ not_made = refl
 -- A's verify is this code; C has a field n, a static field s and an initialiser; and there is the class Throwable
 abbrev program : List Instruction → List Range → Program
 program instructions ranges =
-    a_with (verify_with instructions ranges ∷ method_with 9 (codes "f") [] (Some int) (code (op 8 ∷ op 172 ∷ []) []) ∷ [])
-    ∷ class_with (codes "C") (field_with 0 (codes "n") int None ∷ field_with 8 (codes "s") int None ∷ []) (initialiser_with (op 177 ∷ []) ∷ [])
+    a_with (verify_with instructions ranges ∷ method_with 9 (codes "f") [] (Some int) (code (op iconst_5 ∷ op ireturn ∷ []) []) ∷ [])
+    ∷ class_with (codes "C") (field_with 0 (codes "n") int None ∷ field_with 8 (codes "s") int None ∷ []) (initialiser_with (op return ∷ []) ∷ [])
     ∷ class_with (lang_name (codes "Throwable")) [] [] ∷ []
 
 -- an object of C, and one of Throwable
@@ -70,13 +71,13 @@ NeedsNone instructions ranges s = NeedsNoMemory (program instructions ranges) []
 
 -- ---- steps that need none
 
-nop : NeedsNone (op 0 ∷ op 177 ∷ []) [] (state true (verify 0 [] ∷ []))
+plain_step : NeedsNone (op nop ∷ op return ∷ []) [] (state true (verify 0 [] ∷ []))
 unfolding instruction_of simple code_of on_values effect used_class settle step
-nop = record {
+plain_step = record {
   top = verify 0 [];
   below = [];
   frames = refl;
-  instruction = op 0;
+  instruction = op nop;
   at = refl;
   makes = refl;
   ready = refl;
@@ -86,13 +87,13 @@ nop = record {
 }
 
 -- of C's object, and of C itself once it is initialised
-get_field : NeedsNone (field 180 c_type (codes "n") int ∷ op 87 ∷ []) [] (state true (verify 0 (values.Ref 1 ∷ []) ∷ []))
+get_field : NeedsNone (field getfield c_type (codes "n") int ∷ op pop ∷ []) [] (state true (verify 0 (values.Ref 1 ∷ []) ∷ []))
 unfolding int_wrap instruction_of simple code_of most_classes chain_of interfaces_from interfaces_above is_subclass is_subtype field_order resolve_field field_count place_of on_values effect used_class settle step
 get_field = record {
   top = verify 0 (values.Ref 1 ∷ []);
   below = [];
   frames = refl;
-  instruction = field 180 c_type (codes "n") int;
+  instruction = field getfield c_type (codes "n") int;
   at = refl;
   makes = refl;
   ready = refl;
@@ -101,13 +102,13 @@ get_field = record {
   goes = refl;
 }
 
-get_static : NeedsNone (field 178 c_type (codes "s") int ∷ op 87 ∷ []) [] (state true (verify 0 [] ∷ []))
+get_static : NeedsNone (field getstatic c_type (codes "s") int ∷ op pop ∷ []) [] (state true (verify 0 [] ∷ []))
 unfolding int_wrap instruction_of simple code_of has_initialiser most_classes chain_of interfaces_from field_order resolve_field static_place on_values effect used_class is_initialised mark with_constants constants_of initialise settle step
 get_static = record {
   top = verify 0 [];
   below = [];
   frames = refl;
-  instruction = field 178 c_type (codes "s") int;
+  instruction = field getstatic c_type (codes "s") int;
   at = refl;
   makes = refl;
   ready = refl;
@@ -117,13 +118,13 @@ get_static = record {
 }
 
 -- to verify, which called f
-return_to_caller : NeedsNone (method 184 a_type (codes "f") [] (Some int) ∷ op 87 ∷ []) [] (state true (f ∷ verify 0 [] ∷ []))
+return_to_caller : NeedsNone (method invokestatic a_type (codes "f") [] (Some int) ∷ op pop ∷ []) [] (state true (f ∷ verify 0 [] ∷ []))
 unfolding instruction_of simple code_of on_values effect used_class settle step
 return_to_caller = record {
   top = f;
   below = verify 0 [] ∷ [];
   frames = refl;
-  instruction = op 172;
+  instruction = op ireturn;
   at = refl;
   makes = refl;
   ready = refl;
@@ -132,13 +133,13 @@ return_to_caller = record {
   goes = refl;
 }
 
-caught_throw : NeedsNone (op 191 ∷ op 87 ∷ []) (catch (lang_name (codes "Throwable")) 0 1 1 ∷ []) (state true (verify 0 (values.Ref 2 ∷ []) ∷ []))
+caught_throw : NeedsNone (op athrow ∷ op pop ∷ []) (catch (lang_name (codes "Throwable")) 0 1 1 ∷ []) (state true (verify 0 (values.Ref 2 ∷ []) ∷ []))
 unfolding instruction_of simple code_of most_classes chain_of interfaces_from interfaces_above is_subclass is_subtype on_values effect used_class unwound settle step
 caught_throw = record {
   top = verify 0 (values.Ref 2 ∷ []);
   below = [];
   frames = refl;
-  instruction = op 191;
+  instruction = op athrow;
   at = refl;
   makes = refl;
   ready = refl;
@@ -186,43 +187,43 @@ ending : {program : Program} {s : State} (outcome : Outcome) (last : State) → 
 ending outcome last ends n = let e : Went n.next ≡ Ended outcome last = sym n.goes ∙ ends in absurd cc
 
 -- of a class that is initialised already
-new_object : NeedsNone (class 187 c_type ∷ op 87 ∷ []) [] (state true (verify 0 [] ∷ [])) → ⊥
+new_object : NeedsNone (class new c_type ∷ op pop ∷ []) [] (state true (verify 0 [] ∷ [])) → ⊥
 unfolding instruction_of simple code_of
 new_object = making (verify 0 []) [] (New c_type) refl refl refl
 
-text : NeedsNone (ldc (AText (codes "a")) ∷ op 87 ∷ []) [] (state true (verify 0 [] ∷ [])) → ⊥
+text : NeedsNone (constant (AText (codes "a")) ∷ op pop ∷ []) [] (state true (verify 0 [] ∷ [])) → ⊥
 unfolding instruction_of simple code_of
 text = making (verify 0 []) [] (PushText (codes "a")) refl refl refl
 
-static_call : NeedsNone (method 184 a_type (codes "f") [] (Some int) ∷ op 87 ∷ []) [] (state true (verify 0 [] ∷ [])) → ⊥
+static_call : NeedsNone (method invokestatic a_type (codes "f") [] (Some int) ∷ op pop ∷ []) [] (state true (verify 0 [] ∷ [])) → ⊥
 unfolding instruction_of simple code_of
-static_call = making (verify 0 []) [] (method 184 a_type (codes "f") [] (Some int)) refl refl refl
+static_call = making (verify 0 []) [] (method invokestatic a_type (codes "f") [] (Some int)) refl refl refl
 
 -- a call of an object's method, which would be none here
-object_call : NeedsNone (method 182 c_type (codes "f") [] (Some int) ∷ op 87 ∷ []) [] (state true (verify 0 (values.Ref 1 ∷ []) ∷ [])) → ⊥
+object_call : NeedsNone (method invokevirtual c_type (codes "f") [] (Some int) ∷ op pop ∷ []) [] (state true (verify 0 (values.Ref 1 ∷ []) ∷ [])) → ⊥
 unfolding instruction_of simple code_of
-object_call = making (verify 0 (values.Ref 1 ∷ [])) [] (method 182 c_type (codes "f") [] (Some int)) refl refl refl
+object_call = making (verify 0 (values.Ref 1 ∷ [])) [] (method invokevirtual c_type (codes "f") [] (Some int)) refl refl refl
 
-throw_of_null : NeedsNone (op 191 ∷ op 87 ∷ []) (catch (lang_name (codes "Throwable")) 0 1 1 ∷ []) (state true (verify 0 (values.Ref 0 ∷ []) ∷ [])) → ⊥
+throw_of_null : NeedsNone (op athrow ∷ op pop ∷ []) (catch (lang_name (codes "Throwable")) 0 1 1 ∷ []) (state true (verify 0 (values.Ref 0 ∷ []) ∷ [])) → ⊥
 unfolding instruction_of simple code_of on_values effect
 throw_of_null = raising (verify 0 (values.Ref 0 ∷ [])) [] Throw refl refl refl
 
-get_field_of_null : NeedsNone (field 180 c_type (codes "n") int ∷ op 87 ∷ []) [] (state true (verify 0 (values.Ref 0 ∷ []) ∷ [])) → ⊥
+get_field_of_null : NeedsNone (field getfield c_type (codes "n") int ∷ op pop ∷ []) [] (state true (verify 0 (values.Ref 0 ∷ []) ∷ [])) → ⊥
 unfolding int_wrap instruction_of simple code_of most_classes chain_of interfaces_from interfaces_above is_subclass is_subtype field_order resolve_field field_count place_of on_values effect
-get_field_of_null = raising (verify 0 (values.Ref 0 ∷ [])) [] (field 180 c_type (codes "n") int) refl refl refl
+get_field_of_null = raising (verify 0 (values.Ref 0 ∷ [])) [] (field getfield c_type (codes "n") int) refl refl refl
 
 -- C's initialiser stands above first
-get_static_before : NeedsNone (field 178 c_type (codes "s") int ∷ op 87 ∷ []) [] (state false (verify 0 [] ∷ [])) → ⊥
+get_static_before : NeedsNone (field getstatic c_type (codes "s") int ∷ op pop ∷ []) [] (state false (verify 0 [] ∷ [])) → ⊥
 unfolding int_wrap instruction_of simple code_of has_initialiser most_classes chain_of interfaces_from field_order resolve_field static_place used_class is_initialised mark with_constants constants_of initialise
-get_static_before = waiting (verify 0 []) [] (field 178 c_type (codes "s") int)
-    (state true (new_frame (program (field 178 c_type (codes "s") int ∷ op 87 ∷ []) []) (initialiser_of (codes "C")) [] ∷ verify 0 [] ∷ [])) refl refl refl
+get_static_before = waiting (verify 0 []) [] (field getstatic c_type (codes "s") int)
+    (state true (new_frame (program (field getstatic c_type (codes "s") int ∷ op pop ∷ []) []) (initialiser_of (codes "C")) [] ∷ verify 0 [] ∷ [])) refl refl refl
 
 -- nobody called verify
-last_return : NeedsNone (op 176 ∷ []) [] (state true (verify 0 (values.Ref 0 ∷ []) ∷ [])) → ⊥
+last_return : NeedsNone (op areturn ∷ []) [] (state true (verify 0 (values.Ref 0 ∷ []) ∷ [])) → ⊥
 unfolding instruction_of simple code_of on_values effect used_class settle step
 last_return = ending outcomes.OkNull (state true (verify 0 (values.Ref 0 ∷ []) ∷ [])) refl
 
 -- nothing catches it
-uncaught_throw : NeedsNone (op 191 ∷ []) [] (state true (verify 0 (values.Ref 2 ∷ []) ∷ [])) → ⊥
+uncaught_throw : NeedsNone (op athrow ∷ []) [] (state true (verify 0 (values.Ref 2 ∷ []) ∷ [])) → ⊥
 unfolding instruction_of simple code_of most_classes chain_of interfaces_from interfaces_above is_subclass is_subtype on_values effect used_class unwound settle step
 uncaught_throw = ending (throws_plainly (codes "Throwable")) (state true (verify 0 (values.Ref 2 ∷ []) ∷ [])) refl

@@ -69,10 +69,10 @@ pub(crate) fn call<H: Host>(
         own,
         site.method,
     )?;
-    match invoked {
-        Some(invoked) => settle_call(alloc, image, run, host, invoked),
-        None => Err(AllocError),
-    }
+    let Some(invoked) = invoked else {
+        return Err(AllocError);
+    };
+    settle_call(alloc, image, run, host, invoked)
 }
 
 // What follows a call.

@@ -22,7 +22,7 @@ fn object_place(table: &ClassTable, members: &Members, field: u32) -> u32
     others + table.instance_fields_before(class, member)
 }
 
-/// Those of all fields.
+/// The places of all fields.
 pub fn object_places(
     alloc: Global,
     table: &ClassTable,

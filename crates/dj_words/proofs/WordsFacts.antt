@@ -126,7 +126,7 @@ no_value = refl
 
 -- ---- numbers
 
--- the least number, ten digits with zeros in front, and the greatest number
+-- the least number, ten digits with leading zeros, and the greatest number
 thresholds : jobs_of (codes "verify c A in --alloc=0" ∷ codes "verify c A in --alloc 32" ∷ codes "verify c A in --alloc=0000000009" ∷ codes "verify c A in --alloc 1073741824" ∷ codes "verify c A in --invoke=0" ∷ codes "verify c A in --invoke=0000000009" ∷ codes "verify c A in --invoke 1073741824" ∷ [])
     ≡ verified 0 1000000 1000000 1000000 ∷ verified 32 1000000 1000000 1000000 ∷ verified 9 1000000 1000000 1000000 ∷ verified 1073741824 1000000 1000000 1000000 ∷ verified 67108864 0 1000000 1000000 ∷ verified 67108864 9 1000000 1000000 ∷ verified 67108864 1073741824 1000000 1000000 ∷ []
 thresholds = refl

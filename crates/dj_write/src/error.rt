@@ -5,7 +5,7 @@ use thiserror::Error;
 #[derive(Clone, Copy, Debug, PartialEq, Eq, Error)]
 pub enum WriteError {
     /// There was no memory.
-    #[error("there was no memory")]
+    #[error("out of memory")]
     Memory,
 }
 

@@ -78,10 +78,10 @@ impl Print for Narrow {
         if count == 0 {
             return Err(io::Error::from(ErrorKind::StorageFull));
         }
-        match taken.extend_from_slice(&bytes[..count]) {
-            Ok(()) => Ok(count),
-            Err(_) => Err(io::Error::from(ErrorKind::OutOfMemory)),
-        }
+        taken
+            .extend_from_slice(&bytes[..count])
+            .map_err(|_| io::Error::from(ErrorKind::OutOfMemory))?;
+        Ok(count)
     }
 }
 

@@ -118,7 +118,7 @@ impl<R: System + Eprint + AllocGlobal + Clone + Drop> Folders for SystemFiles<R>
 }
 
 impl<R: System + Eprint + AllocGlobal + Clone + Drop> OpensFiles for SystemFiles<R> {
-    type File = NotedFile<R>;
+    type Opened = NotedFile<R>;
 
     ghost contents = { λ _. None };
 

@@ -180,8 +180,6 @@ pub fn class_file(alloc: Global, text: &[u8]) -> Result<Vec<u8>, AllocError> {
     if text.len() > 9_999 {
         return Err(AllocError);
     }
-    match assemble(alloc, text) {
-        Ok(file) => Vec::from_slice(alloc, file.as_slice()),
-        Err(_) => Err(AllocError),
-    }
+    let file = assemble(alloc, text).map_err(|_| AllocError)?;
+    Vec::from_slice(alloc, file.as_slice())
 }

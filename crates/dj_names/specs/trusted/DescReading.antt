@@ -1,4 +1,4 @@
--- How one type is spelled in a descriptor: the type at the front of bytes, and the bytes after it.
+-- How one type is spelled in a descriptor: the type that bytes begin with, and the bytes after it.
 use Rattle.std.specs.Prelude.{ℕ, zero, suc, ◌+◌, ◌++◌, Bool, true, false, nat_eq, nat_lt, nat_le, if◌then◌else◌, List, [], ◌∷◌, length, Option, Some, None}
 use Rattle.dj_bytes.specs.trusted.Options.{◌>>=◌}
 use Rattle.dj_names.specs.declared.descriptor.Base.{Base}
@@ -23,7 +23,7 @@ base_at c =
     else (if nat_eq c 68 then Some bases.Double
     else None)))))))
 
--- the brackets at the front, with n before them
+-- the brackets that the bytes begin with, with n more before them
 unfoldable pub dims_read : ℕ → List ℕ → Option (ℕ × List ℕ)
 dims_read n [] = Some (n, [])
 dims_read n (b ∷ more) = if nat_eq b 91 then (if nat_lt n 255 then dims_read (n + 1) more else None) else Some (n, b ∷ more)

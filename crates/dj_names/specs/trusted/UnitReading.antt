@@ -1,4 +1,4 @@
--- How one unit is spelled: the unit at the front of bytes, and the bytes after it. Public clauses cite it only through Tests.
+-- How one unit is spelled: the unit that bytes begin with, and the bytes after it. Public clauses cite it only through Tests.
 use Rattle.std.specs.Prelude.{ℕ, ◌+◌, ◌-◌, ◌*◌, Option, Some, None, List, [], ◌∷◌, Bool, nat_lt, nat_le, nat_eq, ◌&&◌, ◌||◌, if◌then◌else◌}
 
 -- the second or third byte of a spelling

@@ -7,7 +7,7 @@ ghost use Rattle.dj_names.specs.declared.run.Element.TheVariants.{Byte};
 ghost use Rattle.dj_straight.specs.Methods.{operation_view};
 ghost use Rattle.dj_straight.specs.Machines.{machine_view, Does};
 
-use crate::machine::heap::{Found, element};
+use crate::machine::heap::{Referent, element};
 use crate::machine::parts::{Progress, StraightMachine};
 use crate::machine::values::{computed, is_of_kind, last_slot, low_byte, store_local};
 use crate::program::IntOperation;
@@ -108,9 +108,9 @@ impl StraightMachine {
             return Ok(Progress::IllFormed);
         };
         match self.heap.array(reference) {
-            Found::Null => Ok(Progress::Raises(Raised::NullPointer)),
-            Found::NoArray => Ok(Progress::Broken),
-            Found::Bytes(bytes) => match element(bytes, index) {
+            Referent::Null => Ok(Progress::Raises(Raised::NullPointer)),
+            Referent::NoArray => Ok(Progress::Broken),
+            Referent::Bytes(bytes) => match element(bytes, index) {
                 None => Ok(Progress::Raises(Raised::ArrayIndexOutOfBounds)),
                 Some(byte) => self.push(Value::Int(i32::from(byte))),
             },
@@ -131,9 +131,9 @@ impl StraightMachine {
             return Progress::IllFormed;
         };
         match self.heap.array(reference) {
-            Found::Null => Progress::Raises(Raised::NullPointer),
-            Found::NoArray => Progress::Broken,
-            Found::Bytes(bytes) => match element(bytes, index) {
+            Referent::Null => Progress::Raises(Raised::NullPointer),
+            Referent::NoArray => Progress::Broken,
+            Referent::Bytes(bytes) => match element(bytes, index) {
                 None => Progress::Raises(Raised::ArrayIndexOutOfBounds),
                 Some(_) => {
                     self.heap.store(reference, index, low_byte(value));
@@ -151,9 +151,9 @@ impl StraightMachine {
             return Ok(Progress::IllFormed);
         };
         match self.heap.array(reference) {
-            Found::Null => Ok(Progress::Raises(Raised::NullPointer)),
-            Found::NoArray => Ok(Progress::Broken),
-            Found::Bytes(bytes) => {
+            Referent::Null => Ok(Progress::Raises(Raised::NullPointer)),
+            Referent::NoArray => Ok(Progress::Broken),
+            Referent::Bytes(bytes) => {
                 let length = bytes.len() as i32;
                 self.push(Value::Int(length))
             }

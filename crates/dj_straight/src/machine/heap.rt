@@ -4,7 +4,7 @@ ghost use Rattle.dj_names.specs.declared.run.Element.TheVariants.{Byte};
 ghost use Rattle.dj_straight.specs.trusted.State.{Heap as ModelHeap};
 ghost use Rattle.dj_straight.specs.trusted.Effects.{array_at, array_size, element_at, with_element, with_new, with_object, next_number, new_contents, IsArray};
 ghost use Rattle.dj_straight.specs.Arrays.{byte_array, heap_of};
-ghost use Rattle.dj_straight.specs.Machines.{found_view, IsShort};
+ghost use Rattle.dj_straight.specs.Machines.{referent_view, IsShort};
 
 use std::alloc::{AllocError, Global};
 use std::marker::Model;
@@ -28,7 +28,7 @@ impl Model for Heap {
 
 /// What a reference is.
 #[derive(Clone, Copy)]
-pub enum Found<'a> {
+pub enum Referent<'a> {
     Null,
     /// An object that was never made.
     NoArray,
@@ -57,16 +57,16 @@ impl Heap {
     }
 
     /// What the reference is.
-    pub fn array(&self, reference: u32) -> Found<'_>
-        ensures found { array_at self.now.objects reference ≡ found_view result }
+    pub fn array(&self, reference: u32) -> Referent<'_>
+        ensures found { array_at self.now.objects reference ≡ referent_view result }
         ensures short { IsShort result }
     {
         if reference == 0 {
-            return Found::Null;
+            return Referent::Null;
         }
         match self.arrays.get(reference as usize - 1) {
-            Some(bytes) => Found::Bytes(bytes.as_slice()),
-            None => Found::NoArray,
+            Some(bytes) => Referent::Bytes(bytes.as_slice()),
+            None => Referent::NoArray,
         }
     }
 

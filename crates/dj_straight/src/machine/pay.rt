@@ -2,7 +2,7 @@ ghost use Rattle.std.specs.Prelude.{◌≡◌, ◌≤◌, Some};
 ghost use Rattle.dj_names.specs.declared.run.Element.TheVariants.{Byte};
 ghost use Rattle.dj_straight.specs.trusted.Charges.{array_amount, paid};
 ghost use Rattle.dj_straight.specs.Methods.{action_view};
-ghost use Rattle.dj_straight.specs.Turns.{straight_amounts, payment_view, PaysWithin};
+ghost use Rattle.dj_straight.specs.Turns.{straight_amounts, charged_view, PaysWithin};
 
 use crate::machine::operands::Operands;
 use crate::program::Action;
@@ -10,7 +10,7 @@ use dj_names::{Costs, Thresholds, Value};
 
 /// The sums after the next instruction's charges.
 #[derive(Clone, Copy)]
-pub enum Payment {
+pub enum Charged {
     Paid(Costs),
     /// The allocated bytes pass their threshold.
     Exceeds(Costs),
@@ -28,13 +28,13 @@ fn byte_array_amount(operands: &Operands) -> u64
 }
 
 /// The charges are added.
-pub fn pay(action: Action, operands: &Operands, costs: Costs, most: &Thresholds) -> Payment
+pub fn pay(action: Action, operands: &Operands, costs: Costs, most: &Thresholds) -> Charged
     requires costs { costs.alloc ≤ 1073741824 }
-    ensures value { paid most.now costs (straight_amounts (action_view action) operands.now) ≡ payment_view result }
+    ensures value { paid most.now costs (straight_amounts (action_view action) operands.now) ≡ charged_view result }
     ensures within { costs.alloc ≤ most.now.alloc → PaysWithin most.now result }
 {
     if action != Action::NewByteArray {
-        return Payment::Paid(costs);
+        return Charged::Paid(costs);
     }
     let charged = Costs {
         alloc: costs.alloc + byte_array_amount(operands),
@@ -43,8 +43,8 @@ pub fn pay(action: Action, operands: &Operands, costs: Costs, most: &Thresholds)
         throw: costs.throw,
     };
     if charged.alloc > most.alloc {
-        Payment::Exceeds(charged)
+        Charged::Exceeds(charged)
     } else {
-        Payment::Paid(charged)
+        Charged::Paid(charged)
     }
 }

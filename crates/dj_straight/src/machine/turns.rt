@@ -13,9 +13,9 @@ ghost use Rattle.dj_straight.specs.Turns.{straight_amounts, TurnsDo, IsDone, Goe
 
 use crate::machine::StraightEnding;
 use crate::machine::first::unsigned_bytes;
-use crate::machine::heap::{Found, Heap};
+use crate::machine::heap::{Heap, Referent};
 use crate::machine::parts::{Progress, StraightMachine};
-use crate::machine::pay::{Payment, pay};
+use crate::machine::pay::{Charged, pay};
 use crate::program::Action;
 use dj_names::{Charge, Costs, Message, Name, Outcome, Raised, Thresholds};
 use std::alloc::{AllocError, Global};
@@ -49,9 +49,9 @@ fn returned(alloc: Global, heap: &Heap, reference: u32) -> Result<Outcome, Alloc
     ensures { IfOk result (λ outcome. outcome ≡ result_outcome heap.now (Some (values.Ref reference))) }
 {
     match heap.array(reference) {
-        Found::Null => Ok(Outcome::OkNull),
-        Found::NoArray => Ok(Outcome::Link),
-        Found::Bytes(bytes) => Ok(Outcome::OkBytes(unsigned_bytes(alloc, bytes)?)),
+        Referent::Null => Ok(Outcome::OkNull),
+        Referent::NoArray => Ok(Outcome::Link),
+        Referent::Bytes(bytes) => Ok(Outcome::OkBytes(unsigned_bytes(alloc, bytes)?)),
     }
 }
 
@@ -96,8 +96,8 @@ impl StraightMachine {
             → (machine_view self.new ≡ machine_view self.old) × (result ≡ Ok (turns.End (record { outcome = Stopped Alloc; costs = now }))) }
     {
         match pay(action, &self.operands, costs, most) {
-            Payment::Paid(costs) => self.done(alloc, action, costs),
-            Payment::Exceeds(costs) => end(Outcome::Stopped(Charge::Alloc), costs),
+            Charged::Paid(costs) => self.done(alloc, action, costs),
+            Charged::Exceeds(costs) => end(Outcome::Stopped(Charge::Alloc), costs),
         }
     }
 }

@@ -18,16 +18,16 @@ pub overflow_cast-result : goal.overflow_cast-result
 overflow_cast-result c =
     omega (arith, number_below c.args.starts.now c.requires.rise c.in-Ok-binary_search.number c.in-Ok-binary_search.ensures.bound, c.type_inv.starts c.in-Ok-binary_search.number)
 
-pub returns-in-Ok-binary_search-clause-gives : goal.returns-in-Ok-binary_search-clause-gives
-returns-in-Ok-binary_search-clause-gives c =
+pub returns-clause-gives : goal.returns-clause-gives
+returns-clause-gives c =
     let r = c.binary_search.result in
     let s = searched c.args.starts.now c.in-Ok.key r c.binary_search.ensures.position (never_falls c.args.starts.now c.requires.rise) in
     let found = subst (λ x. MatchResult x (λ i. (i < length c.args.starts.now) × (get_or c.args.starts.now i 0 ≡ c.in-Ok.key)) (λ i. (i ≤ length c.args.starts.now) × ((k : ℕ) → k < i → get_or c.args.starts.now k 0 < c.in-Ok.key) × ((k : ℕ) → i ≤ k → k < length c.args.starts.now → c.in-Ok.key < get_or c.args.starts.now k 0))) c.in-Ok-binary_search.is s in
     number_again c.args.starts.now c.args.place c.args.address c.in-Ok-binary_search.number c.requires.rise found.0 (found.1 ∙ c.in-Ok.ensures.1)
 
-pub returns-in-Err-clause-gives : goal.returns-in-Err-clause-gives
-returns-in-Err-clause-gives c =
+pub returns-in_default-binary_search-clause-gives : goal.returns-in_default-binary_search-clause-gives
+returns-in_default-binary_search-clause-gives c =
     let s = searched c.args.starts.now c.in-Ok.key c.binary_search.result c.binary_search.ensures.position (never_falls c.args.starts.now c.requires.rise) in
-    let none = subst (λ x. MatchResult x (λ i. (i < length c.args.starts.now) × (get_or c.args.starts.now i 0 ≡ c.in-Ok.key)) (λ i. (i ≤ length c.args.starts.now) × ((k : ℕ) → k < i → get_or c.args.starts.now k 0 < c.in-Ok.key) × ((k : ℕ) → i ≤ k → k < length c.args.starts.now → c.in-Ok.key < get_or c.args.starts.now k 0))) c.in-Err.is s in
+    let none = subst (λ x. MatchResult x (λ i. (i < length c.args.starts.now) × (get_or c.args.starts.now i 0 ≡ c.in-Ok.key)) (λ i. (i ≤ length c.args.starts.now) × ((k : ℕ) → k < i → get_or c.args.starts.now k 0 < c.in-Ok.key) × ((k : ℕ) → i ≤ k → k < length c.args.starts.now → c.in-Ok.key < get_or c.args.starts.now k 0))) c.in_default-binary_search.is s in
     let same : c.in-Ok.key ≡ c.args.address = c.in-Ok.ensures.1 in
-    number_fails c.args.starts.now c.args.place c.args.address (subst (λ (k : ℕ). Contains c.args.starts.now k → ⊥) same (not_between c.args.starts.now c.in-Ok.key c.in-Err.field-0 none.1 none.2))
+    number_fails c.args.starts.now c.args.place c.args.address (subst (λ (k : ℕ). Contains c.args.starts.now k → ⊥) same (not_between c.args.starts.now c.in-Ok.key c.in_default-binary_search.field-0 none.1 none.2))

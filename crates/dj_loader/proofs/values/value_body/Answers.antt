@@ -1,4 +1,4 @@
-use Rattle.std.proofs.Common.{ℕ, List, [], get_or, ap, ◌∙◌, sym, codes}
+use Rattle.std.proofs.Common.{List, [], get_or, ap, ◌∙◌, sym, codes}
 use Rattle.std.specs.Prelude.{slice_get}
 use Rattle.std.proofs.lemmas.List.{get_or_default}
 use Rattle.dj_class.specs.declared.class.Attribute.{Attribute}

@@ -4,7 +4,7 @@ use Rattle.std.proofs.lemmas.Int.{to_z-of_z}
 use Rattle.std.proofs.lemmas.Result.{err_from_is_err_and}
 use Rattle.dj_source.specs.trusted.Lines.{Label}
 use Rattle.dj_source.specs.Reading.{read_map}
-use Rattle.dj_source.specs.LineReading.{Pairs, pairs_after}
+use Rattle.dj_source.specs.LineReading.{LabelPairs, pairs_after}
 use Rattle.dj_tokens.specs.Views.{units_of, left_of}
 use Rattle.dj_source.proofs.PairLists.{pairs_end, pairs_end_stop, pairs_stop, pairs_key_stop, pairs_target_stop, pairs_more, pair_shorter}
 use Rattle.dj_source.proofs.switch.pairs.Goals as goal
@@ -46,6 +46,6 @@ loop-pairs-smaller c = pair_shorter (left_of c.loop-pairs.at) (left_of c.in_ok-k
 pub loop-pairs-preserved : goal.loop-pairs-preserved
 loop-pairs-preserved c =
     let fits : FitsSigned w32 c.in_ok-key.key = search rules in
-    subst (λ (ps : List (ℤ × Label)). read_map (λ (x : Pairs). (ps ++ x.0, x.1)) (pairs_after None (left_of c.in_ok-target.rest)) ≡ pairs_after None (left_of c.args.at)) (sym (rw (to_z-of_z w32 c.in_ok-key.key fits) at c.in_ok-push.ensures))
+    subst (λ (ps : List (ℤ × Label)). read_map (λ (x : LabelPairs). (ps ++ x.0, x.1)) (pairs_after None (left_of c.in_ok-target.rest)) ≡ pairs_after None (left_of c.args.at)) (sym (rw (to_z-of_z w32 c.in_ok-key.key fits) at c.in_ok-push.ensures))
     (pairs_more c.loop-pairs.pairs (left_of c.loop-pairs.at) (left_of c.in_ok-spot.spot.rest) (left_of c.in_ok-key.rest) (left_of c.in_ok-target.rest) c.in_ok-spot.spot.line c.in_ok-spot.spot.column (units_of c.in_ok-spot.spot.word) (units_of c.in_ok-target.target) c.in_ok-key.key (pairs_after None (left_of c.args.at))
     c.in_ok-spot.ensures (sym c.spells.ensures ∙ c.if-spells.false) c.in_ok-key.ensures c.in_ok-target.ensures c.loop-pairs.invariant)

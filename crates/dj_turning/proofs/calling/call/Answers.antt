@@ -33,8 +33,8 @@ settle_call-requires-clause-invoked g c =
           (c.in_ok-invoked.ensures k.0 k.1 k.2 k.3 k.4 k.5 k.6)),
     )
 
-pub returns-in-Some-clause-turns : goal.returns-in-Some-clause-turns
-returns-in-Some-clause-turns g c = λ called m resolved mode resolves method kinds.
+pub returns-clause-turns : goal.returns-clause-turns
+returns-clause-turns g c = λ called m resolved mode resolves method kinds.
     let image = c.args.image.now in
     let v : Running = record { parts = parts c.run.inside.flags (store c.run.inside.heap c.run.inside.statics c.run.inside.literals) c.run.inside.frames; counter = c.run.inside.accounter; stop = c.run.inside.stop } in
     subst (λ (r : Running). IfOk c.settle_call.result (TurnsBy image (doing image (Invoke called m)) r c.settle_call.new.run (given_since (g.H.Host.given c.args.host.now) (g.H.Host.given c.settle_call.new.host))))

@@ -1,46 +1,11 @@
-//! The class files of these tests, as texts for the assembler.
-
+//! Files of class files' bytes, from texts for the assembler.
 ghost use Rattle.std.specs.Prelude.{◌<◌, length, IfOk};
 
 use dj_asm::assemble;
 use dj_report::PathFile;
 use std::alloc::{AllocError, Global};
 
-/// The class A with a static method verify from an array of bytes to one, which returns what it is given.
-pub const A: &[u8] = b".class 21 A\n\
-    .super java/lang/Object\n\
-    .method 9 verify ([B)[B\n\
-    .stack 1\n\
-    .locals 1\n\
-    aload_0\n\
-    areturn\n\
-    .end\n";
-
-/// The same with `breakpoint` as its second instruction.
-pub const BREAKS: &[u8] = b".class 21 A\n\
-    .super java/lang/Object\n\
-    .method 9 verify ([B)[B\n\
-    .stack 1\n\
-    .locals 1\n\
-    aload_0\n\
-    breakpoint\n\
-    .end\n";
-
-/// A class A whose superclass is A.
-pub const UNDER_ITSELF: &[u8] = b".class 21 A\n\
-    .super A\n";
-
-/// A class B with a native n()V, and a finalize()V with code.
-pub const NATIVE: &[u8] = b".class 21 B\n\
-    .super java/lang/Object\n\
-    .abstract 101 n ()V\n\
-    .method 1 finalize ()V\n\
-    .stack 0\n\
-    .locals 1\n\
-    return\n\
-    .end\n";
-
-/// A file of these tests.
+/// A file that a test judges.
 pub enum FileText {
     /// The class file of a text.
     Whole(&'static [u8]),
