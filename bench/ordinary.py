@@ -3,13 +3,16 @@
 import os
 
 import measuring  # It puts tests/ on the path of modules.
-from class_files import Pool, class_file, u1, u2, u4
+from class_files import FINAL, PRIVATE, PROTECTED, PUBLIC, STATIC, Pool, attribute, class_file, u2, u4
 from instructions import instructions
 from java_sources import WORDS
+from shaped_code import Frames
 
 AVERAGE = 16384
 TEMPLATES = 64
 
+OF_FIELDS = [PUBLIC, PRIVATE, PROTECTED, PRIVATE | STATIC | FINAL]
+OF_METHODS = [PUBLIC, PRIVATE, PUBLIC | STATIC]
 BASES = ["I", "J", "Z", "[B", "Ljava/lang/String;", "Ljava/util/List;", "[Ljava/lang/Object;", "[[I"]
 
 
@@ -48,10 +51,9 @@ def code_body(draw, result):
         code += group
         if group in JUMPING:
             delta, last = len(code) - last - 1, len(code)
-            frames.append(u1(delta) if delta < 64 else u1(251) + u2(delta))
+            frames.append("%d same" % delta)
     code += instructions(RETURNS.get(result[0], "aconst_null, areturn"))
-    stack_map = u2(len(frames)) + b"".join(frames)
-    listed = u2(1) + u2(STACK_MAP_NAME) + u4(len(stack_map)) + stack_map
+    listed = u2(1) + attribute(STACK_MAP_NAME, Frames(Pool()).map_of(",".join(frames)))
     lines = draw.randint(2, 12)
     line_numbers = u2(lines) + b"".join(u2(at * 3) + u2(draw.randrange(2000)) for at in range(lines))
     return u2(4) + u2(10) + u4(len(code)) + code + u2(0) + listed, ("LineNumberTable", line_numbers)
@@ -63,7 +65,7 @@ def members(draw):
 
 
 def any_field(draw):
-    return identifier(draw), type_text(draw), draw.choice([1, 2, 4, 26]), [("Signature", u2(1))] * draw.randint(0, 1)
+    return identifier(draw), type_text(draw), draw.choice(OF_FIELDS), [("Signature", u2(1))] * draw.randint(0, 1)
 
 
 def any_method(draw):
@@ -71,7 +73,7 @@ def any_method(draw):
     descriptor = "(" + "".join(type_text(draw) for _ in range(draw.randint(0, 3))) + ")" + result
     body, numbers = code_body(draw, result)
     listed = [("Code", body), numbers] + [("Exceptions", u2(1) + u2(2))] * draw.randint(0, 1)
-    return identifier(draw), descriptor, draw.choice([1, 2, 9]), listed
+    return identifier(draw), descriptor, draw.choice(OF_METHODS), listed
 
 
 def template(draw, name, size):

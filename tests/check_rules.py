@@ -230,7 +230,11 @@ def signed(reader):
 
 # Stack maps (JVMS 4.7.4).
 
-TYPE_FLOAT, TYPE_DOUBLE, TYPE_OBJECT, TYPE_UNINITIALIZED = 2, 3, 7, 8
+TYPE_TOP, TYPE_INT, TYPE_FLOAT, TYPE_DOUBLE, TYPE_LONG = range(5)
+TYPE_OBJECT, TYPE_UNINITIALIZED = 7, 8
+# Frames that begin with a tag less than the first of these have no delta of their own. The three tags below SAME_EXTENDED chop one to three
+# local variables, and the three above it append as many.
+STACK_1_EXTENDED, SAME_EXTENDED, FULL = 247, 251, 255
 
 
 class StackMap(Reader):
@@ -251,13 +255,13 @@ class StackMap(Reader):
     def frame(self):
         """The delta of a frame, its tag and its types."""
         tag = self.number(1)
-        if 128 <= tag <= 246:
+        if 128 <= tag < STACK_1_EXTENDED:
             raise Malformed
         if tag < 128:
             delta, counts = tag % 64, [tag // 64]
         else:
             delta = self.number(2)
-            counts = {247: [1], 252: [1], 253: [2], 254: [3], 255: [None, None]}.get(tag, [])
+            counts = {STACK_1_EXTENDED: [1], FULL: [None, None]}.get(tag, [tag - SAME_EXTENDED] if tag > SAME_EXTENDED else [])
         return delta, tag, [self.read_types(self.number(2) if count is None else count) for count in counts]
 
     def read_types(self, count):
@@ -266,7 +270,7 @@ class StackMap(Reader):
     def read_type(self):
         tag = self.number(1)
         index = self.number(2) if tag in (TYPE_OBJECT, TYPE_UNINITIALIZED) else None
-        if tag > 8 or tag == TYPE_UNINITIALIZED and index not in self.starts:
+        if tag > TYPE_UNINITIALIZED or tag == TYPE_UNINITIALIZED and index not in self.starts:
             raise Malformed
         return tag, index
 

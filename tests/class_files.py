@@ -1,23 +1,17 @@
 """Makes small class files (JVMS 4.1 to 4.7)."""
 
+from instructions import instructions
 from opcodes import opcode
 
-PUBLIC = 0x0001
-STATIC = 0x0008
-NATIVE = 0x0100
-INTERFACE = 0x0200
-ABSTRACT = 0x0400
+# Flags of classes, fields and methods (JVMS tables 4.1-B, 4.5-A and 4.6-A).
+PUBLIC, PRIVATE, PROTECTED, STATIC, FINAL, SUPER = 0x0001, 0x0002, 0x0004, 0x0008, 0x0010, 0x0020
+NATIVE, INTERFACE, ABSTRACT = 0x0100, 0x0200, 0x0400
+A_CLASS = PUBLIC | SUPER
+AN_INTERFACE = PUBLIC | INTERFACE | ABSTRACT
 
 OBJECT = "java/lang/Object"
 # A character outside the basic plane: two units, six bytes in a class file and four in a path.
 PAIR = "\U00010437"
-
-# A class A with one method that returns its argument, flags 21, major 52.
-RETURNS_ITS_ARGUMENT = bytes.fromhex(
-    "cafebabe000000340008010001410700010100106a6176612f6c616e672f4f626a656374070003010006766572696679"
-    "010006285b42295b42010004436f646500210002000400000000000100090005000600010007"
-    "0000000e00010001000000022ab0000000000000"
-)
 
 
 def modified_utf8(text):
@@ -134,8 +128,13 @@ class Pool:
         return u2(self.count) + b"".join(self.entries)
 
 
+def attribute(name, body):
+    """An attribute, by the index of its name."""
+    return u2(name) + u4(len(body)) + body
+
+
 def attributes(pool, listed):
-    return u2(len(listed)) + b"".join(u2(pool.text(name)) + u4(len(body)) + body for name, body in listed)
+    return u2(len(listed)) + b"".join(attribute(pool.text(name), body) for name, body in listed)
 
 
 def member(pool, name, descriptor, flags=ABSTRACT, listed=()):
@@ -150,7 +149,7 @@ def class_file(
     listed=(),
     major=52,
     minor=0,
-    flags=0x21,
+    flags=A_CLASS,
     super_name=OBJECT,
     pool=None,
     magic=0xCAFEBABE,
@@ -184,7 +183,7 @@ def parts(this_class=2, super_class=4, interfaces=(), fields=b"\0\0", methods=b"
     pool.add(class_entry(8))
     for entry in more:
         pool.add(entry)
-    body = row(0x21, this_class, super_class, len(interfaces), *interfaces) + fields + methods + listed
+    body = row(A_CLASS, this_class, super_class, len(interfaces), *interfaces) + fields + methods + listed
     return u4(0xCAFEBABE) + row(0, 52, pool.count if count is None else count) + b"".join(pool.entries) + body
 
 
@@ -200,8 +199,12 @@ def straight(body, max_stack=4, max_locals=4, name="verify", flags=PUBLIC | STAT
     return (name, "([B)[B", flags, [code(body, max_stack, max_locals, **more)])
 
 
+# A class A with one method that returns its argument.
+RETURNS_ITS_ARGUMENT = class_file("A", [straight(instructions("aload_0, areturn"), max_stack=1, max_locals=1)])
+
+
 def native(name, descriptor="()V"):
-    return (name, descriptor, NATIVE | 1)
+    return (name, descriptor, PUBLIC | NATIVE)
 
 
 def natives_of_equal_texts(this_class, name, names, descriptor, descriptors):
@@ -212,4 +215,4 @@ def natives_of_equal_texts(this_class, name, names, descriptor, descriptors):
     names = [pool.add(text_entry(name)) for _ in range(names)]
     descriptors = [pool.add(text_entry(descriptor)) for _ in range(descriptors)]
     methods = [row(NATIVE, one, other, 0) for one in names for other in descriptors]
-    return u4(0xCAFEBABE) + row(0, 52) + pool.bytes() + row(0x21, *heads, 0, 0, len(methods)) + b"".join(methods) + row(0)
+    return u4(0xCAFEBABE) + row(0, 52) + pool.bytes() + row(A_CLASS, *heads, 0, 0, len(methods)) + b"".join(methods) + row(0)

@@ -5,17 +5,22 @@ A method that a rule doesn't refuse is named `near` and so on.
 """
 
 from class_files import (
+    A_CLASS,
     ABSTRACT,
+    AN_INTERFACE,
     DOUBLE,
     FIELD,
+    FINAL,
     FLOAT,
     INTEGER,
     INTERFACE_METHOD,
     LONG,
     METHOD,
+    PRIVATE,
     PUBLIC,
     STATIC,
     Pool,
+    attribute,
     class_file,
     code,
     invoke_dynamic,
@@ -25,12 +30,11 @@ from class_files import (
     row,
     u1,
     u2,
-    u4,
 )
 from instructions import LENGTHS, instructions
 from opcodes import BASES, OPCODES, numbers, opcode
-from rule_cases import A_CLASS, AN_INTERFACE, FINAL, NOP, NULL, POP, RETURN, ZERO, case, method
-from shaped_code import Method
+from rule_cases import NOP, NULL, POP, RETURN, ZERO, case, method
+from shaped_code import Frames, Method
 
 GETSTATIC, PUTSTATIC, GETFIELD, PUTFIELD = numbers("getstatic putstatic getfield putfield")
 INVOKEVIRTUAL, INVOKESPECIAL, INVOKESTATIC = numbers("invokevirtual invokespecial invokestatic")
@@ -342,42 +346,45 @@ case(
 
 # 12 FLOAT: stack maps. The code is nop, nop, return.
 
+map_of = Frames(Pool(), end=3).map_of
 GOOD_MAPS = {
-    "same": "0001 01",
-    "append": "0001 fc0001 01",
-    "stack1": "0001 41 01",
-    "full": "0001 ff0001 0003 00 01 04 0002 05 07ffff",
-    "none": "0000",
+    "same": map_of("1 same"),
+    "append": map_of("1 append int"),
+    "stack1": map_of("1 stack int"),
+    # The last type is of a constant that isn't there.
+    "full": map_of("1 full top int long / null class:65535"),
+    "none": map_of(""),
     # The number 2 or 3 stands elsewhere.
-    "two-of-three": "0002 00 01",
-    "chop": "0001 f90000",
-    "index": "0001 fc0000 070203",
+    "two-of-three": map_of("0 same, 1 same"),
+    "chop": map_of("0 chop 2"),
+    "index": map_of("0 append class:%d" % 0x0203),
 }
 FLOAT_MAPS = {
-    "stack1-float": "0001 41 02",
-    "stack1-double": "0001 40 03",
-    "stack1-extended": "0001 f70001 02",
-    "append-third": "0001 fe0000 01 00 03",
-    "full-locals": "0001 ff0000 0002 05 02 0000",
-    "full-stack": "0001 ff0000 0000 0002 01 03",
-    "second-frame": "0002 01 fc0000 02",
+    "stack1-float": map_of("1 stack float"),
+    "stack1-double": map_of("0 stack double"),
+    "stack1-extended": map_of("1 stack+ float"),
+    "append-third": map_of("0 append int top double"),
+    "full-locals": map_of("0 full null float /"),
+    "full-stack": map_of("0 full / int double"),
+    "second-frame": map_of("1 same, 0 append float"),
 }
 BAD_MAPS = {
-    "cut": "0002 41 02",
-    "cut-type": "0001 41",
-    "byte-more": "0001 41 02 00",
-    "reserved": "0002 41 02 80",
-    "type-9": "0002 40 02 fd0000 02 09",
-    "at-the-end": "0002 40 02 02",
-    "past": "0002 40 02 3f",
-    "uninitialized-past": "0001 fd0000 02 080003",
-    "empty": "",
+    "cut": map_of("1 stack float", count=2),
+    "cut-type": map_of("1 stack"),
+    "byte-more": map_of("1 stack float", more=b"\0"),
+    # No frame begins with 128, and no type is 9.
+    "reserved": map_of("1 stack float", count=2, more=u1(128)),
+    "type-9": map_of("0 stack float, 0 append float tag:9"),
+    "at-the-end": map_of("0 stack float, 2 same"),
+    "past": map_of("0 stack float, 63 same"),
+    "uninitialized-past": map_of("0 append float new:end"),
+    "empty": b"",
 }
 
 
-def with_map(name, text):
-    body = bytes.fromhex(text)
-    return method(name, NOP, NOP, RETURN, listed=row(1, 1) + u4(len(body)) + body)
+def with_map(name, stack_map):
+    """A method whose stack map has the name 1."""
+    return method(name, NOP, NOP, RETURN, listed=row(1) + attribute(1, stack_map))
 
 
 def with_all_maps(name, maps):
@@ -395,15 +402,15 @@ case(
 )
 pool = Pool()
 other = pool.text("StackMap")
-body = bytes.fromhex("0001 4102")
+one_frame = map_of("1 stack float")
 case(
     "12-no-stack-map",
     one(
         "A",
         pool,
-        method("m", NOP, NOP, RETURN, listed=row(1, other) + u4(len(body)) + body),
-        ("n", "()V", PUBLIC | STATIC, [code(RETURN), ("StackMapTable", body)]),
-        listed=[("StackMapTable", body)],
+        method("m", NOP, NOP, RETURN, listed=row(1) + attribute(other, one_frame)),
+        ("n", "()V", PUBLIC | STATIC, [code(RETURN), ("StackMapTable", one_frame)]),
+        listed=[("StackMapTable", one_frame)],
     ),
 )
 
@@ -517,7 +524,7 @@ case(
     "16-interfaces",
     {
         "I": class_file("I", [method("m", RETURN), ("n", "()V", PUBLIC, [code(RETURN)]), ("o", "()V", PUBLIC | ABSTRACT), INIT], flags=AN_INTERFACE),
-        "J": class_file("J", [("m", "()V", 2, [code(RETURN)]), ("<init>", "()V", 1, [code(RETURN)]), native("p")], flags=AN_INTERFACE),
+        "J": class_file("J", [("m", "()V", PRIVATE, [code(RETURN)]), ("<init>", "()V", PUBLIC, [code(RETURN)]), native("p")], flags=AN_INTERFACE),
         "K": class_file("K", [INIT, ("<clinit>", "(I)V", STATIC, [code(RETURN)])], flags=AN_INTERFACE),
         "A": class_file("A", [method("m", RETURN)], flags=A_CLASS | ABSTRACT, interfaces=["I"]),
     },
@@ -569,7 +576,7 @@ case(
 )
 case(
     "order-of-numbers",
-    one("A", Pool(), method("m", BREAKPOINT * 12, RETURN), method("l", instructions("fconst_0, breakpoint, return"), flags=PUBLIC | 8, descriptor="(F)V"), major=53),
+    one("A", Pool(), method("m", BREAKPOINT * 12, RETURN), method("l", instructions("fconst_0, breakpoint, return"), descriptor="(F)V"), major=53),
     "A 2",
     "A l(F)V 12",
     "A l(F)V 0 12",

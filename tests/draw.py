@@ -21,13 +21,17 @@ sys.dont_write_bytecode = True
 
 import make_cases
 from class_files import (
+    A_CLASS,
     ABSTRACT,
+    AN_INTERFACE,
     FIELD,
+    FINAL,
     INTERFACE,
     INTERFACE_METHOD,
     METHOD,
     NATIVE,
     OBJECT,
+    PROTECTED,
     PUBLIC,
     STATIC,
     Pool,
@@ -155,7 +159,7 @@ def files(draw):
 # Hierarchies: classes of a few names above and below each other, twice, final, and in packages of the sandbox.
 
 CLASSES = ["A", "B", "C", "D", "a/E", "a/F", "G", "A0", "C2"]
-KINDS = [0x21, 0x21, 0x21, 0x421, 0x601, 0x601, 0x31]
+KINDS = [A_CLASS] * 3 + [A_CLASS | ABSTRACT] + [AN_INTERFACE] * 2 + [A_CLASS | FINAL]
 
 
 def of_hierarchy(draw, name, flags, names):
@@ -164,7 +168,7 @@ def of_hierarchy(draw, name, flags, names):
     below = ["java/lang/Runnable", "java/lang/Comparable", "java/io/Serializable", *names]
     return class_file(
         name,
-        fields=[("f", draw.one("IJ"), 4) for _ in range(draw.below(3) if draw.chance(30) else 0)],
+        fields=[("f", draw.one("IJ"), PROTECTED) for _ in range(draw.below(3) if draw.chance(30) else 0)],
         methods=[(draw.one("mn"), "()V", ABSTRACT) for _ in range(draw.below(3) if draw.chance(30) else 0)],
         interfaces=[draw.one(below) for _ in range(draw.below(3) if draw.chance(40) else 0)],
         flags=flags,
@@ -244,7 +248,7 @@ def user(draw, name, is_interface, names, most, short):
         methods,
         [(each, draw.one(OF_FIELDS), draw.below(8) | draw.one([0, STATIC])) for each in draw.some("fgh", draw.below(3))],
         draw.some(["java/lang/Runnable", "java/lang/Comparable"], draw.below(2)),
-        flags=0x601 if is_interface else draw.one([0x21, 0x421]),
+        flags=AN_INTERFACE if is_interface else draw.one([A_CLASS, A_CLASS | ABSTRACT]),
         pool=pool,
     )
 

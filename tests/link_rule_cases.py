@@ -7,17 +7,30 @@ So its number is how much it takes. A method that no rule refuses is named `near
 
 import re
 
-from class_files import ABSTRACT, FIELD, INTEGER, INTERFACE_METHOD, METHOD, PUBLIC, STATIC, Pool, class_file, row, u2, u4
+from class_files import (
+    A_CLASS,
+    ABSTRACT,
+    AN_INTERFACE,
+    FIELD,
+    INTEGER,
+    INTERFACE_METHOD,
+    METHOD,
+    PUBLIC,
+    STATIC,
+    Pool,
+    attribute,
+    class_file,
+    row,
+)
 from code_rule_cases import names, one
 from instructions import instructions
 from opcodes import numbers, opcode
-from rule_cases import A_CLASS, AN_INTERFACE, NOP, NULL, POP, RETURN, ZERO, case, method
-from shaped_code import parameters, slots_of
+from rule_cases import NOP, NULL, POP, RETURN, ZERO, case, method
+from shaped_code import Frames, parameters, slots_of
 
 GETSTATIC, PUTSTATIC, GETFIELD, PUTFIELD = numbers("getstatic putstatic getfield putfield")
 VIRTUAL, SPECIAL, STATICALLY, INTERFACE, DYNAMIC = numbers("invokevirtual invokespecial invokestatic invokeinterface invokedynamic")
 NEW, ANEWARRAY, CHECKCAST, INSTANCEOF, MULTIANEWARRAY = numbers("new anewarray checkcast instanceof multianewarray")
-PRIVATE = 0x0002
 
 # What pushes and takes away a value that begins so in a descriptor.
 PUSHES = dict.fromkeys("BCISZ", ZERO) | {"J": opcode("lconst_0"), "L": NULL, "[": NULL}
@@ -68,8 +81,8 @@ def classes(pool, **named):
 
 def handled(pool, name, *catch_types, body=NOP + RETURN, flags=PUBLIC | STATIC):
     """A method whose handlers begin at instruction 2, one for each of these constants."""
-    frame = u2(1) + bytes([64 + len(body), 7]) + u2(pool.class_name("java/lang/Throwable"))
-    listed = row(1, pool.text("StackMapTable")) + u4(len(frame)) + frame
+    stack_map = Frames(pool).map_of("%d stack ref:java/lang/Throwable" % len(body))
+    listed = row(1) + attribute(pool.text("StackMapTable"), stack_map)
     return method(name, body, POP, RETURN, handlers=[(0, len(body), len(body), index) for index in catch_types], listed=listed, flags=flags)
 
 

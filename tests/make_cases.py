@@ -30,9 +30,14 @@ import shape_rule_cases
 import verify_cases
 from class_files import (
     ABSTRACT,
+    AN_INTERFACE,
     NATIVE,
     PAIR,
+    PRIVATE,
+    PROTECTED,
+    PUBLIC,
     RETURNS_ITS_ARGUMENT,
+    STATIC,
     class_entry,
     class_file,
     code,
@@ -69,7 +74,7 @@ def with_native(name):
 # The first rows.
 
 one = RETURNS_ITS_ARGUMENT
-native_and_finalize = class_file("B", [native("n"), ("finalize", "()V", 4, [code()])])
+native_and_finalize = class_file("B", [native("n"), ("finalize", "()V", PROTECTED, [code()])])
 
 case("accepted-one", {"c/A.class": one})
 case("accepted-none", {}, folders=["c"])
@@ -84,8 +89,8 @@ case(
     "accepted-set",
     {
         "c/A.class": one,
-        "c/a/B.class": plain("a/B", interfaces=["a/I", "java/lang/Runnable"], fields=[("x", "[[J", 2), ("y", "La/B;", 8)]),
-        "c/a/I.class": plain("a/I", flags=0x601, methods=[("ok", "(I)Z", ABSTRACT | 1)]),
+        "c/a/B.class": plain("a/B", interfaces=["a/I", "java/lang/Runnable"], fields=[("x", "[[J", PRIVATE), ("y", "La/B;", STATIC)]),
+        "c/a/I.class": plain("a/I", flags=AN_INTERFACE, methods=[("ok", "(I)Z", PUBLIC | ABSTRACT)]),
         "c/a/b/package-info.class": plain("a/b/package-info", flags=0x1600),
         "c/a/B$1.class": plain("a/B$1", listed=[("SourceFile", b"\0\1"), ("", b""), ("Synthetic", b"")]),
     },
@@ -94,7 +99,7 @@ case(
     "all-rules",
     {
         "c/A.class": b"\xca\xfe\xba\xbe",
-        "c/B.class": plain("b", major=49, methods=[native("n"), ("finalize", "()V", 1, [code()])]),
+        "c/B.class": plain("b", major=49, methods=[native("n"), ("finalize", "()V", PUBLIC, [code()])]),
         "c/C.class": plain("C", methods=[native("m", "(IJ)[La/B;")]),
     },
 )
@@ -107,7 +112,7 @@ case(
     "not-looked-at",
     {
         # What other checkers refuse and these rules don't look at.
-        "c/A.class": plain("A", interfaces=["java/lang/Runnable"] * 2, flags=0xFFFF, fields=[("x", "I", 0xFFFF), ("<init>", "I", 7)]),
+        "c/A.class": plain("A", interfaces=["java/lang/Runnable"] * 2, flags=0xFFFF, fields=[("x", "I", 0xFFFF), ("<init>", "I", PUBLIC | PRIVATE | PROTECTED)]),
         "c/B.class": plain("B", methods=[("f", "()V", 0xFEFF), ("<init>", "()I", ABSTRACT), ("<clinit>", "(I)V", ABSTRACT)]),
         "c/C.class": plain(
             "C",
@@ -194,7 +199,7 @@ case(
         "c/A.class": plain("A", methods=[native("n"), native("n"), native("m"), native("n")]),
         # Two methods whose names and descriptors join to one text.
         "c/B.class": plain("B", methods=[native("f", "()LA(I)LB;"), native("f()LA", "(I)LB;")]),
-        "c/C.class": plain("C", methods=[("finalize", "()V", 1, [code()]), ("finalize", "()V", 1, [code()])]),
+        "c/C.class": plain("C", methods=[("finalize", "()V", PUBLIC, [code()]), ("finalize", "()V", PUBLIC, [code()])]),
     },
 )
 
@@ -307,10 +312,10 @@ case("names-from-inside", {"a/B.class": plain("a/B")}, ["check", "a"])
 case(
     "finalizers",
     {
-        "c/A.class": plain("A", methods=[("finalize", "()V", NATIVE | 4)]),
+        "c/A.class": plain("A", methods=[("finalize", "()V", PROTECTED | NATIVE)]),
         "c/B.class": plain("B", methods=[("finalize", "(I)V"), ("finalize", "()I"), ("finalise", "()V"), ("Finalize", "()V")]),
-        "c/C.class": plain("C", methods=[("finalize", "()V", ABSTRACT)], flags=0x601),
-        "c/D.class": plain("D", methods=[("finalize", "()V", 8, [code()])]),
+        "c/C.class": plain("C", methods=[("finalize", "()V", ABSTRACT)], flags=AN_INTERFACE),
+        "c/D.class": plain("D", methods=[("finalize", "()V", STATIC, [code()])]),
         "c/E.class": plain("E", fields=[("finalize", "I", NATIVE), ("f", "LV;", 0xFFFF)]),
         "c/F.class": plain("F", methods=[("f", "()V", 0xFEFF)]),
     },
@@ -326,7 +331,7 @@ case(
         "c/" + name + ".class": plain(name, **more)
         for name, more in {
             "array255": dict(fields=[("x", "[" * 255 + "I")]),
-            "slots255": dict(methods=[("f", longest, ABSTRACT), ("g", "(" + "J" * 127 + "[D)D", ABSTRACT | 8)]),
+            "slots255": dict(methods=[("f", longest, ABSTRACT), ("g", "(" + "J" * 127 + "[D)D", STATIC | ABSTRACT)]),
             "names": dict(fields=[("<x>", "I"), ("<init>", "I"), ("(", "I")], methods=[("<init>", "()I"), ("<clinit>", "(I)V"), ("(", "()V")]),
             "texts": dict(listed=[(b"\xc0\x80\x7f\xc2\x80\xdf\xbf\xe0\xa0\x80\xef\xbf\xbf" + LONE, b"\0" * 70000)]),
         }.items()
@@ -491,12 +496,16 @@ def write(path, data):
         file.write(data)
 
 
+def lines_of_words(words):
+    return "".join(word + "\n" for word in words).encode()
+
+
 def write_parts(top, files, words):
     """The files and the words of the case in this folder; the files that were there are removed."""
     shutil.rmtree(os.path.join(top, "files"), ignore_errors=True)
     for path, data in files.items():
         write(os.path.join(top, "files", path), data)
-    write(os.path.join(top, "words"), "".join(word + "\n" for word in words).encode())
+    write(os.path.join(top, "words"), lines_of_words(words))
 
 
 def files_of(top):
@@ -515,6 +524,15 @@ def unlike(made, there):
     lines = ["%s isn't there" % path for path in sorted(made.keys() - there.keys())]
     lines += ["%s isn't made" % path for path in sorted(there.keys() - made.keys())]
     return lines + ["%s differs" % path for path in sorted(made.keys() & there.keys()) if made[path] != there[path]]
+
+
+def mismade(top, files, words):
+    """The lines that say how the files and the words of the case in this folder differ from these."""
+    if not os.path.exists(top):
+        return ["it isn't there"]
+    with open(os.path.join(top, "words"), "rb") as file:
+        lines = [] if file.read() == lines_of_words(words) else ["words: %r are made" % words]
+    return lines + unlike(files, files_of(os.path.join(top, "files")))
 
 
 def outcome_of(inside, words):

@@ -12,7 +12,9 @@ import sys
 
 sys.dont_write_bytecode = True
 
-from check_rules import IINC, LDC, LOOKUPSWITCH, OPERANDS, TABLESWITCH, WIDE, WITH_CONSTANT
+from check_rules import FULL, IINC, LDC, LOOKUPSWITCH, OPERANDS, SAME_EXTENDED, STACK_1_EXTENDED, TABLESWITCH, TYPE_OBJECT, TYPE_UNINITIALIZED
+from check_rules import WIDE, WITH_CONSTANT
+from class_reader import DOUBLE, FLOAT, INTEGER, INVOKE_DYNAMIC, LONG, METHOD_HANDLE, PARTS, UTF8
 
 
 class Reader:
@@ -33,21 +35,20 @@ def pool_of(reader):
     pool, count, at = {}, reader.number(2), 1
     while at < count:
         tag = reader.number(1)
-        if tag == 1:
+        if tag == UTF8:
             pool[at] = (tag, reader.bytes(reader.number(2)))
         else:
-            sizes = {3: (4,), 4: (4,), 5: (8,), 6: (8,), 15: (1, 2), 7: (2,), 8: (2,), 16: (2,)}.get(tag, (2, 2))
-            pool[at] = (tag, *(reader.number(size) for size in sizes))
-        at += 2 if tag in (5, 6) else 1
+            pool[at] = (tag, *(reader.number(size) for size in PARTS[tag]))
+        at += 2 if tag in (LONG, DOUBLE) else 1
     return pool
 
 
 def constant(pool, index):
     """What the constant of an index names."""
     tag, *parts = pool[index]
-    if tag in (1, 3, 4, 5, 6):
+    if tag in (UTF8, INTEGER, FLOAT, LONG, DOUBLE):
         return (tag, *parts)
-    if tag in (15, 18):
+    if tag in (METHOD_HANDLE, INVOKE_DYNAMIC):
         return (tag, parts[0], constant(pool, parts[1]))
     return (tag, *(constant(pool, part) for part in parts))
 
@@ -76,7 +77,9 @@ def instructions(pool, code):
 
 def type_of(pool, reader):
     tag = reader.number(1)
-    return (tag, constant(pool, reader.number(2))) if tag == 7 else (tag, reader.number(2)) if tag == 8 else (tag,)
+    if tag == TYPE_OBJECT:
+        return (tag, constant(pool, reader.number(2)))
+    return (tag, reader.number(2)) if tag == TYPE_UNINITIALIZED else (tag,)
 
 
 def frame_of(pool, reader):
@@ -86,12 +89,12 @@ def frame_of(pool, reader):
     if kind < 128:
         return (kind, type_of(pool, reader))
     delta = reader.number(2)
-    if kind == 247:
+    if kind == STACK_1_EXTENDED:
         return (kind, delta, type_of(pool, reader))
-    if kind < 252:
+    if kind <= SAME_EXTENDED:
         return (kind, delta)
-    if kind < 255:
-        return (kind, delta, [type_of(pool, reader) for _ in range(kind - 251)])
+    if kind < FULL:
+        return (kind, delta, [type_of(pool, reader) for _ in range(kind - SAME_EXTENDED)])
     return (kind, delta, [[type_of(pool, reader) for _ in range(reader.number(2))] for _ in range(2)])
 
 

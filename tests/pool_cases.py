@@ -6,6 +6,7 @@ Of the files of a case those that are refused are named for their fault, and the
 import os
 
 from class_files import (
+    A_CLASS,
     DOUBLE,
     FIELD,
     FLOAT,
@@ -13,6 +14,7 @@ from class_files import (
     INTERFACE_METHOD,
     LONG,
     METHOD,
+    PROTECTED,
     Pool,
     class_entry,
     class_file,
@@ -223,7 +225,7 @@ case(
         # The count is given as if each took one index, and the other way round.
         "long-of-one-index": parts(more=[LONG, DOUBLE], count=12),
         "integer-of-two-indexes": parts(more=[INTEGER], count=12),
-        "long-alone": u4(0xCAFEBABE) + row(0, 52, 2) + LONG + row(0x21, 1, 0, 0, 0, 0, 0),
+        "long-alone": u4(0xCAFEBABE) + row(0, 52, 2) + LONG + row(A_CLASS, 1, 0, 0, 0, 0, 0),
     },
 )
 case(
@@ -295,7 +297,7 @@ case(
     "rules-beside-constants",
     {
         "A": b"",
-        "B": class_file("B", pool=whole_pool(), methods=[native("n"), ("finalize", "()V", 4, [code()])]),
+        "B": class_file("B", pool=whole_pool(), methods=[native("n"), ("finalize", "()V", PROTECTED, [code()])]),
         "Z": class_file("Z", pool=whole_pool()),
         "z": class_file("y", pool=whole_pool(), major=9),
     },

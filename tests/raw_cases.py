@@ -2,7 +2,7 @@
 folders. Where the run decides, which reference.py doesn't make, its report is written here by hand. Those of tests/raw go through
 what runs do."""
 
-from class_files import NATIVE, PAIR, PUBLIC, RETURNS_ITS_ARGUMENT, STATIC, class_file, native, straight
+from class_files import NATIVE, PAIR, PRIVATE, PUBLIC, RETURNS_ITS_ARGUMENT, STATIC, class_file, native, straight
 from instructions import instructions
 from verify_cases import bad_shape, returns
 
@@ -105,7 +105,7 @@ case("entry-without-methods", {"c/A.class": class_file("A")})
 case("entry-of-another-case", {"c/A.class": class_file("A", [straight(instructions("aload_0, areturn"), name="Verify")])})
 case("entry-is-not-static", {"c/A.class": class_file("A", [straight(instructions("aload_0, areturn"), flags=PUBLIC)])})
 case("entry-is-native", {"c/A.class": class_file("A", [("verify", "([B)[B", PUBLIC | STATIC | NATIVE)])})
-case("entry-is-private", {"c/A.class": class_file("A", [straight(instructions("aload_0, areturn"), flags=STATIC | 2)])}, ran=RETURNED)
+case("entry-is-private", {"c/A.class": class_file("A", [straight(instructions("aload_0, areturn"), flags=PRIVATE | STATIC)])}, ran=RETURNED)
 case("entry-is-an-instance-beside", {"c/A.class": class_file("A", [straight(instructions("aload_0, areturn"), flags=PUBLIC, name="f"), returns])}, ran=RETURNED)
 
 # The order of work: the input, the rules 1 to 6, the other rules and the entry together, the run.

@@ -10,7 +10,7 @@ import sys
 sys.dont_write_bytecode = True
 
 import make_cases
-from class_files import class_file
+from class_files import A_CLASS, ABSTRACT, AN_INTERFACE, NATIVE, PUBLIC, STATIC, class_file
 from shaped_code import Method
 from written_base import coded
 
@@ -44,9 +44,9 @@ for name, words in {
 }.items():
     case(name, {"A": IDENTITY}, words, b"\1")
 
-OF_ABSTRACT = dict(flags=0x421)
-case("entry-abstract", {"A": coded("A", ("verify", "([B)[B", 0x409), **OF_ABSTRACT)})
-case("entry-of-an-instance", {"A": coded("A", Method(VERIFY, "aload_1, areturn", flags=1), **OF_ABSTRACT)})
+OF_ABSTRACT = dict(flags=A_CLASS | ABSTRACT)
+case("entry-abstract", {"A": coded("A", ("verify", "([B)[B", PUBLIC | STATIC | ABSTRACT), **OF_ABSTRACT)})
+case("entry-of-an-instance", {"A": coded("A", Method(VERIFY, "aload_1, areturn", flags=PUBLIC), **OF_ABSTRACT)})
 case("entry-of-another-descriptor", {"A": coded("A", Method("verify([C)[B", "aload_0, areturn"), **OF_ABSTRACT)})
 case("entry-of-another-name", {"A": coded("A", Method("Verify([B)[B", "aload_0, areturn"), **OF_ABSTRACT)})
 found["entry-without-class-files"] = ({"c/.keep": b"", "in": b""}, ["raw", "c", "A", "in"])
@@ -55,7 +55,7 @@ found["entry-without-class-files"] = ({"c/.keep": b"", "in": b""}, ["raw", "c", 
 
 placed = coded("A", Method(VERIFY, "iload_0, areturn"), Method("f", "new java/lang/Thread, return"))
 case("rules-with-places", {"A": placed, "B": coded("B", Method("g", "nop, new x/Y, return"))})
-case("rules-1-to-6-before-the-entry", {"A": coded("A", ("n", "()V", 0x101)), "B": class_file("B", super_name="x/Y")}, "raw c Z in")
+case("rules-1-to-6-before-the-entry", {"A": coded("A", ("n", "()V", PUBLIC | NATIVE)), "B": class_file("B", super_name="x/Y")}, "raw c Z in")
 clocks = "invokestatic java/lang/System nanoTime ()J, pop2, invokestatic java/lang/System currentTimeMillis ()J, pop2, aload_0, areturn"
 clocks = {"A": coded("A", Method(VERIFY, clocks))}
 case("library-clocks", clocks, data=b"\1")
@@ -80,7 +80,7 @@ T = coded(
         stack=3,
         locals=2,
     ),
-    fields=[("o", "[B", 9), ("n", "I", 9)],
+    fields=[("o", "[B", PUBLIC | STATIC), ("n", "I", PUBLIC | STATIC)],
 )
 KEEPS = {"b": "b (I)V", "i": "i (I)V", "l": "l (J)V", "s": "s (Ljava/lang/String;)V"}
 
@@ -186,12 +186,12 @@ computes(
 
 # instanceof of objects of many classes.
 
-OBJECT_INIT = Method("<init>", "aload_0, invokespecial java/lang/Object <init> ()V, return", flags=1, stack=1, locals=1)
+OBJECT_INIT = Method("<init>", "aload_0, invokespecial java/lang/Object <init> ()V, return", flags=PUBLIC, stack=1, locals=1)
 CLASSES = {
-    "I": class_file("I", flags=0x601),
-    "J": class_file("J", interfaces=["I"], flags=0x601),
+    "I": class_file("I", flags=AN_INTERFACE),
+    "J": class_file("J", interfaces=["I"], flags=AN_INTERFACE),
     "P": coded("P", OBJECT_INIT, interfaces=["J"]),
-    "Q": coded("Q", Method("<init>", "aload_0, invokespecial P <init> ()V, return", flags=1), super_name="P"),
+    "Q": coded("Q", Method("<init>", "aload_0, invokespecial P <init> ()V, return", flags=PUBLIC), super_name="P"),
     "Z": coded("Z", OBJECT_INIT),
 }
 MADE = ["new P", "new Q", "new Z", "ldc string:s", "iconst_0, newarray int", "iconst_0, anewarray Q", "iconst_0, anewarray [LP;", "iconst_0, anewarray [I"]
@@ -239,10 +239,7 @@ def check(results):
         if name not in found:
             lines = [] if os.path.exists(os.path.join(top, "text")) or name.startswith("javac-") else ["it has no text, and nothing makes it"]
         else:
-            files, words = found[name]
-            with open(os.path.join(top, "words"), encoding="utf-8") as file:
-                lines = [] if file.read().splitlines() == words else ["words: %r are made" % words]
-            lines += make_cases.unlike(files, make_cases.files_of(os.path.join(top, "files")))
+            lines = make_cases.mismade(top, *found[name])
         results.add("tests/raw/%s" % name, [], lines)
 
 

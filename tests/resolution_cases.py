@@ -2,8 +2,26 @@
 their folders. link_rule_cases.py says how they are written, and has those on rule 17, on arrays and on handlers.
 """
 
-from class_files import ABSTRACT, FIELD, INTEGER, INTERFACE_METHOD, LONG, METHOD, PUBLIC, STATIC, Pool, class_file, invoke_dynamic, method_handle
-from class_files import method_type, native
+from class_files import (
+    A_CLASS,
+    ABSTRACT,
+    AN_INTERFACE,
+    FIELD,
+    FINAL,
+    INTEGER,
+    INTERFACE_METHOD,
+    LONG,
+    METHOD,
+    PRIVATE,
+    PUBLIC,
+    STATIC,
+    Pool,
+    class_file,
+    invoke_dynamic,
+    method_handle,
+    method_type,
+    native,
+)
 from code_rule_cases import LDC, LDC2_W, LDC_W, names
 from link_rule_cases import (
     ANEWARRAY,
@@ -17,7 +35,6 @@ from link_rule_cases import (
     INTERFACE,
     MULTIANEWARRAY,
     NEW,
-    PRIVATE,
     PUTFIELD,
     PUTSTATIC,
     SPECIAL,
@@ -32,7 +49,7 @@ from link_rule_cases import (
     one,
 )
 from opcodes import opcode
-from rule_cases import A_CLASS, AN_INTERFACE, FINAL, NULL, POP, RETURN, ZERO, case, found, method
+from rule_cases import NULL, POP, RETURN, ZERO, case, found, method
 
 # 18 UNRESOLVED: members that aren't there.
 

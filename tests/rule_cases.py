@@ -7,13 +7,17 @@ malformed are named for what is wrong with them.
 """
 
 from class_files import (
+    A_CLASS,
     ABSTRACT,
+    AN_INTERFACE,
     DOUBLE,
+    FINAL,
     FLOAT,
     INTEGER,
     INTERFACE,
     LONG,
     NATIVE,
+    PROTECTED,
     PUBLIC,
     STATIC,
     Pool,
@@ -31,10 +35,6 @@ from class_files import (
 )
 from instructions import instructions, switch
 from opcodes import BASES, numbers, opcode
-
-FINAL, SUPER = 0x0010, 0x0020
-AN_INTERFACE = PUBLIC | INTERFACE | ABSTRACT
-A_CLASS = PUBLIC | SUPER
 
 # The instructions of most methods here.
 NOP, NULL, ZERO, POP, RETURN = map(opcode, ("nop", "aconst_null", "iconst_0", "pop", "return"))
@@ -595,7 +595,7 @@ case(
         "B": class_file("B", [M, method("n", RETURN), M]),
         "C": class_file("C", [M, ("m", "()V", ABSTRACT), M]),
         "D": class_file("D", [("<init>", "()V", PUBLIC, [code()])] * 2),
-        "E": class_file("E", fields=[("f", "I", 0), ("f", "I", 8)], flags=AN_INTERFACE),
+        "E": class_file("E", fields=[("f", "I", 0), ("f", "I", STATIC)], flags=AN_INTERFACE),
     },
     "A 6",
     "B 6",
@@ -619,7 +619,7 @@ case("06-members-twice-by-two-texts", {"A": parts(fields=row(2, 8, 5, 6, 0, 8, 1
 case(
     "07-08-beside-others",
     {
-        "A": class_file("A", [native("n"), ("finalize", "()V", 4, [code()]), ("finalize", "(I)V", 4, [code()])], super_name="B"),
+        "A": class_file("A", [native("n"), ("finalize", "()V", PROTECTED, [code()]), ("finalize", "(I)V", PROTECTED, [code()])], super_name="B"),
         "B": class_file("B", [native("finalize"), native("n", "(F)V")], flags=A_CLASS | FINAL),
     },
     "A 6",

@@ -2,8 +2,7 @@
 folders. shape_rule_cases.py says how they are written, and has the others on this rule.
 """
 
-from class_files import ABSTRACT, PUBLIC, STATIC, class_file
-from rule_cases import AN_INTERFACE
+from class_files import ABSTRACT, AN_INTERFACE, PUBLIC, STATIC, class_file
 from shape_rule_cases import shaped
 from shaped_code import Method
 

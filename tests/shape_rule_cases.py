@@ -5,11 +5,11 @@ The instruction of which a method has a line is marked with `!` in its text. A m
 room for nine operands and nine local variables where nothing else is said.
 """
 
-from class_files import ABSTRACT, PUBLIC, STATIC, Pool, class_file, native, row, u4
-from code_rule_cases import BAD_MAPS, with_all_maps
+from class_files import A_CLASS, ABSTRACT, AN_INTERFACE, PUBLIC, STATIC, Pool, attribute, class_file, native, row
+from code_rule_cases import BAD_MAPS, map_of, with_all_maps
 from instructions import instructions
 from opcodes import opcode
-from rule_cases import A_CLASS, AN_INTERFACE, NOP, RETURN, case, method
+from rule_cases import NOP, RETURN, case, method
 from shaped_code import Method, made_all
 
 
@@ -167,7 +167,7 @@ assert pool.text("StackMapTable") == 1
 
 def with_no_map(name, *body, **more):
     """Its stack map has one frame, which is cut."""
-    return method(name, *body, listed=row(1, 1) + u4(3) + b"\0\1\x41", **more)
+    return method(name, *body, listed=row(1) + attribute(1, BAD_MAPS["cut-type"]), **more)
 
 
 case(
@@ -183,8 +183,8 @@ case(
                 with_no_map("instructions", instructions("pop, pop, pop")),
                 with_no_map("rows", NOP, RETURN, handlers=[(0, 1, 0, 0)]),
                 # A frame between two instructions is none of either.
-                method("within", instructions("sipush 0, pop, return"), listed=row(1, 1) + u4(3) + b"\0\1\1"),
-                method("near", instructions("sipush 0, pop, return"), listed=row(1, 1) + u4(3) + b"\0\1\4"),
+                method("within", instructions("sipush 0, pop, return"), listed=row(1) + attribute(1, map_of("1 same"))),
+                method("near", instructions("sipush 0, pop, return"), listed=row(1) + attribute(1, map_of("4 same"))),
                 with_no_map("halt", opcode("breakpoint"), RETURN),
                 with_no_map("floats", RETURN, descriptor="(F)V"),
             ],

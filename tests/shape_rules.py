@@ -7,7 +7,8 @@ the program. Lines are those of check_rules.py.
 
 import check_rules
 import link_rules
-from check_rules import IINC, INVOKEINTERFACE, LDC, LDC2_W, LDC_W, Malformed, StackMap
+from check_rules import FULL, IINC, INVOKEINTERFACE, LDC, LDC2_W, LDC_W, SAME_EXTENDED, STACK_1_EXTENDED, Malformed, StackMap
+from check_rules import TYPE_DOUBLE, TYPE_FLOAT, TYPE_INT, TYPE_LONG, TYPE_TOP, TYPE_UNINITIALIZED
 from class_reader import CLASS, INTEGER, LONG, STRING
 from library_classes import LIBRARY
 from link_rules import GETFIELD, GETSTATIC, INVOKESPECIAL, INVOKESTATIC, INVOKEVIRTUAL, NEW, PUTFIELD, PUTSTATIC, STATIC
@@ -180,13 +181,14 @@ class Shape:
         before = entries if self.entries is None else self.entries
         kinds = [[self.kind_of(*one) for one in types] for types in lists]
         stack = []
-        if tag == 255:
+        if tag == FULL:
             locals, stack = kinds
-        elif 248 <= tag <= 250:
-            if 251 - tag > len(before):
+        elif STACK_1_EXTENDED < tag < SAME_EXTENDED:
+            chopped = SAME_EXTENDED - tag
+            if chopped > len(before):
                 raise NoShape
-            locals = before[: len(before) - (251 - tag)]
-        elif 252 <= tag <= 254:
+            locals = before[: len(before) - chopped]
+        elif tag > SAME_EXTENDED:
             locals = before + kinds[0]
         else:
             locals, stack = before, [kind for types in kinds for kind in types]
@@ -200,9 +202,9 @@ class Shape:
         self.frames[number] = self.padded(filled, self.code.max_locals), operands
 
     def kind_of(self, tag, address):
-        if tag == 8 and self.code.instructions[self.number[address]].op != NEW or tag in (2, 3):
+        if tag == TYPE_UNINITIALIZED and self.code.instructions[self.number[address]].op != NEW or tag in (TYPE_FLOAT, TYPE_DOUBLE):
             raise NoShape
-        return {0: None, 1: "I", 4: "L"}.get(tag, "R")
+        return {TYPE_TOP: None, TYPE_INT: "I", TYPE_LONG: "L"}.get(tag, "R")
 
     # Instructions.
 

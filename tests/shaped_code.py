@@ -10,13 +10,13 @@ a class, a name and a descriptor. `wide` stands before the name. A tableswitch h
 a lookupswitch a number and a label for each; the last word is the default's label. ldc and its like have the name of a constant.
 
 Frames are `same`, `stack TYPE`, `chop N`, `append TYPE..` and `full TYPE.. / TYPE..`; `same+` and `stack+` are the forms with two bytes
-of delta. Types are those of TYPES, `ref`, which is of Object, `ref:CLASS`, and `new:LABEL`. Rows are `FROM TO HANDLER`, and a class where they
-catch no others, separated by commas; TO may be `end`.
+of delta. Types are those of TYPES, `ref`, which is of Object, `ref:CLASS`, `class:INDEX` of any constant, `new:LABEL`, and `tag:N`, which is
+this byte alone. Rows are `FROM TO HANDLER`, and a class where they catch no others, separated by commas; TO may be `end`.
 """
 
 import re
 
-from class_files import DOUBLE, FIELD, FLOAT, INTEGER, INTERFACE_METHOD, LONG, METHOD, PUBLIC, STATIC, code, invoke_dynamic, row, u1, u2, u4
+from class_files import DOUBLE, FIELD, FLOAT, INTEGER, INTERFACE_METHOD, LONG, METHOD, PUBLIC, STATIC, attribute, code, invoke_dynamic, row, u1, u2, u4
 from opcodes import BASES, opcode
 
 TYPES = {"top": 0, "int": 1, "float": 2, "double": 3, "long": 4, "null": 5, "this": 6}
@@ -63,7 +63,50 @@ class Text:
         self.labels["end"] = len(self.words)
 
 
-class Body:
+class Frames:
+    """The bytes of frames, whose types name classes of this pool and addresses of these labels."""
+
+    def __init__(self, pool, **labels):
+        self.pool, self.labels = pool, labels
+
+    def address(self, label):
+        return self.labels[label]
+
+    def map_of(self, text, count=None, more=b""):
+        """A stack map whose frames are separated by commas, each with its delta before it, as in `0 stack int, 2 same`. Where another count
+        than theirs is given, it has that one; `more` stands behind the frames."""
+        made = [self.frame(int(delta), *frame) for delta, *frame in map(str.split, filter(None, text.split(",")))]
+        return u2(len(made) if count is None else count) + b"".join(made) + more
+
+    def frame(self, delta, form, *operands):
+        if form == "same" and delta < 64:
+            return u1(delta)
+        if form == "stack" and delta < 64:
+            return u1(64 + delta) + self.types(operands)
+        if form == "chop":
+            return u1(251 - int(operands[0])) + u2(delta)
+        if form == "full":
+            middle = operands.index("/")
+            lists = operands[:middle], operands[middle + 1 :]
+            return u1(255) + u2(delta) + b"".join(u2(len(each)) + self.types(each) for each in lists)
+        tag = {"same": 251, "stack": 247, "append": 251 + len(operands)}[form.rstrip("+")]
+        return u1(tag) + u2(delta) + self.types(operands)
+
+    def types(self, texts):
+        return b"".join(map(self.type, texts))
+
+    def type(self, text):
+        if text in TYPES:
+            return u1(TYPES[text])
+        kind, _, name = text.partition(":")
+        if kind == "tag":
+            return u1(int(name))
+        if kind == "new":
+            return u1(8) + u2(self.address(name))
+        return u1(7) + u2(int(name) if kind == "class" else self.pool.class_name(name or "java/lang/Object"))
+
+
+class Body(Frames):
     """The code of a text, with its stack map and its rows."""
 
     def __init__(self, pool, text, rows=""):
@@ -133,43 +176,18 @@ class Body:
             return self.pool.once(CONSTANTS[name])
         return self.pool.class_name(name[6:]) if name.startswith("class:") else self.pool.string("x")
 
-    # The stack map.
-
     def stack_map(self):
         last, made = -1, []
         for number, frame in sorted(self.text.frames.items()):
             delta, last = self.starts[number] - last - 1, self.starts[number]
-            made.append(self.frame(delta, *frame.split()))
-        return u2(len(made)) + b"".join(made)
-
-    def frame(self, delta, form, *operands):
-        if form == "same" and delta < 64:
-            return u1(delta)
-        if form == "stack" and delta < 64:
-            return u1(64 + delta) + self.types(operands)
-        if form == "chop":
-            return u1(251 - int(operands[0])) + u2(delta)
-        if form == "full":
-            middle = operands.index("/")
-            lists = operands[:middle], operands[middle + 1 :]
-            return u1(255) + u2(delta) + b"".join(u2(len(each)) + self.types(each) for each in lists)
-        tag = {"same": 251, "stack": 247, "append": 251 + len(operands)}[form.rstrip("+")]
-        return u1(tag) + u2(delta) + self.types(operands)
-
-    def types(self, texts):
-        return b"".join(map(self.type, texts))
-
-    def type(self, text):
-        if text in TYPES:
-            return u1(TYPES[text])
-        kind, _, name = text.partition(":")
-        return u1(8) + u2(self.address(name)) if kind == "new" else u1(7) + u2(self.pool.class_name(name or "java/lang/Object"))
+            made.append("%d %s" % (delta, frame))
+        return self.map_of(",".join(made))
 
     def attribute(self, stack, locals):
         if not self.text.frames:
             return code(self.code, stack, locals, self.rows)
         frames = self.stack_map()
-        listed = row(1, self.pool.text("StackMapTable")) + u4(len(frames)) + frames
+        listed = row(1) + attribute(self.pool.text("StackMapTable"), frames)
         return code(self.code, stack, locals, self.rows, listed)
 
 

@@ -8,10 +8,11 @@ import sys
 sys.dont_write_bytecode = True
 
 import harness
-from class_files import class_entry, row, text_entry, u1, u4
+from class_files import A_CLASS, ABSTRACT, PUBLIC, STATIC, Pool, attribute, class_entry, row, text_entry, u1, u4
 from harness import Outcome
 from instructions import instructions
 from meaning import differences
+from shaped_code import Frames
 from special_base import MEBIBYTES_4, file_limit
 
 HERE = os.path.dirname(os.path.abspath(__file__))
@@ -136,7 +137,7 @@ def texts_pool(*texts):
 def class_of(pool_count, pool=b"", interfaces=(0, b""), fields=(0, b""), methods=(0, b"")):
     """The class file of a text that begins with HEAD. Its constant_pool_count is this one, and its pool has these entries after those of HEAD."""
     tables = b"".join(row(count) + table for count, table in (interfaces, fields, methods))
-    return u4(0xCAFEBABE) + row(0, 52, pool_count) + HEAD_POOL + pool + row(0x21, 2, 4) + tables + row(0)
+    return u4(0xCAFEBABE) + row(0, 52, pool_count) + HEAD_POOL + pool + row(A_CLASS, 2, 4) + tables + row(0)
 
 
 def large(line):
@@ -154,7 +155,7 @@ def counted(count):
     yield "interfaces", b".implements I\n" * count, 2 + count, lambda: class_of(7, texts_pool(b"I") + class_entry(5), (count, row(6) * count))
     yield "fields", b".field 0 a I\n" * count, 2 + count, lambda: class_of(7, texts_pool(b"a", b"I"), fields=(count, row(0, 5, 6, 0) * count))
     abstract = b".abstract 400 a ()V\n" * count
-    yield "methods", abstract, 2 + count, lambda: class_of(7, texts_pool(b"a", b"()V"), methods=(count, row(0x400, 5, 6, 0) * count))
+    yield "methods", abstract, 2 + count, lambda: class_of(7, texts_pool(b"a", b"()V"), methods=(count, row(ABSTRACT, 5, 6, 0) * count))
     rows = b"a:\nnop\nb:\nreturn\n" + b".catch any a b a\n" * count + b".end\n"
     yield "rows", method + rows, 9 + count, lambda: caught_class(count)
     for name, locals_, stack in (("locals", count, 0), ("operands", 0, count)):
@@ -173,15 +174,15 @@ def framed_class(frames):
 
 
 def full_frame(locals_, stack):
-    """A StackMapTable with one full_frame at the first instruction."""
-    return row(1) + u1(255) + row(0, locals_) + u1(1) * locals_ + row(stack) + u1(1) * stack
+    """A StackMapTable with one full_frame of ints at the first instruction."""
+    return Frames(Pool()).map_of("0 full %s/ %s" % ("int " * locals_, "int " * stack))
 
 
 def coded_method(code, rows=(0, b""), map_of=None):
     """The method of the texts with code, where 7 is `Code` and 8 is `StackMapTable`."""
-    attributes = row(0) if map_of is None else row(1, 8) + u4(len(map_of)) + map_of
+    attributes = row(0) if map_of is None else row(1) + attribute(8, map_of)
     body = row(1, 1) + u4(len(code)) + code + row(rows[0]) + rows[1] + attributes
-    return row(9, 5, 6, 1, 7) + u4(len(body)) + body
+    return row(PUBLIC | STATIC, 5, 6, 1) + attribute(7, body)
 
 
 # A pool with the names of this many fields, and a name or a long as its last entry.

@@ -8,9 +8,8 @@ have a private or a static one, which isn't found. Whether a member is static sa
 import random
 
 import harness
-from class_files import ABSTRACT, OBJECT, PUBLIC, STATIC, Pool, class_file
-from link_rule_cases import GETFIELD, GETSTATIC, INTERFACE, PRIVATE, STATICALLY, VIRTUAL, members
-from rule_cases import A_CLASS, AN_INTERFACE
+from class_files import A_CLASS, ABSTRACT, AN_INTERFACE, OBJECT, PRIVATE, PUBLIC, STATIC, Pool, class_file
+from link_rule_cases import GETFIELD, GETSTATIC, INTERFACE, STATICALLY, VIRTUAL, members
 from special_base import by_reference, misjudged, write_classes
 
 # The classes that stand beside the others have both members, and are more than are looked at one by one.

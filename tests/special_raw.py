@@ -8,9 +8,10 @@ import sys
 sys.dont_write_bytecode = True
 
 import harness
-from class_files import PUBLIC, STATIC, Pool, class_file, code, straight, u2, u4
+from class_files import Pool, class_file, straight
 from harness import Outcome
 from instructions import instructions
+from shaped_code import Method
 from special_base import MEBIBYTES_4, RAW, rejected, returned, special, total_limit, write, write_files, write_long, write_one, write_zeros
 
 HERE = os.path.dirname(os.path.abspath(__file__))
@@ -45,9 +46,8 @@ def raw_class_file_of_4194304():
 def jump_to_itself():
     """A class whose code is a goto to itself, with its frame."""
     pool = Pool()
-    stack_map = u2(pool.text("StackMapTable")) + u4(3) + u2(1) + b"\0"
-    body = code(instructions("goto 0"), 1, 1, listed=u2(1) + stack_map)
-    return class_file("A", [("verify", "([B)[B", PUBLIC | STATIC, [body])], pool=pool)
+    method, _ = Method("verify([B)[B", "Start: {same} goto Start", stack=1, locals=1).made(pool)
+    return class_file("A", [method], pool=pool)
 
 
 @special(*RAW, wanted=Outcome(8, b"STEPS 10000000\nsteps 10000000\n"))

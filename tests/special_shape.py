@@ -8,8 +8,7 @@ the state flows, and each handler has a frame that fits its range. Those named `
 import random
 
 import harness
-from class_files import ABSTRACT, PUBLIC, STATIC, Pool, class_file
-from rule_cases import AN_INTERFACE
+from class_files import ABSTRACT, AN_INTERFACE, PUBLIC, STATIC, Pool, class_file
 from shaped_code import Method, made_all
 from special_base import by_reference, misjudged, write_classes
 

@@ -7,7 +7,7 @@ import sys
 sys.dont_write_bytecode = True
 
 import harness
-from class_files import ABSTRACT, INTERFACE, PUBLIC, STATIC, Pool, class_file, code, straight, u1, u2, u4
+from class_files import ABSTRACT, INTERFACE, PUBLIC, STATIC, Pool, attribute, class_file, code, straight, u1, u2, u4
 from harness import Outcome
 from instructions import instructions
 from opcodes import BASES, OPCODES, opcode
@@ -165,7 +165,7 @@ def with_map():
     """A class whose code has a stack map without frames."""
     pool = Pool()
     name = pool.text("StackMapTable")
-    return class_of_method(listed=[code(BODY, 1, 1, listed=u2(1) + u2(name) + u4(2) + u2(0))], pool=pool)
+    return class_of_method(listed=[code(BODY, 1, 1, listed=u2(1) + attribute(name, u2(0)))], pool=pool)
 
 
 def not_straight(program, results):
@@ -176,10 +176,10 @@ def not_straight(program, results):
         "no superclass": class_file("A", [straight(BODY)], super_name=None),
         "an interface listed": class_file("A", [straight(BODY)], interfaces=["java/lang/Runnable"]),
         "a field": class_file("A", [straight(BODY)], fields=[("x", "I", STATIC)]),
-        "a constructor": class_file("A", [straight(BODY), ("<init>", "()V", 1, [code()])]),
+        "a constructor": class_file("A", [straight(BODY), ("<init>", "()V", PUBLIC, [code()])]),
         "an initialiser": class_file("A", [straight(BODY, name="<clinit>")]),
         "two methods of one name": class_file("A", [straight(BODY), straight(BODY)]),
-        "other descriptor": class_file("A", [straight(BODY), ("f", "([B)V", 9, [code()])]),
+        "other descriptor": class_file("A", [straight(BODY), ("f", "([B)V", PUBLIC | STATIC, [code()])]),
         "not static": class_of_method(flags=PUBLIC),
         "abstract": class_of_method(flags=PUBLIC | STATIC | ABSTRACT),
         "no code": class_of_method(listed=[("code", right)]),

@@ -6,9 +6,11 @@ from class_files import (
     PUBLIC,
     RETURNS_ITS_ARGUMENT,
     STATIC,
+    attribute,
     class_file,
     code,
     native,
+    row,
     straight,
     string,
     u1,
@@ -228,7 +230,7 @@ case(
                     STATIC,
                     [
                         ("StackMapTable", b"\0\0"),
-                        code(instructions("aload_0, areturn"), 1, 1, listed=bytes.fromhex("0002 ffff 00000001 00 0001 00000000")),
+                        code(instructions("aload_0, areturn"), 1, 1, listed=row(2) + attribute(65535, b"\0") + attribute(1, b"")),
                     ],
                 )
             ],

@@ -1,6 +1,22 @@
 """What the scripts of tests/written share: where they put their cases, and class files whose constants stand in a given order."""
 
-from class_files import FIELD, INTERFACE_METHOD, METHOD, OBJECT, Pool, class_file, invoke_dynamic, method_handle, method_type, row, u1, u2, u4
+from class_files import (
+    FIELD,
+    INTERFACE_METHOD,
+    METHOD,
+    OBJECT,
+    PUBLIC,
+    STATIC,
+    Pool,
+    class_file,
+    invoke_dynamic,
+    method_handle,
+    method_type,
+    row,
+    u1,
+    u2,
+    u4,
+)
 from shaped_code import Body, Method, parameters
 
 # The files and the words of each case, by its name.
@@ -41,7 +57,7 @@ def above(name, *before, **more):
     return in_order(name, (OBJECT,), *before, **more)
 
 
-def of_method(name, attributes, *inner, flags=9):
+def of_method(name, attributes, *inner, flags=PUBLIC | STATIC):
     """A file with one method; `inner` are constants that stand before the name of its code."""
     return in_order(name, *inner, *(["Code"] if attributes else []), "m", "()V", methods=[("m", "()V", flags, attributes)])
 
@@ -50,11 +66,6 @@ def by_indexes(flags, this_class, super_class, interfaces=(), fields=b"\0\0", me
     """A class file by its indexes; the count is that of the pool where it isn't given."""
     head = u4(0xCAFEBABE) + row(0, 52, pool.count if count is None else count) + b"".join(pool.entries)
     return head + row(flags, this_class, super_class, len(interfaces), *interfaces) + fields + methods + listed
-
-
-def attribute(name, body):
-    """An attribute, by the index of its name."""
-    return row(name) + u4(len(body)) + body
 
 
 def each_of(prefix, items, make):

@@ -53,12 +53,6 @@ def misnamed(case):
     return ["no line has rule %s" % rule for rule in (match[1][1:].split("-") if match else []) if rule not in case.rules]
 
 
-def mismade(case):
-    files, words = found[case.name]
-    lines = [] if words == case.words else ["words: %r are made" % words]
-    return lines + make_cases.unlike(files, make_cases.files_of(os.path.join(case.top, "files")))
-
-
 def check(results):
     for name in sorted({*found, *os.listdir(WRITTEN)}):
         title = "tests/written/%s" % name
@@ -66,7 +60,7 @@ def check(results):
             results.add(title, [], ["it isn't there" if name in found else "no script makes it"])
             continue
         case = Case(os.path.join(WRITTEN, name))
-        results.add(title, case.words, misreported(case) + misnamed(case) + mismade(case))
+        results.add(title, case.words, misreported(case) + misnamed(case) + make_cases.mismade(case.top, *found[name]))
 
 
 def main():

@@ -1,13 +1,18 @@
 """The cases class-file-* of tests/written on `djvm check`: what is a class file (JVMS 4.1 to 4.7), what isn't, and the rules 1 to 8."""
 
 from class_files import (
+    A_CLASS,
     ABSTRACT,
+    AN_INTERFACE,
     FIELD,
     INTERFACE_METHOD,
     METHOD,
     NATIVE,
     OBJECT,
+    PUBLIC,
     RETURNS_ITS_ARGUMENT,
+    STATIC,
+    attribute,
     class_entry,
     class_file,
     code,
@@ -27,7 +32,6 @@ from opcodes import opcode
 from written_base import (
     above,
     add_every,
-    attribute,
     by_indexes,
     check,
     each_of,
@@ -42,7 +46,7 @@ from written_base import (
 
 one = RETURNS_ITS_ARGUMENT
 LONG_1 = wide_entry(5, 1)
-METHOD_1 = ("n", "()V", NATIVE | 1)
+METHOD_1 = ("n", "()V", PUBLIC | NATIVE)
 
 check(
     "class-file-all-together",
@@ -52,7 +56,7 @@ check(
         "C": in_order("D", "n", "()V", methods=[METHOD_1])[:-1] + b"\1",
         "a-": one,
         "a": one,
-        "a/C": in_order("D", "finalize", "()V", methods=[("finalize", "()V", NATIVE | 1)]),
+        "a/C": in_order("D", "finalize", "()V", methods=[("finalize", "()V", PUBLIC | NATIVE)]),
     },
 )
 
@@ -66,9 +70,9 @@ def with_attributes(kind, name, listed, *before):
     name = "%s-%s" % (kind, name)
     pool = pool_of((name,), *before, *OF_MEMBERS[kind], (OBJECT,))
     last = pool.count - 1
-    head = row(1, 1 if kind == "f" else ABSTRACT | 1, last - 3, last - 2)
+    head = row(1, PUBLIC if kind == "f" else PUBLIC | ABSTRACT, last - 3, last - 2)
     tables = {"c": dict(listed=listed), "f": dict(fields=head + listed), "m": dict(methods=head + listed)}
-    return {name: by_indexes(0x21, 2, last, pool=pool, **tables[kind])}
+    return {name: by_indexes(A_CLASS, 2, last, pool=pool, **tables[kind])}
 
 
 def with_each_attribute(kind):
@@ -107,7 +111,7 @@ check(
 
 def with_classes(name, this_class=2, super_class=4, interfaces=()):
     pool = pool_of((name,), (OBJECT,), "[I", class_entry(5), LONG_1, "s", string(9), "x/Y", class_entry(11))
-    return by_indexes(0x21, this_class, super_class, interfaces, pool=pool)
+    return by_indexes(A_CLASS, this_class, super_class, interfaces, pool=pool)
 
 
 INTERFACES = {"none": [], "two": [12, 12], "zero": [0], "utf8": [1], "own": [2], "array": [12, 6], "past": [11], "object": [4]}
@@ -129,8 +133,8 @@ check(
 rich = in_order(
     "Rich",
     *(wide_entry(5, 5), "ConstantValue", "f", "J", "LineNumberTable", "Code", "m", "()V", "R.java", "SourceFile"),
-    fields=[("f", "J", 9, [("ConstantValue", u2(3))])],
-    methods=[("m", "()V", 9, [code(max_stack=1, max_locals=0, listed=row(1) + attribute(8, row(0)))])],
+    fields=[("f", "J", PUBLIC | STATIC, [("ConstantValue", u2(3))])],
+    methods=[("m", "()V", PUBLIC | STATIC, [code(max_stack=1, max_locals=0, listed=row(1) + attribute(8, row(0)))])],
     interfaces=["I"],
     listed=[("SourceFile", u2(12))],
 )
@@ -143,7 +147,7 @@ check(
         "A": in_order(
             "A",
             *("f", "()LA(I)LB;", "f()LA", "(I)LB;", "g", "()V"),
-            methods=[(*each, NATIVE | 1) for each in (("f", "()LA(I)LB;"), ("f()LA", "(I)LB;"), ("g", "()V"), ("g", "()V"))],
+            methods=[(*each, PUBLIC | NATIVE) for each in (("f", "()LA(I)LB;"), ("f()LA", "(I)LB;"), ("g", "()V"), ("g", "()V"))],
         )
     },
 )
@@ -211,17 +215,17 @@ check("class-file-link-member", members)
 
 # The other constants that name constants.
 
-A_CLASS = ["A", class_entry(5)]
+CLASS_OF_A = ["A", class_entry(5)]
 X_OF_INT = ["x", "I", name_and_type(5, 6)]
 OTHERS = {
     "dyn-0": [invoke_dynamic(0, 0)],
     "dyn-angle": ["<x>", "()V", name_and_type(5, 6), invoke_dynamic(9, 7)],
-    "dyn-class": [*A_CLASS, invoke_dynamic(0, 6)],
+    "dyn-class": [*CLASS_OF_A, invoke_dynamic(0, 6)],
     "dyn-f": [*X_OF_INT, invoke_dynamic(9, 7)],
     "dyn-init": ["<init>", "()V", name_and_type(5, 6), invoke_dynamic(9, 7)],
     "dyn-m": ["x", "()V", name_and_type(5, 6), invoke_dynamic(9, 7)],
     "mtype-0": [method_type(0)],
-    "mtype-class": [*A_CLASS, method_type(6)],
+    "mtype-class": [*CLASS_OF_A, method_type(6)],
     "mtype-f": ["I", method_type(5)],
     "mtype-m": ["()V", method_type(5)],
     "mtype-m2": ["([F)D", method_type(5)],
@@ -235,7 +239,7 @@ OTHERS = {
     "string-utf8": ["y", string(5)],
 }
 for kind in 0, 1:
-    OTHERS["handle-class-%d" % kind] = [*A_CLASS, method_handle(kind, 6)]
+    OTHERS["handle-class-%d" % kind] = [*CLASS_OF_A, method_handle(kind, 6)]
     OTHERS["handle-dyn-%d" % kind] = ["m", "()V", name_and_type(5, 6), invoke_dynamic(0, 7), method_handle(kind, 8)]
     OTHERS["handle-handle-%d" % kind] = [method_handle(kind, 5)]
     OTHERS["handle-mtype-%d" % kind] = ["()V", method_type(5), method_handle(kind, 6)]
@@ -245,7 +249,7 @@ for kind in 0, 1:
     OTHERS["handle-utf8-%d" % kind] = ["A", method_handle(kind, 5)]
 for kind in 0, 1, 5, 9, 200:
     for tag, word, descriptor in (FIELD, "field", "I"), (METHOD, "method", "()V"), (INTERFACE_METHOD, "imethod", "()V"):
-        member = [*A_CLASS, "x", descriptor, name_and_type(7, 8), member_entry(tag, 6, 9)]
+        member = [*CLASS_OF_A, "x", descriptor, name_and_type(7, 8), member_entry(tag, 6, 9)]
         OTHERS["handle-%s-%d" % (word, kind)] = [*member, method_handle(kind, 10)]
 check("class-file-link-others", {name: above(name, *before) for name, before in OTHERS.items()})
 
@@ -256,7 +260,7 @@ def wide_counts(tag):
     """A long or a double as the last constant, whose second index is counted or isn't."""
     files = {}
     for name, count in ("w%d-both" % tag, 7), ("w%d-one" % tag, 6):
-        files[name] = by_indexes(0x21, 2, 4, count=count, pool=pool_of((name,), (OBJECT,), wide_entry(tag, 1)))
+        files[name] = by_indexes(A_CLASS, 2, 4, count=count, pool=pool_of((name,), (OBJECT,), wide_entry(tag, 1)))
     return files
 
 
@@ -264,7 +268,7 @@ check(
     "class-file-long-and-double",
     {
         **{"hole-" + name: above("hole-" + name, LONG_1, entry) for name, entry in HOLES.items()},
-        "this-is-hole": by_indexes(0x21, 6, 4, pool=pool_of(("this-is-hole",), (OBJECT,), LONG_1)),
+        "this-is-hole": by_indexes(A_CLASS, 6, 4, pool=pool_of(("this-is-hole",), (OBJECT,), LONG_1)),
         "two-longs": above("two-longs", LONG_1, wide_entry(5, 2), wide_entry(6, 3), "z"),
         **wide_counts(5),
         **wide_counts(6),
@@ -291,7 +295,7 @@ MORE_METHODS = [([integer_entry(4), "()V"], 1, 2), (["[I", class_entry(1), "x"],
 
 def of_members(kind, good, bad, more):
     """The good ones, the bad ones behind them, and those that are given by indexes."""
-    flags = 1 if kind == "field" else ABSTRACT | 1
+    flags = PUBLIC if kind == "field" else PUBLIC | ABSTRACT
     given = [(list(dict.fromkeys(each)), each) for each in good + bad]
     given += [(before, indexes) for before, *indexes in more]
     files = {}
@@ -300,7 +304,7 @@ def of_members(kind, good, bad, more):
         pool = pool_of(*before, (title,), (OBJECT,))
         indexes = [each if isinstance(each, int) else pool.text(each) for each in (name, descriptor)]
         table = row(1, flags, *indexes, 0)
-        files[title] = by_indexes(0x21, pool.class_name(title), pool.count - 1, pool=pool, **{kind + "s": table})
+        files[title] = by_indexes(A_CLASS, pool.class_name(title), pool.count - 1, pool=pool, **{kind + "s": table})
     return files
 
 
@@ -312,16 +316,18 @@ found["class-file-names"][0]["c/K.CLASS"] = class_file("Q")
 
 # The rules 7 and 8.
 
-NATIVES_AND_OTHERS = [("n", "()V", 257), ("n", "(I)V", 265), ("a", "()V", 0x500), ("b", "()V", 1), ("z", "()V", 0xFFFF), ("finalize", "()V", 1025)]
-NATIVES_AND_OTHERS += [("finalize", "()I", 1025), ("finalize", "(I)V", 1025), ("finalise", "()V", 1025), ("Finalize", "()V", 1025)]
-FINALIZERS = [("finalize", "()V", ABSTRACT | NATIVE | 1), ("<clinit>", "()V", ABSTRACT | NATIVE | 1)]
+NATIVES_AND_OTHERS = [("n", "()V", PUBLIC | NATIVE), ("n", "(I)V", PUBLIC | STATIC | NATIVE), ("a", "()V", NATIVE | ABSTRACT), ("b", "()V", PUBLIC)]
+NATIVES_AND_OTHERS += [("z", "()V", 0xFFFF), ("finalize", "()V", PUBLIC | ABSTRACT), ("finalize", "()I", PUBLIC | ABSTRACT)]
+NATIVES_AND_OTHERS += [(name, descriptor, PUBLIC | ABSTRACT) for name, descriptor in (("finalize", "(I)V"), ("finalise", "()V"), ("Finalize", "()V"))]
+FINALIZERS = [(name, "()V", PUBLIC | NATIVE | ABSTRACT) for name in ("finalize", "<clinit>")]
+ODD_NAMES = [("a b%é", "(Lx y;)V", PUBLIC | NATIVE), ("~", "()V", NATIVE), ("!", "()V", NATIVE)]
 check(
     "class-file-native-finalizer",
     {
         "A": in_order("A", "n", "()V", "(I)V", "a", "b", "z", "finalize", "()I", "finalise", "Finalize", methods=NATIVES_AND_OTHERS),
-        "B": in_order("B", "finalize", "()V", methods=[("finalize", "()V", NATIVE | 9)]),
-        "I": in_order("I", "finalize", "()V", "<clinit>", flags=0x601, methods=FINALIZERS),
-        "p/Q": in_order("p/Q", "a b%é", "(Lx y;)V", "~", "()V", "!", methods=[("a b%é", "(Lx y;)V", 257), ("~", "()V", 256), ("!", "()V", 256)]),
+        "B": in_order("B", "finalize", "()V", methods=[("finalize", "()V", PUBLIC | STATIC | NATIVE)]),
+        "I": in_order("I", "finalize", "()V", "<clinit>", flags=AN_INTERFACE, methods=FINALIZERS),
+        "p/Q": in_order("p/Q", "a b%é", "(Lx y;)V", "~", "()V", "!", methods=ODD_NAMES),
     },
 )
 
@@ -335,19 +341,19 @@ def with_code(name, body=opcode("return"), **more):
 def with_value(name, bodies, *before):
     """A file with a field that has these values; the constants `before` begin at 1."""
     pool = pool_of(*before, "ConstantValue", "f", "I", (name,))
-    return class_file(name, fields=[("f", "I", 9, [("ConstantValue", body) for body in bodies])], pool=pool)
+    return class_file(name, fields=[("f", "I", PUBLIC | STATIC, [("ConstantValue", body) for body in bodies])], pool=pool)
 
 
 def with_maps(name, *maps):
     return of_method(name, [code(max_locals=0, listed=row(len(maps)) + b"".join(attribute(3, body) for body in maps))], "StackMapTable")
 
 
-TWICE = dict(fields=[("f", "I", 1)] * 2, methods=[("m", "()V", ABSTRACT | 1)] * 2)
+TWICE = dict(fields=[("f", "I", PUBLIC)] * 2, methods=[("m", "()V", PUBLIC | ABSTRACT)] * 2)
 trailing = ("Code", code(max_locals=0)[1] + b"\0")
 check(
     "class-file-not-yet",
     {
-        "abstract-code": of_method("abstract-code", [code(max_locals=0)], flags=ABSTRACT | 1),
+        "abstract-code": of_method("abstract-code", [code(max_locals=0)], flags=PUBLIC | ABSTRACT),
         "code-cut": with_code("code-cut", opcode("bipush")),
         "code-empty": of_method("code-empty", [("Code", b"")]),
         "code-falls-out": with_code("code-falls-out", opcode("nop")),
@@ -362,7 +368,7 @@ check(
         "map-bad": with_maps("map-bad", row(1) + u1(128)),
         "no-code": of_method("no-code", []),
         "row-empty": with_code("row-empty", handlers=[(0, 0, 0, 0)]),
-        "super-0": by_indexes(0x21, 2, 0, pool=pool_of(("super-0",), (OBJECT,))),
+        "super-0": by_indexes(A_CLASS, 2, 0, pool=pool_of(("super-0",), (OBJECT,))),
         "super-missing": class_file("super-missing", super_name="x/Y"),
         "twice": class_file("twice", pool=pool_of("f", "I", "m", "()V", ("twice",)), **TWICE),
         "two-codes": of_method("two-codes", [code(max_locals=0)] * 2),
@@ -376,7 +382,7 @@ check(
 
 
 def counted(name, count, *before):
-    return by_indexes(0x21, 2, 4, count=count, pool=pool_of((name,), (OBJECT,), *before))
+    return by_indexes(A_CLASS, 2, 4, count=count, pool=pool_of((name,), (OBJECT,), *before))
 
 
 FIVE = integer_entry(5)

@@ -3,7 +3,26 @@
 `uses` makes a method of instructions that name something, each behind what pushes what it takes, and `caught` one of handlers (written_base.py).
 """
 
-from class_files import FIELD, INTERFACE_METHOD, METHOD, OBJECT, RETURNS_ITS_ARGUMENT, class_file, code, invoke_dynamic, method_handle, method_type, u2
+from class_files import (
+    A_CLASS,
+    ABSTRACT,
+    AN_INTERFACE,
+    FIELD,
+    FINAL,
+    INTERFACE_METHOD,
+    METHOD,
+    NATIVE,
+    OBJECT,
+    PUBLIC,
+    RETURNS_ITS_ARGUMENT,
+    STATIC,
+    class_file,
+    code,
+    invoke_dynamic,
+    method_handle,
+    method_type,
+    u2,
+)
 from instructions import instructions
 from opcodes import OPCODES
 from shaped_code import Method
@@ -12,7 +31,7 @@ from written_base import caught, check, coded, integer_entry, pool_of, uses, wid
 # The two rules are judged where the rules 1 to 6 hold of the whole set, and beside the others.
 
 named = Method("m", "invokestatic java/lang/Thread yield ()V, invokestatic x/Y m ()V, breakpoint, return")
-B = coded("B", named, ("n", "()V", 0x101))
+B = coded("B", named, ("n", "()V", PUBLIC | NATIVE))
 for name, files in {
     "none": {"A": class_file("A")},
     "rule-1": {"A": RETURNS_ITS_ARGUMENT[:60]},
@@ -25,7 +44,7 @@ for name, files in {
     "rule-6-final": {"A": class_file("A", super_name="java/lang/String")},
     "rule-6-interface": {"A": class_file("A", interfaces=[OBJECT])},
     "rule-6-super-0": {"A": class_file("A", super_name=None)},
-    "rule-6-twice": {"A": coded("A", fields=[("x", "I", 9)] * 2)},
+    "rule-6-twice": {"A": coded("A", fields=[("x", "I", PUBLIC | STATIC)] * 2)},
 }.items():
     check("linked-judged-" + name, {**files, "B": B})
 check(
@@ -33,12 +52,12 @@ check(
     {
         "A": coded(
             "A",
-            ("n", "()V", 0x101),
+            ("n", "()V", PUBLIC | NATIVE),
             Method("f(F)V", "invokestatic java/lang/Thread yield ()V, return"),
             Method("finalize", "invokestatic x/Y m ()V, return"),
             Method("d", "fconst_0, invokestatic x/Y m (F)V, return"),
         ),
-        "I": coded("I", Method("m", "invokestatic x/Y m ()V, return"), flags=0x601),
+        "I": coded("I", Method("m", "invokestatic x/Y m ()V, return"), flags=AN_INTERFACE),
     },
 )
 catches = "A: nop, B: return, C: {stack ref:java/lang/Throwable} checkcast %s, pop, return"
@@ -62,9 +81,9 @@ check(
         "B": coded(
             "B",
             Method("z", "breakpoint, ldc class:B, pop, invokestatic x/Y m ()V, new java/lang/Thread, pop, jsr A, A: return"),
-            ("n", "(F)V", 0x101),
+            ("n", "(F)V", PUBLIC | NATIVE),
             Method("a", "invokedynamic x (D)V, return"),
-            fields=[("f", "F", 9)],
+            fields=[("f", "F", PUBLIC | STATIC)],
         ),
         "a/B": coded("a/B", Method("b", "breakpoint, return"), Method("B", "breakpoint, return")),
     },
@@ -259,9 +278,9 @@ check(
                 "invokespecial [LA; hashCode ()I", "invokespecial [I hashCode ()I", "invokespecial [LA; <init> ()V",
                 "invokeinterface [LI; hashCode ()I", "invokevirtual [LI; hashCode ()I",
             ),
-            fields=[("f", "I", 0x9)],
+            fields=[("f", "I", PUBLIC | STATIC)],
         ),
-        "I": class_file("I", flags=0x601),
+        "I": class_file("I", flags=AN_INTERFACE),
     },
 )
 check(
@@ -364,7 +383,7 @@ check(
                 "aconst_null, checkcast A, checkcast [LA;, checkcast [[I, pop, new A, pop, iconst_1, anewarray [[J, pop, return",
             ),
             caught("h", "[I", "A", "[LA;"),
-            ("t", "(Lx/Y;)[Lx/Y;", 0x401),
+            ("t", "(Lx/Y;)[Lx/Y;", PUBLIC | ABSTRACT),
         ),
     },
 )
@@ -373,8 +392,8 @@ check(
     {
         "A": coded(
             "A",
-            Method("<init>", "aload_0, invokespecial java/lang/Object <init> ()V, return", flags=0x1, stack=1, locals=1),
-            Method("<clinit>", "return", flags=0x8),
+            Method("<init>", "aload_0, invokespecial java/lang/Object <init> ()V, return", flags=PUBLIC, stack=1, locals=1),
+            Method("<clinit>", "return", flags=STATIC),
             Method("<clinit>(I)V", "return"),
             uses(
                 "a",
@@ -383,20 +402,21 @@ check(
                 "invokespecial java/lang/Object <init> ()V", "invokespecial B <init> ()V", "invokeinterface I <init> ()V",
                 "invokespecial interface:I <init> ()V",
             ),
-            fields=[("<init>", "I", 0x9), ("<clinit>", "I", 0x9), ("<x>", "I", 0x9)],
+            fields=[("<init>", "I", PUBLIC | STATIC), ("<clinit>", "I", PUBLIC | STATIC), ("<x>", "I", PUBLIC | STATIC)],
         ),
         "B": class_file("B", super_name="A"),
-        "I": class_file("I", flags=0x601),
+        "I": class_file("I", flags=AN_INTERFACE),
     },
 )
 pool = pool_of(("I",), (OBJECT,), "c", "ConstantValue", integer_entry(5), "q", "()V")
-with_constant = class_file("I", [("q", "()V", 0x401)], [("c", "I", 0x19, [("ConstantValue", u2(pool.count - 3))])], flags=0x601, pool=pool)
+constant = ("c", "I", PUBLIC | STATIC | FINAL, [("ConstantValue", u2(pool.count - 3))])
+with_constant = class_file("I", [("q", "()V", PUBLIC | ABSTRACT)], [constant], flags=AN_INTERFACE, pool=pool)
 check(
     "linked-rule-18-members",
     {
         "A": coded(
             "A",
-            Method("m", "return", flags=0x1),
+            Method("m", "return", flags=PUBLIC),
             Method("t", "return"),
             Method(
                 "a",
@@ -409,10 +429,10 @@ check(
                 "invokestatic A t ()V, getstatic B s I, pop, invokestatic B t ()V, getstatic B c I, pop, aconst_null, "
                 "invokevirtual B q ()V, aconst_null, invokevirtual B hashCode ()I, pop, return",
             ),
-            fields=[("s", "I", 0x9), ("i", "I", 0x1)],
+            fields=[("s", "I", PUBLIC | STATIC), ("i", "I", PUBLIC)],
         ),
-        "B": class_file("B", super_name="A", interfaces=["I"], flags=0x421),
-        "C": class_file("C", super_name="B", flags=0x421),
+        "B": class_file("B", super_name="A", interfaces=["I"], flags=A_CLASS | ABSTRACT),
+        "C": class_file("C", super_name="B", flags=A_CLASS | ABSTRACT),
         "D": coded(
             "D",
             uses("a", "getstatic C c I", "getfield E i I", "invokestatic E t ()V", "invokevirtual E q ()V"),
@@ -425,10 +445,10 @@ check(
     "linked-rule-18-new",
     {
         "A": coded("A", Method("m", "new I, pop, new Abs, pop, new Fin, pop, new A, pop, new [LA;, pop, new Ann, pop, return")),
-        "Abs": class_file("Abs", flags=0x421),
+        "Abs": class_file("Abs", flags=A_CLASS | ABSTRACT),
         "Ann": class_file("Ann", flags=0x2600),
-        "Fin": class_file("Fin", flags=0x31),
-        "I": class_file("I", flags=0x601),
+        "Fin": class_file("Fin", flags=A_CLASS | FINAL),
+        "I": class_file("I", flags=AN_INTERFACE),
     },
 )
 check(
@@ -437,7 +457,7 @@ check(
         "A": coded(
             "A",
             Method("t", "return"),
-            Method("m", "return", flags=0x1),
+            Method("m", "return", flags=PUBLIC),
             uses(
                 "a",
                 "invokevirtual I q ()V", "invokeinterface I q ()V", "invokeinterface A m ()V", "invokestatic interface:A t ()V",
@@ -446,24 +466,24 @@ check(
                 "invokeinterface I hashCode ()I", "invokevirtual I hashCode ()I",
             ),
         ),
-        "I": coded("I", ("q", "()V", 0x401), ("st", "()V", 0x409), flags=0x601),
+        "I": coded("I", ("q", "()V", PUBLIC | ABSTRACT), ("st", "()V", PUBLIC | STATIC | ABSTRACT), flags=AN_INTERFACE),
     },
 )
 check(
     "linked-rule-18-special",
     {
         "A": class_file("A", super_name="B"),
-        "B": coded("B", Method("m", "return", flags=0x1), super_name="Top"),
-        "Below": class_file("Below", super_name="Sub", flags=0x421),
-        "I": coded("I", ("q", "()V", 0x401), flags=0x601),
+        "B": coded("B", Method("m", "return", flags=PUBLIC), super_name="Top"),
+        "Below": class_file("Below", super_name="Sub", flags=A_CLASS | ABSTRACT),
+        "I": coded("I", ("q", "()V", PUBLIC | ABSTRACT), flags=AN_INTERFACE),
         "Other": coded(
             "Other",
-            Method("m", "return", flags=0x1),
-            Method("<init>", "aload_0, invokespecial java/lang/Object <init> ()V, return", flags=0x1, stack=1, locals=1),
+            Method("m", "return", flags=PUBLIC),
+            Method("<init>", "aload_0, invokespecial java/lang/Object <init> ()V, return", flags=PUBLIC, stack=1, locals=1),
         ),
         "Sub": coded(
             "Sub",
-            Method("m", "return", flags=0x1),
+            Method("m", "return", flags=PUBLIC),
             uses(
                 "a",
                 "invokespecial Sub m ()V", "invokespecial A m ()V", "invokespecial B m ()V", "invokespecial Top t ()V",
@@ -474,9 +494,9 @@ check(
             ),
             super_name="A",
             interfaces=["I"],
-            flags=0x421,
+            flags=A_CLASS | ABSTRACT,
         ),
-        "Top": coded("Top", Method("t", "return", flags=0x1), Method("m", "return", flags=0x1)),
+        "Top": coded("Top", Method("t", "return", flags=PUBLIC), Method("m", "return", flags=PUBLIC)),
     },
 )
 check(
@@ -484,9 +504,9 @@ check(
     {
         "A": coded(
             "A",
-            Method("m", "return", flags=0x1),
+            Method("m", "return", flags=PUBLIC),
             Method("t", "return"),
-            Method("<init>", "aload_0, invokespecial java/lang/Object <init> ()V, return", flags=0x1, stack=1, locals=1),
+            Method("<init>", "aload_0, invokespecial java/lang/Object <init> ()V, return", flags=PUBLIC, stack=1, locals=1),
             Method(
                 "a",
                 "getstatic A i I, pop, iconst_0, putstatic A i I, aconst_null, getfield A s I, pop, aconst_null, iconst_0, "
@@ -494,9 +514,9 @@ check(
                 "aconst_null, invokevirtual java/lang/Math abs (I)I, pop, invokestatic java/lang/Object hashCode ()I, pop, return",
             ),
             uses("b", "invokeinterface I st ()V", "invokestatic interface:I ab ()V", "invokestatic interface:I st ()V"),
-            fields=[("s", "I", 0x9), ("i", "I", 0x1)],
+            fields=[("s", "I", PUBLIC | STATIC), ("i", "I", PUBLIC)],
         ),
-        "I": coded("I", ("st", "()V", 0x409), ("ab", "()V", 0x401), flags=0x601),
+        "I": coded("I", ("st", "()V", PUBLIC | STATIC | ABSTRACT), ("ab", "()V", PUBLIC | ABSTRACT), flags=AN_INTERFACE),
     },
 )
 
@@ -560,20 +580,20 @@ def named_by(pool, name, add):
 
 
 pool = pool_of(("A",), "Code", "t", "()V", "m")
-methods = [("t", "()V", 9, [code(max_locals=0)]), ("m", "()V", 1, [code()])]
+methods = [("t", "()V", PUBLIC | STATIC, [code(max_locals=0)]), ("m", "()V", PUBLIC, [code()])]
 for name in NAMING.split():
     for kind, add in ADDS.items():
         if name != "ldc" or kind != "past":
             body = named_by(pool, name, add)
-            methods.append(("o%d-%s" % (OPCODES[name], kind), "()V", 9, [body]))
+            methods.append(("o%d-%s" % (OPCODES[name], kind), "()V", PUBLIC | STATIC, [body]))
             pool.text(methods[-1][0])
-I = coded("I", ("q", "()V", 0x401), ("st", "()V", 0x409), flags=0x601)
-check("linked-rule-18-tags", {"A": class_file("A", methods, [("s", "I", 9), ("i", "J", 1)], pool=pool), "I": I})
+I = coded("I", ("q", "()V", PUBLIC | ABSTRACT), ("st", "()V", PUBLIC | STATIC | ABSTRACT), flags=AN_INTERFACE)
+check("linked-rule-18-tags", {"A": class_file("A", methods, [("s", "I", PUBLIC | STATIC), ("i", "J", PUBLIC)], pool=pool), "I": I})
 
 pool, methods = pool_of(("A",), "x", "Code"), []
 for kind, add in {**ADDS, **MORE}.items():
     if kind != "zero":
         body = code(instructions("nop, return, pop, return"), 9, 9, [(0, 1, 2, add(pool))])
-        methods.append(("h-" + kind, "()V", 9, [body]))
+        methods.append(("h-" + kind, "()V", PUBLIC | STATIC, [body]))
         pool.text(methods[-1][0]), pool.text("()V")
 check("linked-rule-18-handlers", {"A": class_file("A", methods, pool=pool)})

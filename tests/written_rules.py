@@ -1,12 +1,21 @@
 """The cases rule-* of tests/written on the rules 1 to 16 of `djvm check`."""
 
 from class_files import (
+    A_CLASS,
     ABSTRACT,
+    AN_INTERFACE,
     FIELD,
+    FINAL,
+    INTERFACE,
     METHOD,
     NATIVE,
     OBJECT,
+    PRIVATE,
+    PROTECTED,
+    PUBLIC,
     RETURNS_ITS_ARGUMENT,
+    STATIC,
+    attribute,
     class_entry,
     class_file,
     code,
@@ -23,14 +32,14 @@ from class_files import (
 from instructions import instructions, switch
 from opcodes import BASES, opcode, opcodes_between
 from shaped_code import Method
-from written_base import above, attribute, caught, check, coded, float_entry, in_order, integer_entry, of_method, pool_of, uses, wide_entry
+from written_base import above, caught, check, coded, float_entry, in_order, integer_entry, of_method, pool_of, uses, wide_entry
 
 NOP, RETURN = opcode("nop"), opcode("return")
 
 # 1 MALFORMED: code.
 
 
-def with_code(name, body=RETURN, max_stack=1, max_locals=1, flags=9, inner=(), **more):
+def with_code(name, body=RETURN, max_stack=1, max_locals=1, flags=PUBLIC | STATIC, inner=(), **more):
     return of_method(name, [code(body, max_stack, max_locals, **more)], *inner, flags=flags)
 
 
@@ -43,13 +52,13 @@ plain = code(RETURN, 1, 1)[1]
 elsewhere = pool_of("Code", "f", "I", "m", "()V", "ConstantValue", ("code-elsewhere",))
 others = [("Exceptions", b"zz"), ("ConstantValue", b""), ("ConstantValue", b""), ("StackMapTable", b""), code(RETURN, 1, 1)]
 CODE = {
-    "abstract-code": dict(flags=ABSTRACT | 1),
-    "both-code": dict(flags=ABSTRACT | NATIVE | 1),
+    "abstract-code": dict(flags=PUBLIC | ABSTRACT),
+    "both-code": dict(flags=PUBLIC | NATIVE | ABSTRACT),
     "code-0": dict(body=b""),
     "fine": {},
     "inner-long": dict(inner=["X"], listed=row(1, 3, 0, 3) + b"ab"),
     "inner-name-0": dict(inner=["X", class_entry(3)], listed=row(3) + attribute(0, b"ab") + attribute(65535, b"") + attribute(4, b"")),
-    "native-code": dict(flags=NATIVE | 1),
+    "native-code": dict(flags=PUBLIC | NATIVE),
     "one-map": dict(inner=["StackMapTable"], listed=row(1) + attribute(3, row(0))),
     "two-maps": dict(inner=["StackMapTable"], listed=row(2) + attribute(3, row(0)) * 2),
 }
@@ -57,14 +66,14 @@ check(
     "rule-1-code",
     {
         **{name: with_code(name, **more) for name, more in CODE.items()},
-        "abstract": of_method("abstract", [], flags=ABSTRACT | 1),
+        "abstract": of_method("abstract", [], flags=PUBLIC | ABSTRACT),
         "body-cut": with_body("body-cut", plain[:-1]),
         "body-trailing": with_body("body-trailing", plain + b"\0"),
-        "clinit-abstract": of_method("clinit-abstract", [], flags=ABSTRACT | 8),
+        "clinit-abstract": of_method("clinit-abstract", [], flags=STATIC | ABSTRACT),
         "code-elsewhere": class_file(
             "code-elsewhere",
-            [("m", "()V", 9, [code(RETURN, 1, 1)])],
-            [("f", "I", 9, [("Code", b"x")])],
+            [("m", "()V", PUBLIC | STATIC, [code(RETURN, 1, 1)])],
+            [("f", "I", PUBLIC | STATIC, [("Code", b"x")])],
             listed=[("Code", b""), ("Code", b""), ("ConstantValue", b"")],
             pool=elsewhere,
         ),
@@ -165,14 +174,14 @@ ROWS = {
 check("rule-1-rows", {name: with_code(name, instructions("bipush 0, pop, return"), handlers=rows) for name, rows in ROWS.items()})
 check("rule-1-length", {name: with_code(name, NOP * (length - 1) + RETURN, 0, 0) for name, length in (("big", 65535), ("past", 65536))})
 
-finalizer = [("finalize", "()V", NATIVE | 1, [code(RETURN, 1, 1)])]
+finalizer = [("finalize", "()V", PUBLIC | NATIVE, [code(RETURN, 1, 1)])]
 finalizer = in_order("A", float_entry(), "Code", "finalize", "()V", methods=finalizer, super_name="x/Y", major=49)
 check("rule-1-alone", {"A": finalizer, "B": coded("B", Method("m", "new A, pop, return"), super_name="A")})
 
 # 1 MALFORMED: values of fields. The value is the last of the constants that are given.
 
 
-def with_values(name, descriptor, listed, *before, flags=9):
+def with_values(name, descriptor, listed, *before, flags=PUBLIC | STATIC):
     pool = pool_of(*before, "ConstantValue", "f", descriptor, (name,))
     return class_file(name, fields=[("f", descriptor, flags, listed)], pool=pool)
 
@@ -197,8 +206,8 @@ check(
     "rule-1-constants",
     {
         **files,
-        "instance": with_values("instance", "I", [value(1)], INT, flags=1),
-        "instance-unfit": with_values("instance-unfit", "I", [value(2)], "s", string(1), flags=1),
+        "instance": with_values("instance", "I", [value(1)], INT, flags=PUBLIC),
+        "instance-unfit": with_values("instance-unfit", "I", [value(2)], "s", string(1), flags=PUBLIC),
         "length-0": with_values("length-0", "I", [("ConstantValue", b"")]),
         "length-1": with_values("length-1", "I", [("ConstantValue", b"\0")]),
         "length-3": with_values("length-3", "I", [("ConstantValue", b"\0\1\0")], INT),
@@ -221,7 +230,7 @@ check(
     "rule-5",
     {
         **{path: class_file(path[-1]) for path in ("A", "B", "E", "b/A")},
-        "c": coded("B", fields=[("x", "I", 1)]),
+        "c": coded("B", fields=[("x", "I", PUBLIC)]),
         "d": class_file("B"),
         "e": RETURNS_ITS_ARGUMENT[:50],
         "f": class_file("E", major=49),
@@ -229,8 +238,6 @@ check(
 )
 
 # 6 HIERARCHY. A class is given by its superclass, `.` for Object and `0` for none, and its interfaces.
-
-A_CLASS, AN_INTERFACE = 0x21, 0x601
 
 
 def below(flags, **parents):
@@ -248,7 +255,7 @@ check(
         **below(AN_INTERFACE, IA=". IB", IB=". IC", IC=". IA", IS=". IS", K=". L", L="."),
     },
 )
-twice = {"b": class_file("B", flags=0x31), "i": class_file("I"), "q": class_file("Q", super_name="R")}
+twice = {"b": class_file("B", flags=A_CLASS | FINAL), "i": class_file("I"), "q": class_file("Q", super_name="R")}
 check("rule-6-duplicates", {**below(A_CLASS, A="B", B=".", D=". I", E="I", Q=".", R="Q"), **below(AN_INTERFACE, I="."), **twice})
 OF_LIBRARY = "java/lang/Runnable java/io/Serializable java/lang/Comparable java/lang/CharSequence"
 check(
@@ -269,18 +276,18 @@ check(
         **below(A_CLASS, OfNpe="java/lang/NullPointerException", OfRunnable="java/lang/Runnable", OfSystem="java/lang/System"),
         **below(A_CLASS, OfThread="java/lang/Thread", OfThrowable="java/lang/Throwable"),
         **below(AN_INTERFACE, I=".", IofA="Abstract", IofI="I", IofObject=". I", IofThrowable="java/lang/Throwable", iface0="0"),
-        **below(0x421, Abstract="."),
-        **below(0x31, Final="."),
-        **below(0x431, FinalAbstract="."),
-        **below(0x200, IfaceFlagOnly="."),
+        **below(A_CLASS | ABSTRACT, Abstract="."),
+        **below(A_CLASS | FINAL, Final="."),
+        **below(A_CLASS | FINAL | ABSTRACT, FinalAbstract="."),
+        **below(INTERFACE, IfaceFlagOnly="."),
     },
 )
 check(
     "rule-6-twice",
     {
-        "F": coded("F", fields=[("x", "I", 0x9), ("x", "I", 0x1)]),
-        "G": coded("G", Method("x", "return"), fields=[("x", "I", 0x9), ("x", "J", 0x9), ("y", "I", 0x9)]),
-        "H": coded("H", ("m", "()V", 0x401), Method("m", "return")),
+        "F": coded("F", fields=[("x", "I", PUBLIC | STATIC), ("x", "I", PUBLIC)]),
+        "G": coded("G", Method("x", "return"), fields=[("x", "I", PUBLIC | STATIC), ("x", "J", PUBLIC | STATIC), ("y", "I", PUBLIC | STATIC)]),
+        "H": coded("H", ("m", "()V", PUBLIC | ABSTRACT), Method("m", "return")),
         "K": coded("K", Method("m", "return"), Method("m(I)V", "return"), Method("m()I", "iconst_0, ireturn")),
     },
 )
@@ -292,17 +299,17 @@ check(
     {
         "A": coded(
             "A",
-            ("n", "()V", 0x101),
-            ("n", "(I)I", 0x109),
-            ("a", "()V", 0x501),
-            ("abs", "()V", 0x401),
-            Method("finalize", "return", flags=0x4, locals=1),
+            ("n", "()V", PUBLIC | NATIVE),
+            ("n", "(I)I", PUBLIC | STATIC | NATIVE),
+            ("a", "()V", PUBLIC | NATIVE | ABSTRACT),
+            ("abs", "()V", PUBLIC | ABSTRACT),
+            Method("finalize", "return", flags=PROTECTED, locals=1),
             Method("finalize()I", "iconst_0, ireturn"),
             Method("finalize(I)V", "return"),
-            flags=0x421,
+            flags=A_CLASS | ABSTRACT,
         ),
-        "B": coded("B", ("finalize", "()V", 0x101)),
-        "I": coded("I", ("finalize", "()V", 0x401), ("n", "()V", 0x101), ("<clinit>", "()V", 0x108), flags=0x601),
+        "B": coded("B", ("finalize", "()V", PUBLIC | NATIVE)),
+        "I": coded("I", ("finalize", "()V", PUBLIC | ABSTRACT), ("n", "()V", PUBLIC | NATIVE), ("<clinit>", "()V", STATIC | NATIVE), flags=AN_INTERFACE),
     },
 )
 
@@ -321,9 +328,9 @@ DYNAMIC = {
     "dyn-wrong": "invokedynamic 22 0 0, return",
     "dyn-past": "invokedynamic 999 0 0, return",
 }
-methods = [(name, "()V", 9, [code(instructions(text), 9, 9)]) for name, text in DYNAMIC.items()]
+methods = [(name, "()V", PUBLIC | STATIC, [code(instructions(text), 9, 9)]) for name, text in DYNAMIC.items()]
 UNUSED = [("A",), "m", "()V", name_and_type(5, 6), member_entry(METHOD, 4, 7), method_handle(6, 8), method_type(6), invoke_dynamic(0, 7)]
-unused = in_order("B", *UNUSED, "Code", "unused", methods=[("unused", "()V", 9, [code(RETURN, 9, 9)])])
+unused = in_order("B", *UNUSED, "Code", "unused", methods=[("unused", "()V", PUBLIC | STATIC, [code(RETURN, 9, 9)])])
 check("rule-9", {"A": in_order("A", *BEFORE, methods=methods), "B": unused})
 
 # 10 REFLECTION.
@@ -355,11 +362,11 @@ check(
                 "invokestatic x/Y getClass ()Ljava/lang/Class;", "invokeinterface I getClass ()Ljava/lang/Class;",
             ),
             uses("near", "invokevirtual A getClass ()V", "invokestatic A getclass ()Ljava/lang/Class;"),
-            Method("getClass", "return", flags=0x1),
+            Method("getClass", "return", flags=PUBLIC),
             Method("getclass()Ljava/lang/Class;", "aconst_null, areturn"),
             caught("hnd", "java/lang/Class", "java/lang/reflect/X"),
         ),
-        "I": class_file("I", flags=0x601),
+        "I": class_file("I", flags=AN_INTERFACE),
     },
 )
 
@@ -371,7 +378,7 @@ FIELD_OF_CLASS = {
     "string": "ldc 13, pop, return",
     "member-entry": "new 19, pop, return",
 }
-methods = [(name, "()V", 9, [code(instructions(text), 9, 9)]) for name, text in FIELD_OF_CLASS.items()]
+methods = [(name, "()V", PUBLIC | STATIC, [code(instructions(text), 9, 9)]) for name, text in FIELD_OF_CLASS.items()]
 check("rule-10-field", {"A": in_order("A", *BEFORE, "member-entry", methods=methods)})
 
 # 11 CATCH.
@@ -413,7 +420,7 @@ check(
 def with_first(name, text, body, **more):
     """A class whose first constant is the class of this name."""
     pool = pool_of(class_entry(2), text, (name,), "Code", "m", "()V")
-    return class_file(name, [("m", "()V", 9, [code(instructions(body), 9, 9, **more)])], pool=pool)
+    return class_file(name, [("m", "()V", PUBLIC | STATIC, [code(instructions(body), 9, 9, **more)])], pool=pool)
 
 
 handler = dict(handlers=[(0, 1, 2, 1)])
@@ -455,24 +462,24 @@ def every_instruction():
 
 
 BEFORE = [float_entry(), wide_entry(6), integer_entry(), wide_entry(5), "Code", "m", "()V"]
-check("rule-12-instructions", {"A": in_order("A", *BEFORE, methods=[("m", "()V", 9, [code(every_instruction(), 9, 9)])])})
+check("rule-12-instructions", {"A": in_order("A", *BEFORE, methods=[("m", "()V", PUBLIC | STATIC, [code(every_instruction(), 9, 9)])])})
 check(
     "rule-12-member",
     {
         "A": coded(
             "A",
-            ("p", "(F)V", 0x401),
-            ("q", "(I[DLD;)V", 0x401),
-            ("r", "()F", 0x401),
-            ("s", "()[D", 0x401),
-            ("t", "(LF;LD;)LFloat;", 0x401),
+            ("p", "(F)V", PUBLIC | ABSTRACT),
+            ("q", "(I[DLD;)V", PUBLIC | ABSTRACT),
+            ("r", "()F", PUBLIC | ABSTRACT),
+            ("s", "()[D", PUBLIC | ABSTRACT),
+            ("t", "(LF;LD;)LFloat;", PUBLIC | ABSTRACT),
             Method("map1", "goto A, A: {append float} return"),
             Method("map2", "goto A, A: {full int double /} return"),
             Method("map3", "goto A, A: {full / float} return"),
             Method("map4", "goto A, A: {stack double} return"),
             Method("map5", "goto A, A: {append top int long} return"),
-            flags=0x421,
-            fields=[("f", "F", 0x9), ("d", "D", 0x9), ("fa", "[[F", 0x9), ("ok", "LF;", 0x9), ("ok", "I", 0x9)],
+            flags=A_CLASS | ABSTRACT,
+            fields=[(name, text, PUBLIC | STATIC) for name, text in (("f", "F"), ("d", "D"), ("fa", "[[F"), ("ok", "LF;"), ("ok", "I"))],
         ),
     },
 )
@@ -491,8 +498,8 @@ THREE = {
     "brk": ("nop, breakpoint, return, breakpoint, breakpoint", 9),
     "multi": ("iconst_1, multianewarray 11 1, pop, multianewarray 13 2, multianewarray 15 1, anewarray 11, return", 9),
 }
-methods = [(name, "()V", 9, [code(instructions(text), 9, slots)]) for name, (text, slots) in THREE.items()]
-wrong = in_order("B", "x", "Code", "wrong", "()V", methods=[("wrong", "()V", 9, [code(instructions("multianewarray 3 1, return"), 9, 9)])])
+methods = [(name, "()V", PUBLIC | STATIC, [code(instructions(text), 9, slots)]) for name, (text, slots) in THREE.items()]
+wrong = in_order("B", "x", "Code", "wrong", "()V", methods=[("wrong", "()V", PUBLIC | STATIC, [code(instructions("multianewarray 3 1, return"), 9, 9)])])
 check("rule-13-14-15", {"A": above("A", *BEFORE, methods=methods), "B": wrong})
 
 # 16 INTERFACE_CODE.
@@ -500,20 +507,20 @@ check("rule-13-14-15", {"A": above("A", *BEFORE, methods=methods), "B": wrong})
 check(
     "rule-16",
     {
-        "A": coded("A", Method("m", "return"), flags=0x421),
+        "A": coded("A", Method("m", "return"), flags=A_CLASS | ABSTRACT),
         "I": coded(
             "I",
-            Method("m", "return", flags=0x1),
+            Method("m", "return", flags=PUBLIC),
             Method("s", "return"),
-            Method("p", "return", flags=0x2),
-            Method("<init>", "return", flags=0x1),
-            Method("<clinit>", "return", flags=0x8),
-            Method("<clinit>(I)V", "return", flags=0x1),
-            ("a", "()V", 0x401),
-            ("n", "()V", 0x101),
-            flags=0x601,
+            Method("p", "return", flags=PRIVATE),
+            Method("<init>", "return", flags=PUBLIC),
+            Method("<clinit>", "return", flags=STATIC),
+            Method("<clinit>(I)V", "return", flags=PUBLIC),
+            ("a", "()V", PUBLIC | ABSTRACT),
+            ("n", "()V", PUBLIC | NATIVE),
+            flags=AN_INTERFACE,
         ),
-        "J": coded("J", Method("m", "return"), flags=0x200),
-        "K": coded("K", Method("m", "return", flags=0x1), flags=0x601, major=51),
+        "J": coded("J", Method("m", "return"), flags=INTERFACE),
+        "K": coded("K", Method("m", "return", flags=PUBLIC), flags=AN_INTERFACE, major=51),
     },
 )

@@ -8,6 +8,7 @@ from class_files import (
     PUBLIC,
     RETURNS_ITS_ARGUMENT,
     STATIC,
+    attribute,
     class_entry,
     class_file,
     code,
@@ -18,7 +19,7 @@ from class_files import (
 )
 from instructions import instructions
 from opcodes import opcode
-from written_base import add_every, attribute, case, check, float_entry, integer_entry, pool_of
+from written_base import add_every, case, check, float_entry, integer_entry, pool_of
 
 DATA = b"\x0a\x0b"
 DESCRIPTOR = "([B)[B"
@@ -38,7 +39,7 @@ for name, words in {
     case(name, {"c/A.class": one}, words)
 for length in 0, 3, 4, 9, 13, 64, 104:
     check("check-cut-%d" % length, {"A": one[:length]})
-natives = class_file("B", [native("n"), ("finalize", "()V", 1, [code()])], pool=pool_of("n", "()V", "Code", "finalize"))
+natives = class_file("B", [native("n"), ("finalize", "()V", PUBLIC, [code()])], pool=pool_of("n", "()V", "Code", "finalize"))
 check("check-cut-native-finalize", {"A": one[:-1], "B": natives})
 
 # A run of one class, whose constants begin with those of its method.
@@ -104,7 +105,7 @@ verify("later-code-trailing", method_first(*trailing))
 later_code("cut-operand", instructions("aload_0") + opcode("bipush"))
 later("desc", of_verify(descriptor="([C)[B"), pool=ordered(descriptor="([C)[B"))
 later_code("empty-code", b"")
-later("field", fields=[("x", "I", 9)], pool=pool_of("x", "I", "Code", "verify", DESCRIPTOR, ("A",)))
+later("field", fields=[("x", "I", PUBLIC | STATIC)], pool=pool_of("x", "I", "Code", "verify", DESCRIPTOR, ("A",)))
 later_code("getstatic", instructions("getstatic 1") + RETURNS)
 later_code("goto", instructions("goto 0"))
 later("iface", interfaces=["I"], pool=ordered(behind=[(OBJECT,), ("I",)]))
@@ -133,7 +134,7 @@ beside = ("verify", DESCRIPTOR, PUBLIC | STATIC, [("StackMapTable", b"zz"), code
 pool = pool_of(("A",), "StackMapTable", "Code", "Exceptions", "verify", DESCRIPTOR)
 verify("map-beside-code", class_file("A", [beside], pool=pool, listed=[("StackMapTable", b""), ("Code", b"")]))
 case("class-file-verify-none", {"c/.keep": b"", "in": DATA}, ["verify", "c", "A", "in"])
-ruled = [of_verify(opcode("return")), ("finalize", "()V", NATIVE | 1)]
+ruled = [of_verify(opcode("return")), ("finalize", "()V", PUBLIC | NATIVE)]
 verify("rules-first", class_file("B", ruled, pool=ordered(name="B", behind=["finalize", "()V"]), major=49))
 
 SHAPES = [("g", "aload_0, areturn", {}), ("h", "aload_0, areturn", dict(max_stack=0)), ("k", "aload_0, areturn", dict(max_locals=0))]
