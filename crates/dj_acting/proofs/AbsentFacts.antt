@@ -1,5 +1,5 @@
 -- What is done with a reference that is of no object: it counts as an array of booleans.
-use Rattle.std.proofs.Common.{◌≡◌, ◌++◌, ◌<◌, ◌||◌, ℕ, pos, Bool, true, false, List, [], ◌∷◌, length, Option, Some, None, nat_eq, if◌then◌else◌, codes, refl, sym, ap, subst, ◌∙◌, arith}
+use Rattle.std.proofs.Common.{◌≡◌, ◌++◌, ◌<◌, ◌||◌, ℕ, pos, Bool, true, false, List, [], ◌∷◌, length, Option, Some, nat_eq, if◌then◌else◌, codes, refl, sym, ap, subst, ◌∙◌, arith}
 use Rattle.std.specs.Prelude.{get_or}
 use Rattle.std.specs.Option.{option_map}
 use Rattle.std.proofs.lemmas.Bool.{false≢true, ne_eqb}
@@ -10,7 +10,7 @@ use Rattle.dj_names.specs.declared.run.Outcome.TheVariants as outcomes
 use Rattle.dj_names.specs.declared.run.Raised.TheVariants as raises
 use Rattle.dj_names.specs.declared.run.Value.{Value}
 use Rattle.dj_names.specs.declared.run.Value.TheVariants as values
-use Rattle.dj_names.specs.trusted.Heaps.{Object, Heap, object_at}
+use Rattle.dj_names.specs.trusted.Heaps.{Object, Heap}
 use Rattle.dj_names.specs.Heaps.{heap_map, object_map}
 use Rattle.dj_names.specs.trusted.Types.{Name, base_array, class_type, same_name}
 use Rattle.dj_model.specs.trusted.Types.{Prefix, throwable_name}
@@ -24,10 +24,10 @@ use Rattle.dj_model.specs.trusted.Effects.{effect}
 use Rattle.dj_model.proofs.MappedHeaps.{object_at_mapped}
 use Rattle.dj_declared.proofs.DescTests.{same_name_is}
 use Rattle.dj_heap.specs.Heaps.{LimitedHeap}
-use Rattle.dj_stack.specs.Frames.{StackFrame, SameButOperands, top_locals, top_operands}
+use Rattle.dj_stack.specs.Frames.{StackFrame, SameButOperands, top_operands}
 use Rattle.dj_effects.specs.declared.way.Way.TheVariants as ways
 use Rattle.dj_image.specs.Imaged.{Imaged, program_of}
-use Rattle.dj_initialising.specs.Store.{IsStore, store}
+use Rattle.dj_initialising.specs.Store.{store}
 use Rattle.dj_acting.specs.declared.acted.Acted.{Acted}
 use Rattle.dj_acting.specs.declared.acted.Acted.TheVariants as acts
 use Rattle.dj_acting.specs.Absent.{ReplacesTop, cast_acted, is_absent_of}

@@ -1,5 +1,5 @@
 -- What instructions make of a heap whose objects are known: they are known still.
-use Rattle.std.proofs.Common.{◌≡◌, ◌+◌, ◌-◌, ◌<◌, ◌≤◌, ◌++◌, ℕ, ℤ, pos, negsuc, Bool, true, false, List, [], ◌∷◌, length, set, replicate, Option, Some, None, nat_eq, if◌then◌else◌, Ok, Err, refl, sym, ap, subst, arith}
+use Rattle.std.proofs.Common.{◌≡◌, ◌+◌, ◌-◌, ◌<◌, ◌++◌, ℕ, ℤ, pos, negsuc, Bool, true, false, List, [], ◌∷◌, length, set, replicate, Option, Some, None, nat_eq, if◌then◌else◌, Ok, Err, refl, ap, subst}
 use Rattle.std.specs.Prelude.{⊤, slice_get}
 use Rattle.std.specs.List.{All}
 use Rattle.std.proofs.lemmas.List.Elements.{All-get_or, All-push, All-set, All-weaker}
@@ -13,7 +13,6 @@ use Rattle.dj_names.specs.declared.run.Value.{Value}
 use Rattle.dj_names.specs.declared.run.Value.TheVariants as values
 use Rattle.dj_names.specs.trusted.Heaps.{Object, Instance, Array, Text, Heap, array_size, class_of, field_bits, kept, next_number, object_at, object_size, text_size, value_number, with_element, with_new, with_object}
 use Rattle.dj_natives.specs.Numbered.{type_at, holds_references}
-use Rattle.dj_model.specs.trusted.Instructions as model
 use Rattle.dj_model.specs.trusted.Instructions.{Access}
 use Rattle.dj_model.specs.trusted.Numbers.{is_of_kind}
 use Rattle.dj_model.specs.trusted.State.{Next}

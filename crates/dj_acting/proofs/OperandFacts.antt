@@ -1,9 +1,8 @@
 -- What an instruction is by its operand, and what it asks.
 use Rattle.std.proofs.Common.{◌≡◌, ◌<◌, ℕ, true, List, length, Option, Some, None, Result, Ok, Err, IfOk, refl, sym, ap, subst, ◌∙◌, IsTrue}
-use Rattle.std.specs.Prelude.{map, slice_get}
-use Rattle.std.specs.Option.{option_map}
+use Rattle.std.specs.Prelude.{slice_get}
 use Rattle.std.proofs.lemmas.Bool.{false≢true}
-use Rattle.std.proofs.lemmas.Option.{none-some, same_Some, slice_get-map, slice_get_within}
+use Rattle.std.proofs.lemmas.Option.{none-some, same_Some, slice_get_within}
 use Rattle.dj_names.specs.declared.run.Value.{Value}
 use Rattle.dj_names.specs.declared.run.Value.TheVariants as values
 use Rattle.dj_ops.specs.declared.instruction.Instr.{Instr}
@@ -15,9 +14,7 @@ use Rattle.dj_model.specs.trusted.Instructions as model
 use Rattle.dj_model.specs.trusted.Instructions.{Instruction, Named, Nothing, NewArray}
 use Rattle.dj_model.specs.Instructions.{calls}
 use Rattle.dj_model.specs.trusted.Opcodes.{instruction_of}
-use Rattle.dj_model.specs.trusted.Program.{Code}
 use Rattle.dj_model.specs.Sound.{is_linked}
-use Rattle.dj_model.specs.trusted.State.{instruction_in}
 use Rattle.dj_stack.specs.Frames.{StackFrame}
 use Rattle.dj_heap.specs.Heaps.{LimitedHeap}
 use Rattle.dj_effects.specs.Does.{Does}
@@ -25,10 +22,7 @@ use Rattle.dj_effects.specs.declared.way.Way.{Way}
 use Rattle.dj_members.specs.Literals.{LiteralTable}
 use Rattle.dj_calls.specs.Known.{AreKnown}
 use Rattle.dj_check.specs.trusted.Instructions.{index_of}
-use Rattle.dj_program.specs.trusted.Codes.{code_in}
 use Rattle.dj_program.specs.trusted.Naming.{named_if}
-use Rattle.dj_program.specs.trusted.Naming as naming
-use Rattle.dj_program.specs.declared.code.MethodCode.{MethodCode}
 use Rattle.dj_types.specs.Typed.{types_of}
 use Rattle.dj_types.specs.Members.{all_fields}
 use Rattle.dj_image.specs.Imaged.{Imaged, program_of, typed_of}
@@ -37,12 +31,11 @@ use Rattle.dj_image.specs.Codes.{HasInstr, IsOperandAt}
 use Rattle.dj_image.specs.declared.operand.Operand.{Operand}
 use Rattle.dj_image.specs.declared.operand.Operand.TheVariants as operands
 use Rattle.dj_image.specs.Operands.{made_operand, operand_by, operand_of}
-use Rattle.dj_activations.specs.Reported.{IsCodeOf, SaysCode}
 use Rattle.dj_initialising.specs.Places.{Places}
 use Rattle.dj_initialising.specs.Store.{IsStore, store}
 use Rattle.dj_initialising.proofs.StoreLaws.{units_at}
 use Rattle.dj_acting.specs.declared.acted.Acted.{Acted}
-use Rattle.dj_acting.specs.Acting.{Acts, HasInstruction, IsActed, IsDone, IsHeap, IsReady, Machine, machine}
+use Rattle.dj_acting.specs.Acting.{Acts, IsActed, IsDone, IsHeap, IsReady, Machine, machine}
 use Rattle.dj_acting.specs.Flows.{way_acted}
 use Rattle.dj_acting.specs.Numbers.{literal_push, literal_value, push_of}
 use Rattle.dj_acting.specs.Operands.{IsInstrAt}
@@ -51,28 +44,8 @@ use Rattle.dj_acting.proofs.Reported.{acted_so, values_acted}
 use Rattle.dj_acting.proofs.Effects.{push_on_values}
 use Rattle.dj_acting.proofs.KnownHeaps.{array_holds, classes_numbered, instance_named}
 use Rattle.dj_acting.proofs.Finding.{Pushes, calls_method, is_call_or_other, no_class, names_nothing, pushes_int, pushes_long, pushes_text, uses_class, uses_field}
-use Rattle.dj_acting.proofs.Standing.{has_instr, instruction_there, linked_at, operand_is, stands_at, type_is}
+use Rattle.dj_acting.proofs.Standing.{has_instr, linked_at, operand_is, type_is}
 use Rattle.dj_acting.proofs.Using.{no_index}
-
--- ---- the instruction
-
-pub no_code : (imaged : Imaged) (method number : ℕ) → SaysCode imaged method None → HasInstruction imaged method number → ⊥
-no_code imaged method number none has =
-    none-some has.instruction (sym (ap (λ (o : Option Code). instruction_in o number) none) ∙ has.at)
-
-pub no_instr : (imaged : Imaged) (method number : ℕ) (code : MethodCode) → IsCodeOf imaged method code → HasInstruction imaged method number → None ≡ slice_get code.code.code number → ⊥
-unfolding code_in
-no_instr imaged method number code is has none =
-    let at : slice_get (map (naming.instruction_in is.pool) code.code.code) number ≡ Some has.instruction =
-    sym (ap (λ (o : Option Code). instruction_in o number) is.is) ∙ has.at in
-    none-some has.instruction (ap (option_map (naming.instruction_in is.pool)) none ∙ (sym (slice_get-map (naming.instruction_in is.pool) code.code.code number) ∙ at))
-
-pub instr_reported : (imaged : Imaged) (method number : ℕ) (code : MethodCode) → IsCodeOf imaged method code → (instr : Instr) → slice_get code.code.code number ≡ Some instr
-    → (named : Named) × IsInstrAt imaged method number instr named
-instr_reported imaged method number code is instr at = (
-  named_if is.pool (index_of instr),
-  record { stands = stands_at imaged method number code is instr at; is = instruction_there imaged method number code is instr at },
-)
 
 -- ---- operands
 

@@ -1,5 +1,5 @@
 -- What a linked instruction names has a number, where the image has one for each class and array that the program uses.
-use Rattle.std.proofs.Common.{◌≡◌, ◌<◌, ◌≤◌, ◌&&◌, ◌++◌, ℕ, zero, suc, Bool, true, false, List, [], ◌∷◌, length, map, Option, Some, None, if◌then◌else◌, nat_eq, nat_le, refl, sym, ap, subst, ◌∙◌, arith, inl, inr, IsTrue, Contains}
+use Rattle.std.proofs.Common.{◌≡◌, ◌≤◌, ◌&&◌, ◌++◌, ℕ, zero, suc, Bool, true, false, List, [], ◌∷◌, map, Option, Some, None, if◌then◌else◌, nat_eq, nat_le, refl, sym, ap, subst, ◌∙◌, arith, inl, inr, Contains}
 use Rattle.std.specs.Prelude.{not, option_and_then, slice_get, unwrap_or}
 use Rattle.std.specs.List.{flat_map, starts_with}
 use Rattle.std.specs.Option.{option_map}
@@ -27,7 +27,7 @@ use Rattle.dj_model.specs.trusted.Instructions.{Instruction, Named, Nothing, AnI
 use Rattle.dj_model.specs.trusted.Opcodes.{instruction_of, member}
 use Rattle.dj_model.specs.trusted.Program.{Program, Class, Field, Code, class_at, code_of, field_in, field_of, is_named}
 use Rattle.dj_model.specs.trusted.Linking.{FoundField, first_field, field_or, field_order, member_class, most_classes, resolve_field}
-use Rattle.dj_model.specs.Sound.{IsSound, is_class_of, is_field_found, is_linked}
+use Rattle.dj_model.specs.Sound.{is_class_of, is_field_found, is_linked}
 use Rattle.dj_model.specs.trusted.State.{instruction_in}
 use Rattle.dj_model.proofs.MappedNames.{either}
 use Rattle.dj_model.proofs.SoundFrames.{contained, method_is}
@@ -36,7 +36,7 @@ use Rattle.dj_declared.proofs.DescTests.{same_desc_is, same_desc_itself, same_na
 use Rattle.dj_check.specs.trusted.Instructions.{index_of}
 use Rattle.dj_classes.specs.Tables.{class_number, name_of}
 use Rattle.dj_classes.proofs.Numbered.{class_at-number}
-use Rattle.dj_program.specs.trusted.Naming.{member_in, named_at, named_by, named_if, named_or_another}
+use Rattle.dj_program.specs.trusted.Naming.{member_in, named_by, named_if, named_or_another}
 use Rattle.dj_types.specs.Typed.{Typed, is_known_of, place_of_text, type_number}
 use Rattle.dj_types.specs.Members.{all_fields, field_number, fields_in, found_field_number}
 use Rattle.dj_types.proofs.Numbers.{number_of_class}

@@ -14,7 +14,6 @@ use Rattle.dj_ops.specs.declared.instruction.Instr.{Instr}
 use Rattle.dj_natives.specs.Numbered.{ArePlain, begins_array}
 use Rattle.dj_model.specs.trusted.Types.{Prefix, Declared}
 use Rattle.dj_model.specs.trusted.Instructions.{Instruction, Named}
-use Rattle.dj_model.specs.trusted.Opcodes.{instruction_of}
 use Rattle.dj_model.specs.trusted.Natives.{class_name}
 use Rattle.dj_model.specs.trusted.Program.{Program, Class, Method, Body, Abstract, Native, Runs, Code, class_at, code_of, code_in as code_of_method, body_code, method_at}
 use Rattle.dj_model.specs.Sound.{is_class_of, is_linked, IsSound}
@@ -27,36 +26,17 @@ use Rattle.dj_classes.proofs.Orders.{names_from_same}
 use Rattle.dj_types.specs.Typed.{Typed, texts_of, types_of, type_at, place_of_text, text_number, text_of_type, type_number}
 use Rattle.dj_types.proofs.Numbers.{number_of_class, place_within}
 use Rattle.dj_types.proofs.Reported.{types_among}
-use Rattle.dj_program.specs.trusted.Codes.{code_in}
 use Rattle.dj_program.specs.trusted.Naming.{named_if}
-use Rattle.dj_program.specs.trusted.Naming as naming
-use Rattle.dj_program.specs.Views.{parts_of}
-use Rattle.dj_program.specs.declared.code.MethodCode.{MethodCode}
 use Rattle.dj_image.specs.Imaged.{Imaged, program_of}
 use Rattle.dj_image.specs.Codes.{PooledCode, IsOperandAt, HasInstr}
 use Rattle.dj_image.specs.Operands.{operand_of}
 use Rattle.dj_image.specs.declared.operand.Operand.{Operand}
 use Rattle.dj_image.proofs.RowFacts.{type_once}
 use Rattle.dj_activations.specs.Activations.{declared_at}
-use Rattle.dj_activations.specs.Reported.{IsCodeOf}
 use Rattle.dj_acting.specs.Acting.{instruction_of_number}
 use Rattle.dj_acting.specs.Operands.{StandsAt}
 
 -- ---- the instruction
-
--- what stands at the number in the method's code
-pub stands_at : (imaged : Imaged) (method number : ℕ) (code : MethodCode) (is : IsCodeOf imaged method code) (instr : Instr) → slice_get code.code.code number ≡ Some instr
-    → StandsAt imaged method number instr (named_if is.pool (index_of instr))
-stands_at imaged method number code is instr at =
-    record { code = record { pool = is.pool; parts = parts_of code }; own = is.own; stands = at; names = refl }
-
--- it is that of the model
-pub instruction_there : (imaged : Imaged) (method number : ℕ) (code : MethodCode) (is : IsCodeOf imaged method code) (instr : Instr) → slice_get code.code.code number ≡ Some instr
-    → instruction_of_number imaged method number ≡ Some (instruction_of instr (named_if is.pool (index_of instr)))
-unfolding code_in
-instruction_there imaged method number code is instr at =
-    ap (λ (o : Option Code). instruction_in o number) is.is
-    ∙ (slice_get-map (naming.instruction_in is.pool) code.code.code number ∙ ap (option_map (naming.instruction_in is.pool)) at)
 
 -- the operand reported for it is its own
 pub operand_is : (imaged : Imaged) (method number : ℕ) (instr : Instr) (named : Named) (operand : Operand) → StandsAt imaged method number instr named → IsOperandAt imaged method number operand

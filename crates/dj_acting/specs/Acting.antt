@@ -14,12 +14,11 @@ use Rattle.dj_natives.specs.Numbered.{type_at, holds_references}
 use Rattle.dj_model.specs.trusted.Instructions.{Instruction, PushText, GetStatic, New}
 use Rattle.dj_model.specs.Instructions.{calls}
 use Rattle.dj_model.specs.trusted.Types.{Member, throwable_name}
-use Rattle.dj_model.specs.trusted.Program.{code_of}
 use Rattle.dj_model.specs.trusted.Linking.{FoundField, resolve_field}
 use Rattle.dj_model.specs.Sound.{IsSound}
 use Rattle.dj_heap.specs.Heaps.{LimitedHeap}
 use Rattle.dj_model.specs.trusted.State as model
-use Rattle.dj_model.specs.trusted.State.{Terms, Part, Account, Effect, instruction_in}
+use Rattle.dj_model.specs.trusted.State.{Terms, Part, Account, Effect}
 use Rattle.dj_model.specs.trusted.Effects as effects
 use Rattle.dj_stack.specs.Frames.{StackFrame, SameFrames, top_locals, top_number, top_operands, top_room}
 use Rattle.dj_effects.specs.declared.actions.PlainAction.{PlainAction}
@@ -31,7 +30,7 @@ use Rattle.dj_members.specs.Numbering.{AreNumbered}
 use Rattle.dj_types.specs.Typed.{types_of}
 use Rattle.dj_types.specs.Members.{all_fields, all_methods}
 use Rattle.dj_image.specs.Imaged.{Imaged, program_of, typed_of}
-use Rattle.dj_activations.specs.Activations.{declared_at}
+pub use Rattle.dj_activations.specs.Instructions.{instruction_of_number, HasInstruction}
 use Rattle.dj_initialising.specs.Places.{Places, ArePlaces}
 use Rattle.dj_initialising.specs.Store.{AreTexts, Store, IsStore, store}
 use Rattle.dj_acting.specs.declared.acted.Acted.{Acted}
@@ -59,15 +58,6 @@ part_with imaged m operands account answers = record {
 
 abbrev pub part_of : Imaged → Machine → Account → List HostAnswer → Part
 part_of imaged m account answers = part_with imaged m (top_operands m.frames) account answers
-
--- the instruction of a number in the method of a number
-abbrev pub instruction_of_number : Imaged → ℕ → ℕ → Option Instruction
-instruction_of_number imaged method number = instruction_in (code_of (program_of imaged) (declared_at (program_of imaged) method)) number
-
--- there is one
-pub record HasInstruction (imaged : Imaged) (method number : ℕ) : Type 0 where
-  pub instruction : Instruction
-  pub at : instruction_of_number imaged method number ≡ Some instruction
 
 -- ---- what is answered
 

@@ -1,24 +1,14 @@
 -- What the operand of an instruction says of it, by numbers.
-use Rattle.std.specs.Prelude.{◌≡◌, ℕ, Bool, true, false, Some, slice_get}
+use Rattle.std.specs.Prelude.{◌≡◌, ℕ, Bool, true, false, Some}
 use Rattle.dj_names.specs.declared.run.Element.{Element}
 use Rattle.dj_names.specs.declared.descriptor.Ty.{Ty}
 use Rattle.dj_ops.specs.declared.instruction.Instr.{Instr}
-use Rattle.dj_check.specs.trusted.Instructions.{index_of}
-use Rattle.dj_program.specs.trusted.Naming.{named_if}
 use Rattle.dj_model.specs.trusted.Instructions.{Instruction, Named, AClass, NewArray}
 use Rattle.dj_model.specs.trusted.Opcodes.{instruction_of}
 use Rattle.dj_types.specs.Typed.{type_number}
 use Rattle.dj_image.specs.Imaged.{Imaged, typed_of}
 use Rattle.dj_image.specs.Operands.{takes_named}
-use Rattle.dj_image.specs.Codes.{PooledCode, code_at}
-use Rattle.dj_acting.specs.Acting.{instruction_of_number}
-
--- the instruction stands there in the image's code, and its index names this
-pub record StandsAt (imaged : Imaged) (method number : ℕ) (instr : Instr) (named : Named) : Type 0 where
-  pub code : PooledCode
-  pub own : code_at imaged method ≡ Some code
-  pub stands : slice_get code.parts.labelled.code number ≡ Some instr
-  pub names : named ≡ named_if code.pool (index_of instr)
+pub use Rattle.dj_activations.specs.Instructions.{StandsAt, IsInstrAt}
 
 abbrev pub makes_array : Instruction → Bool
 makes_array (NewArray class element) = true
@@ -28,8 +18,3 @@ makes_array i = false
 pub data UsesClass (imaged : Imaged) (instr : Instr) (named : Named) (k : ℕ) : Type 0 where
   Makes : (class : Ty) (element : Element) → instruction_of instr named ≡ NewArray class element → type_number (typed_of imaged) class ≡ Some k → UsesClass imaged instr named k
   Names : (class : Ty) → named ≡ AClass class → takes_named instr (AClass class) ≡ true → makes_array (instruction_of instr named) ≡ false → type_number (typed_of imaged) class ≡ Some k → UsesClass imaged instr named k
-
--- the instruction is that of the model
-pub record IsInstrAt (imaged : Imaged) (method number : ℕ) (instr : Instr) (named : Named) : Type 0 where
-  pub stands : StandsAt imaged method number instr named
-  pub is : instruction_of_number imaged method number ≡ Some (instruction_of instr named)

@@ -1,19 +1,15 @@
-ghost use Rattle.std.specs.Prelude.{◌≡◌, ◌≤◌, ◌<◌, length, slice_get, Some, IfOk};
-ghost use Rattle.std.specs.Option.{option_map};
+ghost use Rattle.std.specs.Prelude.{◌≡◌, ◌≤◌, ◌<◌, length, Some, IfOk};
 ghost use Rattle.dj_model.specs.trusted.Instructions.{Instruction, Named};
 ghost use Rattle.dj_model.specs.trusted.Opcodes.{instruction_of};
-ghost use Rattle.dj_model.specs.Sound.{IsSound};
 ghost use Rattle.dj_stack.specs.Frames.{top_operands, top_room};
 ghost use Rattle.dj_calls.specs.Known.{AreKnown};
 ghost use Rattle.dj_types.specs.Typed.{types_of};
-ghost use Rattle.dj_types.specs.Members.{all_methods};
-ghost use Rattle.dj_image.specs.Imaged.{program_of, typed_of};
+ghost use Rattle.dj_image.specs.Imaged.{typed_of};
 ghost use Rattle.dj_image.specs.Numbering.{AreSettled};
 ghost use Rattle.dj_image.specs.declared.operand.Operand.TheVariants.{Unresolved};
 ghost use Rattle.dj_initialising.specs.Store.{IsStore, store};
-ghost use Rattle.dj_acting.specs.Acting.{HasInstruction, IsActed, IsDone, IsHeap, IsReady, instruction_of_number, machine};
+ghost use Rattle.dj_acting.specs.Acting.{IsActed, IsDone, IsHeap, IsReady, instruction_of_number, machine};
 ghost use Rattle.dj_acting.specs.Frugal.{IsFrugal, LoadsByKnown, NeverMemory};
-ghost use Rattle.dj_acting.specs.Operands.{IsInstrAt};
 ghost use Rattle.dj_acting.specs.Used.{IsBeside, IsOperandUsed};
 
 use crate::acted::Acted;
@@ -22,38 +18,15 @@ use crate::classes::{act_class, act_unnamed};
 use crate::literals::act_literal;
 use crate::members::act_field;
 use crate::texts::act_push_text;
-use dj_activations::code_of;
+use dj_activations::instr_of;
 use dj_heap::Heap;
-use dj_image::{Image, MethodCode, MethodId, Operand};
+use dj_image::{Image, MethodId, Operand};
 use dj_initialising::StaticPlaces;
 use dj_members::{Literals, Statics};
 use dj_natives::Classes;
 use dj_ops::Instr;
 use dj_stack::Frames;
 use std::alloc::AllocError;
-
-// The instruction of a number in code.
-fn instr_in(code: &MethodCode, number: u32) -> Option<&Instr>
-    ensures { option_map (λ instr. instr.now) result ≡ slice_get code.now.code.code number }
-{
-    code.code.code.as_slice().get(number as usize)
-}
-
-// The instruction of a number in a method of an image.
-fn instr_of(image: &Image, method: MethodId, number: u32) -> &Instr
-    requires sound { IsSound (program_of image.now) image.now.prefix }
-    requires there { method.number < length (all_methods (program_of image.now)) }
-    requires stands { HasInstruction image.now method.number number }
-    ensures { (named : Named) × IsInstrAt image.now method.number number result.now named }
-{
-    let Some(code) = code_of(image, method) else {
-        unreachable!()
-    };
-    match instr_in(code, number) {
-        Some(instr) => instr,
-        None => unreachable!(),
-    }
-}
 
 // An instruction with this operand is done.
 fn act_with(
