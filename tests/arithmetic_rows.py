@@ -1,11 +1,11 @@
-"""Rows of arithmetic, of dj_machine_tests (arith_rows.rt) and of the facts of dj_arith (ArithmeticRows.antt), computed anew by what JVMS 6.5 says of each instruction.
+"""Rows of arithmetic, of dj_parts_tests (arith_rows.rt) and of the facts of dj_arith (ArithmeticRows.antt), computed anew by what JVMS 6.5 says of each instruction.
 tests/generated calls it."""
 
 import os
 import re
 
 CRATES = os.path.join(os.path.dirname(os.path.dirname(os.path.abspath(__file__))), "crates")
-ROWS = os.path.join(CRATES, "dj_machine_tests", "src", "arith_rows.rt")
+ROWS = os.path.join(CRATES, "dj_parts_tests", "src", "arith_rows.rt")
 FACTS = os.path.join(CRATES, "dj_arith", "proofs", "ArithmeticRows.antt")
 WIDTHS = {"int": 32, "long": 64}
 MOST = {"i32::MAX": 2**31 - 1, "i32::MIN": -(2**31), "i64::MAX": 2**63 - 1, "i64::MIN": -(2**63)}
@@ -93,5 +93,5 @@ def wrong(tables):
 
 
 def check(results):
-    results.add("dj_machine_tests, rows of arithmetic", [], wrong(tables_of_tests()))
+    results.add("dj_parts_tests, rows of arithmetic", [], wrong(tables_of_tests()))
     results.add("dj_arith, facts of arithmetic", [], wrong(tables_of_facts()))

@@ -1,4 +1,4 @@
-"""The rows of dj_call_tests, held to what native_calls.py makes of each call: its answer, the bytes that are used before it and after it, those that
+"""The rows of dj_natives_tests, held to what native_calls.py makes of each call: its answer, the bytes that are used before it and after it, those that
 are charged, and what an object is then. The sequences of the accounter are added up anew, and the rows of objects.rt are held to sizes and subtypes.
 tests/generated calls it. The tables of few.rs and taken.rs aren't read: contracts say what they are."""
 
@@ -9,7 +9,7 @@ import class_reader
 import library_classes
 import native_calls
 
-SOURCES = os.path.join(os.path.dirname(os.path.dirname(os.path.abspath(__file__))), "crates", "dj_call_tests", "src")
+SOURCES = os.path.join(os.path.dirname(os.path.dirname(os.path.abspath(__file__))), "crates", "dj_natives_tests", "src")
 CALLS = ["boxed_calls.rt", "builder_calls.rt", "copy_calls.rt", "library_calls.rt", "part_calls.rt", "text_calls.rt"]
 ENOUGH = ["Some", 1000000], 1000000
 TOKEN = re.compile(r'\s*(?://[^\n]*\n|b"((?:\\.|[^"\\])*)"|(-?[0-9][0-9_]*)|([A-Za-z_]\w*(?:::\w+)*)|([&()\[\],]))')
@@ -169,7 +169,7 @@ def check_calls(results):
     for file in CALLS:
         for table, kind, rows in tables(file):
             lines = [line for row in rows for line in misdone(kind, row)]
-            results.add("dj_call_tests, %s of %s" % (table, file), [], lines)
+            results.add("dj_natives_tests, %s of %s" % (table, file), [], lines)
 
 
 # The accounter.
@@ -211,7 +211,7 @@ def misanswered(sequence):
 
 def check_sequences(results):
     for table, _, sequences in tables("sums.rt"):
-        results.add("dj_call_tests, %s of sums.rt" % table, [], [line for one in sequences for line in misanswered(one)])
+        results.add("dj_natives_tests, %s of sums.rt" % table, [], [line for one in sequences for line in misanswered(one)])
 
 
 # Objects, casts and fields.
@@ -258,7 +258,7 @@ def put(row):
 def check_objects(results):
     judges = {"ArrayRow": array_made, "ObjectRow": object_made, "CastRow": cast, "FieldRow": put}
     for table, kind, rows in tables("objects.rt"):
-        results.add("dj_call_tests, %s of objects.rt" % table, [], ["%r" % row for row in rows if not judges[kind](row)])
+        results.add("dj_natives_tests, %s of objects.rt" % table, [], ["%r" % row for row in rows if not judges[kind](row)])
 
 
 def check(results):

@@ -1,7 +1,7 @@
 """What a call of a native method of the library does, as docs/LIBRARY.md names them and the documentation of Java describes them, over a heap whose objects
-are numbered from 1 and have sizes. It shares nothing with the program; call_rows.py holds the rows of dj_call_tests to it.
+are numbered from 1 and have sizes. It shares nothing with the program; call_rows.py holds the rows of dj_natives_tests to it.
 
-A reference is an object's number, and 0 is null. What a call answers is a tuple, named as in rows.rt of dj_call_tests."""
+A reference is an object's number, and 0 is null. What a call answers is a tuple, named as in rows.rt of dj_natives_tests."""
 
 import class_reader
 

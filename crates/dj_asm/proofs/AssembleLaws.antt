@@ -1,24 +1,24 @@
 -- The passes of the assembler together: the first line that is too large, and the answer for the text.
 use Rattle.std.proofs.Common.{◌≡◌, ◌≢◌, ℕ, ◌<◌, ◌≤◌, ◌⊎◌, inl, inr, Bool, true, false, nat_le, if◌then◌else◌, Contains, List, [], Option, Some, None, Result, Ok, Err, length, map, refl, sym, ◌∙◌, ap, subst, slice_get, arith}
 use Rattle.std.proofs.lemmas.Bool.{leb-true, leb-false}
-use Rattle.dj_source.specs.declared.error.AsmError.{AsmError}
-use Rattle.dj_source.specs.declared.error.AsmError.TheVariants as asm_errors
-use Rattle.dj_source.specs.trusted.Faults.{WordFault}
-use Rattle.dj_source.specs.trusted.Labels.{LabelFault}
-use Rattle.dj_source.specs.trusted.Sources.{Source}
-use Rattle.dj_source.specs.SourceLines.{TextLines, AreLinesOf, IsFirstFault}
-use Rattle.dj_entries.specs.trusted.Room.{IsPastPool, NoLine}
-use Rattle.dj_entries.specs.Room.{IsFirst}
+use Rattle.dj_asm_source.specs.declared.error.AsmError.{AsmError}
+use Rattle.dj_asm_source.specs.declared.error.AsmError.TheVariants as asm_errors
+use Rattle.dj_asm_source.specs.trusted.Faults.{WordFault}
+use Rattle.dj_asm_source.specs.trusted.Labels.{LabelFault}
+use Rattle.dj_asm_source.specs.trusted.Sources.{Source}
+use Rattle.dj_asm_source.specs.SourceLines.{TextLines, AreLinesOf, IsFirstFault}
+use Rattle.dj_asm_pool.specs.trusted.Room.{IsPastPool, NoLine}
+use Rattle.dj_asm_pool.specs.Room.{IsFirst}
 use Rattle.dj_asm.specs.trusted.Large.{IsTooLarge}
 use Rattle.dj_asm.specs.trusted.Texts.{IsTextOfBytes, TextFault}
-use Rattle.dj_entries.specs.trusted.Entries.{Entry, each_once, index_of}
-use Rattle.dj_entries.specs.trusted.Needs.{needs_of, needed_entry, entries_of}
-use Rattle.dj_entries.specs.Pooling.{all_kept, found_index}
-use Rattle.dj_entries.specs.PoolNeeds.{IsPoolOf}
-use Rattle.dj_entries.proofs.EntryLaws.{once_has}
-use Rattle.dj_entries.proofs.FoundEntries.{found_some, found_with_room}
-use Rattle.dj_entries.proofs.PoolOnce.{whole}
-use Rattle.dj_entries.proofs.SourcePool.{entry_has_room}
+use Rattle.dj_asm_pool.specs.trusted.Entries.{Entry, each_once, index_of}
+use Rattle.dj_asm_pool.specs.trusted.Needs.{needs_of, needed_entry, entries_of}
+use Rattle.dj_asm_pool.specs.Pooling.{all_kept, found_index}
+use Rattle.dj_asm_pool.specs.PoolNeeds.{IsPoolOf}
+use Rattle.dj_asm_pool.proofs.EntryLaws.{once_has}
+use Rattle.dj_asm_pool.proofs.FoundEntries.{found_some, found_with_room}
+use Rattle.dj_asm_pool.proofs.PoolOnce.{whole}
+use Rattle.dj_asm_pool.proofs.SourcePool.{entry_has_room}
 use Rattle.dj_asm.specs.Assembling.{IsJudged, IsFirstBeside, IsFitting, AreFileBytes}
 use Rattle.dj_asm.specs.Answers.{IsAsmFault, Yields, GivesFile, least_of, large_at}
 use Rattle.dj_asm.proofs.OneFile.{one_file}

@@ -24,15 +24,15 @@ use Rattle.dj_layout.proofs.Ends.{starts_length, end_within}
 use Rattle.dj_layout.proofs.Passing.{placed_length}
 use Rattle.dj_layout.proofs.Decided.{layout_or_fault_is}
 use Rattle.dj_class.specs.trusted.Code.{CodeInfo}
-use Rattle.dj_source.specs.trusted.Lines.{Label, Operation, Plain, Push, Local, Increment, Load, LoadLong, Jump, Table, Lookup, Member, Dynamic, ClassOf, Array, Multi, Catch, Line, Method, Stack, Locals, Beside, Does, End, IsFieldUse, IsMethodUse, IsOperation, IsLine}
-use Rattle.dj_source.specs.trusted.Sources.{Source, BodyPart, body_lines}
-use Rattle.dj_source.specs.trusted.Labels.{instruction_count, AtInstruction, operation_uses, uses_of, AreMethodLines, IsMislabelled, label_number}
-use Rattle.dj_entries.specs.trusted.Entries.{Entry}
-use Rattle.dj_entries.specs.trusted.Needs.{member_entry, index_in}
+use Rattle.dj_asm_source.specs.trusted.Lines.{Label, Operation, Plain, Push, Local, Increment, Load, LoadLong, Jump, Table, Lookup, Member, Dynamic, ClassOf, Array, Multi, Catch, Line, Method, Stack, Locals, Beside, Does, End, IsFieldUse, IsMethodUse, IsOperation, IsLine}
+use Rattle.dj_asm_source.specs.trusted.Sources.{Source, BodyPart, body_lines}
+use Rattle.dj_asm_source.specs.trusted.Labels.{instruction_count, AtInstruction, operation_uses, uses_of, AreMethodLines, IsMislabelled, label_number}
+use Rattle.dj_asm_pool.specs.trusted.Entries.{Entry}
+use Rattle.dj_asm_pool.specs.trusted.Needs.{member_entry, index_in}
 use Rattle.dj_asm.specs.trusted.Codes.{Places, target_of, IsMemberInstr, is_interface_call, IsInstrOf, operation_in, AreInstrsOf, ranges_in, stack_map_of, frames_in, IsCodeOf}
 use Rattle.dj_asm.specs.trusted.Files.{places_of}
 use Rattle.dj_asm.specs.trusted.Large.{IsImproper, IsFarJump, IsEndOfLongCode}
-use Rattle.dj_entries.specs.trusted.Room.{NoLine}
+use Rattle.dj_asm_pool.specs.trusted.Room.{NoLine}
 use Rattle.dj_asm.proofs.Deciding.{stable, proper_or_not}
 use Rattle.dj_asm.proofs.BodyLabels.{count_cons, count_append, coded_lines, same_places, same_in, IsNumbered, uses_numbered}
 

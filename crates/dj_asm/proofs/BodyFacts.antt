@@ -9,10 +9,10 @@ use Rattle.dj_labels.specs.declared.labelled.Labelled.{Labelled}
 use Rattle.dj_layout.specs.declared.laid.Laid.{Laid}
 use Rattle.dj_layout.specs.trusted.Layouts.{IsLaidOut}
 use Rattle.dj_frames.specs.trusted.Written.{frames_bytes}
-use Rattle.dj_source.specs.trusted.Lines.{Label, Same, Plain, Jump, Labelled as Marked, Catch, Line, Beside, Framed, Does}
-use Rattle.dj_source.specs.trusted.Labels.{label_number}
-use Rattle.dj_entries.specs.trusted.Entries.{Class, index_of}
-use Rattle.dj_entries.specs.trusted.Needs.{stack_map_name}
+use Rattle.dj_asm_source.specs.trusted.Lines.{Label, Same, Plain, Jump, Labelled as Marked, Catch, Line, Beside, Framed, Does}
+use Rattle.dj_asm_source.specs.trusted.Labels.{label_number}
+use Rattle.dj_asm_pool.specs.trusted.Entries.{Class, index_of}
+use Rattle.dj_asm_pool.specs.trusted.Needs.{stack_map_name}
 use Rattle.dj_asm.specs.trusted.Codes.{frames_in, IsCodeOf}
 use Rattle.dj_asm.specs.trusted.Files.{places_of}
 

@@ -6,12 +6,12 @@ use Rattle.std.proofs.lemmas.Bool.{cases_Bool, false≢true, false_from_ne_true}
 use Rattle.std.proofs.lemmas.List.Sums.{sum_by-cons, sum_by-append}
 use Rattle.std.proofs.lemmas.List.Concat.{flat_map-append}
 use Rattle.dj_names.specs.trusted.Types.{same_name}
-use Rattle.dj_source.specs.trusted.Lines.{Label, Labelled as Marked, Line, Method, Stack, Locals, Beside, End}
-use Rattle.dj_source.specs.trusted.Sources.{Source, BodyPart, Coded, body_lines, method_lines}
-use Rattle.dj_source.specs.trusted.Labels.{is_instruction, instruction_count, IsLabelAt, Use, AtInstruction, Range, uses_of, IsMet, AreMethodLines, IsMislabelled, marks, label_number}
-use Rattle.dj_entries.specs.trusted.Entries.{Entry}
+use Rattle.dj_asm_source.specs.trusted.Lines.{Label, Labelled as Marked, Line, Method, Stack, Locals, Beside, End}
+use Rattle.dj_asm_source.specs.trusted.Sources.{Source, BodyPart, Coded, body_lines, method_lines}
+use Rattle.dj_asm_source.specs.trusted.Labels.{is_instruction, instruction_count, IsLabelAt, Use, AtInstruction, Range, uses_of, IsMet, AreMethodLines, IsMislabelled, marks, label_number}
+use Rattle.dj_asm_pool.specs.trusted.Entries.{Entry}
 use Rattle.dj_asm.specs.trusted.Files.{places_of}
-use Rattle.dj_entries.specs.trusted.Room.{NoLine}
+use Rattle.dj_asm_pool.specs.trusted.Room.{NoLine}
 use Rattle.dj_asm.proofs.Deciding.{Is, stable, both, below, at_most, each}
 
 -- ---- counts

@@ -10,10 +10,10 @@ use Rattle.dj_ops.specs.declared.instruction.Instr.TheVariants as instrs
 use Rattle.dj_ops.specs.declared.frames.VType.TheVariants as types
 use Rattle.dj_ops.specs.declared.frames.Form.TheVariants as forms
 use Rattle.dj_ops.specs.Mnemonics.{nop, bipush, ldc, ldc_w, ldc2_w, iload, pop, goto, ret, return, putstatic, invokestatic, invokeinterface, new, goto_w}
-use Rattle.dj_source.specs.trusted.Lines.{IntLiteral, StringLiteral, ClassLiteral, Object, New, Same, Stack1, Chop, Append, Full, Operation, Plain, Push, Local, Increment, Load, LoadLong, Jump, Table, Lookup, Member, Dynamic, ClassOf, Array, Multi, Labelled, Catch, Line, Beside, Framed, Does}
-use Rattle.dj_source.specs.trusted.Labels.{label_number}
-use Rattle.dj_entries.specs.trusted.Entries as entries
-use Rattle.dj_entries.specs.trusted.Entries.{Entry, index_of}
+use Rattle.dj_asm_source.specs.trusted.Lines.{IntLiteral, StringLiteral, ClassLiteral, Object, New, Same, Stack1, Chop, Append, Full, Operation, Plain, Push, Local, Increment, Load, LoadLong, Jump, Table, Lookup, Member, Dynamic, ClassOf, Array, Multi, Labelled, Catch, Line, Beside, Framed, Does}
+use Rattle.dj_asm_source.specs.trusted.Labels.{label_number}
+use Rattle.dj_asm_pool.specs.trusted.Entries as entries
+use Rattle.dj_asm_pool.specs.trusted.Entries.{Entry, index_of}
 use Rattle.dj_asm.specs.trusted.Codes.{Places, IsInstrOf, AreInstrsOf, ranges_in, simple_type, type_of, form_of, frames_in, stack_map_of}
 
 abbrev a : List ℕ

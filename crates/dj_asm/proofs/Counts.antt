@@ -5,11 +5,11 @@ use Rattle.std.specs.List.{flat_map, count_by}
 use Rattle.std.proofs.lemmas.Bool.{cases_Bool, cases_lt}
 use Rattle.std.proofs.lemmas.List.{take_at}
 use Rattle.std.proofs.lemmas.List.Sums.{sum_by-cons, sum_by-append}
-use Rattle.dj_source.specs.trusted.Lines.{Line, Class, Super, Implements, Abstract, Method, Stack, Locals, Beside, Catch, End}
-use Rattle.dj_source.specs.trusted.Sources.{Source, MethodSource, Bodiless, Coded, version_lines, field_line, body_lines, head_lines, method_lines, lines_of}
+use Rattle.dj_asm_source.specs.trusted.Lines.{Line, Class, Super, Implements, Abstract, Method, Stack, Locals, Beside, Catch, End}
+use Rattle.dj_asm_source.specs.trusted.Sources.{Source, MethodSource, Bodiless, Coded, version_lines, field_line, body_lines, head_lines, method_lines, lines_of}
 use Rattle.dj_asm.specs.trusted.Codes.{Places, ranges_in}
 use Rattle.dj_asm.specs.trusted.Large.{most_lines, is_interface, is_field, is_method, is_catch, IsOneTooMany, count_before, IsPastTable}
-use Rattle.dj_entries.specs.trusted.Room.{NoLine}
+use Rattle.dj_asm_pool.specs.trusted.Room.{NoLine}
 
 module _ (is_such : Line → Bool) where
   count_first : (line : Line) (more : List Line) → count_by is_such (line ∷ more) ≡ cond (is_such line) 1 0 + count_by is_such more

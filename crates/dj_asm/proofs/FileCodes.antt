@@ -13,13 +13,13 @@ use Rattle.dj_layout.specs.declared.laid.Laid.{Laid}
 use Rattle.dj_frames.specs.trusted.Written.{stack_map_bytes}
 use Rattle.dj_class.specs.trusted.ClassFile.{AttributeInfo}
 use Rattle.dj_class.specs.trusted.Code.{CodeInfo}
-use Rattle.dj_source.specs.trusted.Lines.{Label, FrameType, Object, Frame, Stack1, Append, Full, Operation, Load, LoadLong, Member, Dynamic, ClassOf, Multi, Catch, Line, Beside, Framed, Does, End}
-use Rattle.dj_source.specs.trusted.Sources.{BodyPart, body_lines}
-use Rattle.dj_entries.specs.trusted.Entries.{Entry}
-use Rattle.dj_entries.specs.trusted.Needs.{member_entry, operation_entries, type_entries, types_entries, instruction_entries, catch_entries, stack_map_entries, frame_entries}
+use Rattle.dj_asm_source.specs.trusted.Lines.{Label, FrameType, Object, Frame, Stack1, Append, Full, Operation, Load, LoadLong, Member, Dynamic, ClassOf, Multi, Catch, Line, Beside, Framed, Does, End}
+use Rattle.dj_asm_source.specs.trusted.Sources.{BodyPart, body_lines}
+use Rattle.dj_asm_pool.specs.trusted.Entries.{Entry}
+use Rattle.dj_asm_pool.specs.trusted.Needs.{member_entry, operation_entries, type_entries, types_entries, instruction_entries, catch_entries, stack_map_entries, frame_entries}
 use Rattle.dj_asm.specs.trusted.Codes.{Places, IsMemberInstr, is_interface_call, IsInstrOf, operation_in, AreInstrsOf, ranges_in, type_of, form_of, frames_in, stack_map_of, IsCodeOf}
 use Rattle.dj_asm.specs.trusted.Files.{places_of}
-use Rattle.dj_entries.proofs.Members.{each_first, each_last}
+use Rattle.dj_asm_pool.proofs.Members.{each_first, each_last}
 use Rattle.dj_asm.proofs.BodyLabels.{coded_lines, same_places, same_in}
 use Rattle.dj_asm.proofs.FileIndexes.{EachNeed, MethodHas, IsAlike}
 

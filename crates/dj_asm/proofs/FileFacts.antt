@@ -10,10 +10,10 @@ use Rattle.dj_pool.specs.trusted.Pool as pool
 use Rattle.dj_pool.specs.trusted.Pool.{Constant, Utf8, indexed}
 use Rattle.dj_class.specs.trusted.ClassFile.{MemberInfo, ClassFile, class_bytes}
 use Rattle.dj_class.specs.trusted.Code.{CodeInfo}
-use Rattle.dj_source.specs.trusted.Lines.{LongValue, Plain}
-use Rattle.dj_source.specs.trusted.Sources.{Source, Step, Bodiless, Coded, body_lines}
-use Rattle.dj_entries.specs.trusted.Entries.{each_once, index_of}
-use Rattle.dj_entries.specs.trusted.Needs.{methods_needs, index_in}
+use Rattle.dj_asm_source.specs.trusted.Lines.{LongValue, Plain}
+use Rattle.dj_asm_source.specs.trusted.Sources.{Source, Step, Bodiless, Coded, body_lines}
+use Rattle.dj_asm_pool.specs.trusted.Entries.{each_once, index_of}
+use Rattle.dj_asm_pool.specs.trusted.Needs.{methods_needs, index_in}
 use Rattle.dj_asm.specs.trusted.Codes.{frames_in, IsCodeOf}
 use Rattle.dj_asm.specs.trusted.Files.{places_of, IsFileOf}
 

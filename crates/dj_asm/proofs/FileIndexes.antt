@@ -2,16 +2,16 @@
 use Rattle.std.proofs.Common.{◌≡◌, ℕ, ◌+◌, ◌≤◌, Bool, ◌&&◌, nat_le, if◌then◌else◌, List, [], ◌∷◌, ◌++◌, length, map, Contains, ap, ◌∙◌}
 use Rattle.std.specs.List.{flat_map, AllByRecursion, enumerate_from}
 use Rattle.std.proofs.lemmas.Bool.{le-leb}
-use Rattle.dj_source.specs.trusted.Lines.{Line}
-use Rattle.dj_source.specs.trusted.Sources.{Source, MethodSource, head_lines, method_lines}
-use Rattle.dj_entries.specs.trusted.Entries.{Entry, Utf8, Integer, Long, Class, Text, NameAndType, Field, Method, InterfaceMethod, Dynamic, with_parts, width, index_of}
-use Rattle.dj_entries.specs.trusted.Needs.{Need, needs_at, needs, method_needs, methods_needs, needs_of, entries_of, index_in, head_entries, instruction_entries, catch_entries, stack_map_entries, frame_entries}
-use Rattle.dj_entries.specs.Keys.{most_next}
-use Rattle.dj_entries.specs.trusted.Room.{IsPastPool, NoLine}
-use Rattle.dj_entries.specs.Pooling.{found_index}
-use Rattle.dj_entries.proofs.Members.{each_from, each_first, each_last}
-use Rattle.dj_entries.proofs.PoolSteps.{any_in}
-use Rattle.dj_entries.proofs.SourcePool.{needed_has_entry, entry_has_room}
+use Rattle.dj_asm_source.specs.trusted.Lines.{Line}
+use Rattle.dj_asm_source.specs.trusted.Sources.{Source, MethodSource, head_lines, method_lines}
+use Rattle.dj_asm_pool.specs.trusted.Entries.{Entry, Utf8, Integer, Long, Class, Text, NameAndType, Field, Method, InterfaceMethod, Dynamic, with_parts, width, index_of}
+use Rattle.dj_asm_pool.specs.trusted.Needs.{Need, needs_at, needs, method_needs, methods_needs, needs_of, entries_of, index_in, head_entries, instruction_entries, catch_entries, stack_map_entries, frame_entries}
+use Rattle.dj_asm_pool.specs.Keys.{most_next}
+use Rattle.dj_asm_pool.specs.trusted.Room.{IsPastPool, NoLine}
+use Rattle.dj_asm_pool.specs.Pooling.{found_index}
+use Rattle.dj_asm_pool.proofs.Members.{each_from, each_first, each_last}
+use Rattle.dj_asm_pool.proofs.PoolSteps.{any_in}
+use Rattle.dj_asm_pool.proofs.SourcePool.{needed_has_entry, entry_has_room}
 
 -- ---- one entry
 

@@ -2,30 +2,30 @@
 use Rattle.std.proofs.Common.{◌≡◌, ℕ, ◌+◌, ◌-◌, ◌<◌, ℤ, List, [], ◌∷◌, ◌++◌, length, map, take, drop, Option, Some, None, refl, sym, ap, ◌∙◌, subst, arith, append_assoc}
 use Rattle.std.specs.List.{flat_map, AllByRecursion, AllZip}
 use Rattle.std.proofs.lemmas.List.{take-append-drop, take-map, drop-map, take_rest, length-map}
-use Rattle.dj_bytes.specs.trusted.Spelling.{u2}
+use Rattle.dj_cursor.specs.trusted.Spelling.{u2}
 use Rattle.dj_names.specs.trusted.Types.{Name}
 use Rattle.dj_class.specs.trusted.ClassFile.{AttributeInfo, MemberInfo, ClassFile, class_bytes}
 use Rattle.dj_class.specs.trusted.Code.{CodeInfo, code_info_bytes}
-use Rattle.dj_source.specs.declared.syntax.Line as the_line
-use Rattle.dj_source.specs.LineViews.{line_view}
-use Rattle.dj_source.specs.trusted.Lines.{Value, Line, Class, Super, Implements, Field, Abstract, Beside, Does, End, Aside}
-use Rattle.dj_source.specs.trusted.Sources.{Source, FieldSource, BodyPart, Mark, Step, FrameStep, MethodSource, Bodiless, Coded, version_lines, field_line, body_lines, method_lines, head_lines, lines_of}
-use Rattle.dj_source.specs.trusted.Labels.{label_number}
-use Rattle.dj_source.specs.LabelReading.{sections_of, section_size}
-use Rattle.dj_source.proofs.Sections.{source_sections}
+use Rattle.dj_asm_source.specs.declared.syntax.Line as the_line
+use Rattle.dj_asm_source.specs.LineViews.{line_view}
+use Rattle.dj_asm_source.specs.trusted.Lines.{Value, Line, Class, Super, Implements, Field, Abstract, Beside, Does, End, Aside}
+use Rattle.dj_asm_source.specs.trusted.Sources.{Source, FieldSource, BodyPart, Mark, Step, FrameStep, MethodSource, Bodiless, Coded, version_lines, field_line, body_lines, method_lines, head_lines, lines_of}
+use Rattle.dj_asm_source.specs.trusted.Labels.{label_number}
+use Rattle.dj_asm_source.specs.LabelReading.{sections_of, section_size}
+use Rattle.dj_asm_source.proofs.Sections.{source_sections}
 use Rattle.dj_asm.specs.declared.heading.Heading.{Heading}
-use Rattle.dj_entries.specs.trusted.Entries as entries
-use Rattle.dj_entries.specs.trusted.Entries.{Entry, Utf8, pool_of}
-use Rattle.dj_entries.specs.trusted.Needs.{value_entry, value_entries, code_name, constant_value_name, head_entries, entries_of, index_in}
+use Rattle.dj_asm_pool.specs.trusted.Entries as entries
+use Rattle.dj_asm_pool.specs.trusted.Entries.{Entry, Utf8, pool_of}
+use Rattle.dj_asm_pool.specs.trusted.Needs.{value_entry, value_entries, code_name, constant_value_name, head_entries, entries_of, index_in}
 use Rattle.dj_asm.specs.trusted.Codes.{IsCodeOf}
 use Rattle.dj_asm.specs.trusted.Files.{value_attribute, field_of, places_of, IsMethodOf, major_of, minor_of, class_index, IsFileOf}
 use Rattle.dj_asm.specs.trusted.Large.{IsTooLarge}
-use Rattle.dj_entries.specs.trusted.Room.{NoLine}
+use Rattle.dj_asm_pool.specs.trusted.Room.{NoLine}
 use Rattle.dj_asm.specs.CodeBodies.{IsCodeBody}
-use Rattle.dj_entries.specs.Pooling.{found_index}
+use Rattle.dj_asm_pool.specs.Pooling.{found_index}
 use Rattle.dj_asm.specs.Assembling.{IsFitting, AreFileBytes}
 use Rattle.dj_asm.specs.Filing.{no_heading, heading_from, interface_indexes, constant_bodies, member_with, one_attribute, members_in, stack_at, locals_at, first_reported, IsBody, MayHaveBody, MayHaveBodies, AreBodies, file_in}
-use Rattle.dj_entries.proofs.Members.{each_first, each_last}
+use Rattle.dj_asm_pool.proofs.Members.{each_first, each_last}
 use Rattle.dj_asm.proofs.BodyLabels.{coded_lines}
 use Rattle.dj_asm.proofs.SourceFile.{all_fit_of, method_at}
 use Rattle.dj_asm.proofs.FileIndexes.{EachNeed, MethodHas, MethodsHave, SourceHas, IsAlike, all_found}

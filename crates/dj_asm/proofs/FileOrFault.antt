@@ -2,15 +2,15 @@
 use Rattle.std.proofs.Common.{ℕ, ◌⊎◌, inl, inr, List, length, get_or, refl, arith}
 use Rattle.std.proofs.lemmas.Option.{slice_get-get_or}
 use Rattle.dj_class.specs.trusted.ClassFile.{class_bytes}
-use Rattle.dj_source.specs.declared.error.AsmError.{AsmError}
-use Rattle.dj_source.specs.declared.error.AsmError.TheVariants as asm_errors
-use Rattle.dj_source.specs.trusted.Sources.{Source, lines_of, IsTextOf}
-use Rattle.dj_source.specs.trusted.Faults.{WordFault}
-use Rattle.dj_source.specs.trusted.Labels.{IsMislabelled, LabelFault, line_numbers}
-use Rattle.dj_source.proofs.TextLaws.{word_fault_or_text}
-use Rattle.dj_source.proofs.NumberLaws.{as_many_lines}
+use Rattle.dj_asm_source.specs.declared.error.AsmError.{AsmError}
+use Rattle.dj_asm_source.specs.declared.error.AsmError.TheVariants as asm_errors
+use Rattle.dj_asm_source.specs.trusted.Sources.{Source, lines_of, IsTextOf}
+use Rattle.dj_asm_source.specs.trusted.Faults.{WordFault}
+use Rattle.dj_asm_source.specs.trusted.Labels.{IsMislabelled, LabelFault, line_numbers}
+use Rattle.dj_asm_source.proofs.TextLaws.{word_fault_or_text}
+use Rattle.dj_asm_source.proofs.NumberLaws.{as_many_lines}
 use Rattle.dj_asm.specs.trusted.Large.{IsTooLarge}
-use Rattle.dj_entries.specs.trusted.Room.{NoLine}
+use Rattle.dj_asm_pool.specs.trusted.Room.{NoLine}
 use Rattle.dj_asm.specs.trusted.Texts.{IsTextOfBytes, TextFault}
 use Rattle.dj_asm.proofs.SourceFile.{all_fit_of, has_file}
 use Rattle.dj_asm.proofs.Search.{HasLeast, least_or_none}

@@ -3,13 +3,13 @@ use Rattle.std.proofs.Common.{◌≡◌, ℕ, ◌+◌, ◌<◌, ◌≤◌, ℤ, 
 use Rattle.std.specs.List.{AllByRecursion, AllZip}
 use Rattle.std.proofs.lemmas.List.{drop-drop, drop-map, take-map, length-map, length-drop, drop_all, drop_more}
 use Rattle.dj_class.specs.trusted.ClassFile.{MemberInfo}
-use Rattle.dj_source.specs.declared.syntax.Line as the_line
-use Rattle.dj_source.specs.trusted.Lines.{Line}
-use Rattle.dj_source.specs.LineViews.{line_view}
-use Rattle.dj_source.specs.LabelReading.{sections_of, section_size}
-use Rattle.dj_source.proofs.Sections.{section_step}
+use Rattle.dj_asm_source.specs.declared.syntax.Line as the_line
+use Rattle.dj_asm_source.specs.trusted.Lines.{Line}
+use Rattle.dj_asm_source.specs.LineViews.{line_view}
+use Rattle.dj_asm_source.specs.LabelReading.{sections_of, section_size}
+use Rattle.dj_asm_source.proofs.Sections.{section_step}
 use Rattle.dj_asm.specs.declared.heading.Heading.{Heading}
-use Rattle.dj_entries.specs.trusted.Entries.{Entry}
+use Rattle.dj_asm_pool.specs.trusted.Entries.{Entry}
 use Rattle.dj_asm.specs.Filing.{heading_with, heading_from, members_at, members_in, first_body, bodies_after, or_later, first_reported, IsBody, MayHaveBody, MayHaveBodies, AreBodies}
 
 -- the line of an index, and those after it

@@ -16,14 +16,14 @@ use Rattle.dj_ops.specs.declared.frames.Frame as frames
 use Rattle.dj_layout.specs.trusted.Places.{starts_from, end_from}
 use Rattle.dj_layout.proofs.Ends.{ends_after}
 use Rattle.dj_frames.specs.trusted.StackMaps.{IsType, types_of, HasCounts}
-use Rattle.dj_source.specs.trusted.Lines.{Label, FrameType, Simple, Object, New, Frame, Same, Stack1, Chop, Append, Full, IsFrame, IsSizedFrame, Line, Beside, Framed, Does, End, Operation, Aside}
-use Rattle.dj_source.specs.trusted.Sources.{BodyPart, Mark, Step, FrameStep, body_lines}
-use Rattle.dj_source.specs.trusted.Labels.{instruction_count, type_uses, frame_uses}
-use Rattle.dj_entries.specs.trusted.Entries.{Entry, Class}
+use Rattle.dj_asm_source.specs.trusted.Lines.{Label, FrameType, Simple, Object, New, Frame, Same, Stack1, Chop, Append, Full, IsFrame, IsSizedFrame, Line, Beside, Framed, Does, End, Operation, Aside}
+use Rattle.dj_asm_source.specs.trusted.Sources.{BodyPart, Mark, Step, FrameStep, body_lines}
+use Rattle.dj_asm_source.specs.trusted.Labels.{instruction_count, type_uses, frame_uses}
+use Rattle.dj_asm_pool.specs.trusted.Entries.{Entry, Class}
 use Rattle.dj_asm.specs.trusted.Codes.{Places, simple_type, type_of, form_of, frames_in}
 use Rattle.dj_asm.specs.trusted.Files.{places_of}
 use Rattle.dj_asm.specs.trusted.Large.{most_lines, HasTooMany, HasLongLists}
-use Rattle.dj_entries.proofs.Members.{each_append, each_first, each_last}
+use Rattle.dj_asm_pool.proofs.Members.{each_append, each_first, each_last}
 use Rattle.dj_asm.proofs.BodyLabels.{IsNumbered}
 
 -- ---- addresses

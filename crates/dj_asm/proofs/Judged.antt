@@ -14,19 +14,19 @@ use Rattle.dj_layout.specs.trusted.Places.{starts_from}
 use Rattle.dj_layout.specs.trusted.Layouts.{placed, most_bytes}
 use Rattle.dj_layout.specs.trusted.Faults.{Reaches}
 use Rattle.dj_layout.proofs.Ends.{starts_length}
-use Rattle.dj_source.specs.declared.syntax.Line as the_line
-use Rattle.dj_source.specs.trusted.Lines.{Frame, Full, Operation, Line, Framed, Does, End, IsOperation, IsLine, IsSized}
-use Rattle.dj_source.specs.LineViews.{line_view}
-use Rattle.dj_source.specs.trusted.Sources.{Source, method_lines, lines_of, IsSource}
-use Rattle.dj_source.specs.trusted.Labels.{AreMethodLines, instruction_count, label_number}
-use Rattle.dj_source.specs.LabelReading.{sections_of}
-use Rattle.dj_entries.specs.trusted.Entries.{Entry}
-use Rattle.dj_entries.specs.trusted.Needs.{needs_of, needed_entry, index_in, operation_entries}
-use Rattle.dj_entries.specs.trusted.Room.{HasRoom, IsPastPool}
-use Rattle.dj_entries.specs.Pooling.{found_index}
-use Rattle.dj_entries.proofs.Members.{each_first, each_last, in_map}
-use Rattle.dj_entries.proofs.SourcePool.{room_or_not}
-use Rattle.dj_entries.proofs.FoundEntries.{found_with_room}
+use Rattle.dj_asm_source.specs.declared.syntax.Line as the_line
+use Rattle.dj_asm_source.specs.trusted.Lines.{Frame, Full, Operation, Line, Framed, Does, End, IsOperation, IsLine, IsSized}
+use Rattle.dj_asm_source.specs.LineViews.{line_view}
+use Rattle.dj_asm_source.specs.trusted.Sources.{Source, method_lines, lines_of, IsSource}
+use Rattle.dj_asm_source.specs.trusted.Labels.{AreMethodLines, instruction_count, label_number}
+use Rattle.dj_asm_source.specs.LabelReading.{sections_of}
+use Rattle.dj_asm_pool.specs.trusted.Entries.{Entry}
+use Rattle.dj_asm_pool.specs.trusted.Needs.{needs_of, needed_entry, index_in, operation_entries}
+use Rattle.dj_asm_pool.specs.trusted.Room.{HasRoom, IsPastPool}
+use Rattle.dj_asm_pool.specs.Pooling.{found_index}
+use Rattle.dj_asm_pool.proofs.Members.{each_first, each_last, in_map}
+use Rattle.dj_asm_pool.proofs.SourcePool.{room_or_not}
+use Rattle.dj_asm_pool.proofs.FoundEntries.{found_with_room}
 use Rattle.dj_asm.specs.trusted.Codes.{Places, AreInstrsOf}
 use Rattle.dj_asm.specs.trusted.Files.{places_of}
 use Rattle.dj_asm.specs.trusted.Large.{IsMethodLine, IsImproper, IsFarJump, IsEndOfLongCode, most_lines, is_interface, is_field, is_method, is_catch, IsOneTooMany, count_before, IsPastTable, IsPastCatches, HasLongLists, IsLongFrame, IsTooLarge}

@@ -1,9 +1,9 @@
 -- Where the instructions of lines come to stand.
 use Rattle.std.proofs.Common.{◌≡◌, ℕ, ◌+◌, ◌<◌, ◌≤◌, List, [], ◌∷◌, ◌++◌, length, map, get_or, drop, refl, sym, ap, ◌∙◌, subst, append_assoc, append-nil}
 use Rattle.std.proofs.lemmas.List.{drop_all, drop_more, length-map}
-use Rattle.dj_source.specs.declared.syntax.Line as the_line
-use Rattle.dj_source.specs.trusted.Lines.{Operation, Line}
-use Rattle.dj_source.specs.LineViews.{line_view}
+use Rattle.dj_asm_source.specs.declared.syntax.Line as the_line
+use Rattle.dj_asm_source.specs.trusted.Lines.{Operation, Line}
+use Rattle.dj_asm_source.specs.LineViews.{line_view}
 use Rattle.dj_asm.specs.trusted.Codes.{operation_in}
 use Rattle.dj_asm.specs.Judging.{starts_at, end_at, size_at, operations, AreStarts, AreSoFar}
 use Rattle.std.proofs.lemmas.List.{drop-map}

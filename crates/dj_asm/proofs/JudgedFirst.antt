@@ -6,15 +6,15 @@ use Rattle.std.proofs.lemmas.Bool.Decides.{nat_tests}
 use Rattle.std.proofs.lemmas.Bool.{cases_Bool, cases_lt}
 use Rattle.std.proofs.lemmas.List.{length-map, length-take-le}
 use Rattle.std.proofs.lemmas.List.Sums.{sum_by-cons, sum_by-append}
-use Rattle.dj_source.specs.declared.syntax.Line as the_line
-use Rattle.dj_source.specs.trusted.Lines.{Label, Line}
-use Rattle.dj_source.specs.LineViews.{line_view}
-use Rattle.dj_source.specs.trusted.Labels.{is_instruction, instruction_count}
-use Rattle.dj_entries.specs.trusted.Entries.{Entry}
+use Rattle.dj_asm_source.specs.declared.syntax.Line as the_line
+use Rattle.dj_asm_source.specs.trusted.Lines.{Label, Line}
+use Rattle.dj_asm_source.specs.LineViews.{line_view}
+use Rattle.dj_asm_source.specs.trusted.Labels.{is_instruction, instruction_count}
+use Rattle.dj_asm_pool.specs.trusted.Entries.{Entry}
 use Rattle.dj_asm.specs.trusted.Large.{most_lines}
 use Rattle.dj_asm.specs.declared.counted.Kind.{Kind}
 use Rattle.dj_asm.specs.Judging.{NoneBelow, IsFirstOf, earliest, either_test, is_kind, is_one_past, is_past, is_alone, alone, is_wide_line, is_wide}
-use Rattle.dj_entries.proofs.PoolEntries.{one_more}
+use Rattle.dj_asm_pool.proofs.PoolEntries.{one_more}
 
 -- ---- one of two tests
 

@@ -7,8 +7,8 @@ use Rattle.dj_names.specs.declared.descriptor.Desc.{Desc}
 use Rattle.dj_names.specs.trusted.Descriptors.{Describes, slots_of}
 use Rattle.dj_names.specs.trusted.DescReading.{desc_read}
 use Rattle.dj_names.proofs.DescLaws.{desc_takes, desc_again}
-use Rattle.dj_source.specs.declared.targets.Pair as the_pair
-use Rattle.dj_source.specs.PairViews.{pair_view}
+use Rattle.dj_asm_source.specs.declared.targets.Pair as the_pair
+use Rattle.dj_asm_source.specs.PairViews.{pair_view}
 use Rattle.dj_asm.specs.Judging.{rise_from, are_many, has_many_slots}
 
 -- ---- the slots of a descriptor

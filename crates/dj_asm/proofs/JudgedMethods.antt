@@ -6,15 +6,15 @@ use Rattle.std.proofs.lemmas.Bool.{cases_lt, or_from}
 use Rattle.std.proofs.lemmas.List.{length-append}
 use Rattle.std.proofs.lemmas.List.Concat.{flat_map-append}
 use Rattle.std.proofs.lemmas.List.Elements.{Contains-append_left, Contains-append_right}
-use Rattle.dj_source.specs.trusted.Lines.{Label, Line, Operation, Class, Super, Implements, Does}
-use Rattle.dj_source.specs.trusted.Sources.{Source, FieldSource, MethodSource, version_lines, field_line, head_lines, method_lines, lines_of}
-use Rattle.dj_source.specs.trusted.Labels.{AreMethodLines, is_instruction, instruction_count, label_number}
-use Rattle.dj_source.specs.LabelReading.{sections_of}
-use Rattle.dj_source.proofs.Sections.{source_sections}
-use Rattle.dj_entries.specs.trusted.Entries as entries
-use Rattle.dj_entries.specs.trusted.Entries.{Entry, with_parts}
-use Rattle.dj_entries.specs.trusted.Needs.{Need, needs_at, needs, method_needs, methods_needs, needs_of, head_entries, instruction_entries, catch_entries, stack_map_entries, frame_entries, operation_entries}
-use Rattle.dj_entries.proofs.Members.{in_map, in_flat_map, each_append}
+use Rattle.dj_asm_source.specs.trusted.Lines.{Label, Line, Operation, Class, Super, Implements, Does}
+use Rattle.dj_asm_source.specs.trusted.Sources.{Source, FieldSource, MethodSource, version_lines, field_line, head_lines, method_lines, lines_of}
+use Rattle.dj_asm_source.specs.trusted.Labels.{AreMethodLines, is_instruction, instruction_count, label_number}
+use Rattle.dj_asm_source.specs.LabelReading.{sections_of}
+use Rattle.dj_asm_source.proofs.Sections.{source_sections}
+use Rattle.dj_asm_pool.specs.trusted.Entries as entries
+use Rattle.dj_asm_pool.specs.trusted.Entries.{Entry, with_parts}
+use Rattle.dj_asm_pool.specs.trusted.Needs.{Need, needs_at, needs, method_needs, methods_needs, needs_of, head_entries, instruction_entries, catch_entries, stack_map_entries, frame_entries, operation_entries}
+use Rattle.dj_asm_pool.proofs.Members.{in_map, in_flat_map, each_append}
 use Rattle.dj_asm.specs.trusted.Large.{IsMethodLine, most_lines, is_catch}
 use Rattle.dj_asm.specs.declared.counted.Kind.TheVariants as kinds
 use Rattle.dj_asm.specs.Judging.{is_past, is_one_past, is_wide_line, wide_code, is_large_in, in_sections, starts_at, end_at, operations}

@@ -15,16 +15,16 @@ use Rattle.dj_ops.specs.trusted.Forms.{ShortLiteral, LongLiteral, MemberIndex, f
 use Rattle.dj_ops.specs.trusted.Instructions.{IsLiteral, IsLocal, IsTable, IsLookup, IsProper}
 use Rattle.dj_ops.specs.trusted.Lookups.{rises, rises_from}
 use Rattle.dj_ops.proofs.Rising.{rising_from, rises_if}
-use Rattle.dj_source.specs.trusted.Lines.{Label, Operation, Plain, Push, Local, Increment, Load, LoadLong, Jump, Table, Lookup, Member, Dynamic, ClassOf, Array, Multi, IsFieldUse, IsMethodUse, IsOperation, IsSizedOperation, FitsBits, slot_bits}
-use Rattle.dj_entries.specs.trusted.Entries as entries
-use Rattle.dj_entries.specs.trusted.Entries.{Entry, width}
-use Rattle.dj_entries.specs.trusted.Needs.{literal_entry, member_entry, operation_entries}
+use Rattle.dj_asm_source.specs.trusted.Lines.{Label, Operation, Plain, Push, Local, Increment, Load, LoadLong, Jump, Table, Lookup, Member, Dynamic, ClassOf, Array, Multi, IsFieldUse, IsMethodUse, IsOperation, IsSizedOperation, FitsBits, slot_bits}
+use Rattle.dj_asm_pool.specs.trusted.Entries as entries
+use Rattle.dj_asm_pool.specs.trusted.Entries.{Entry, width}
+use Rattle.dj_asm_pool.specs.trusted.Needs.{literal_entry, member_entry, operation_entries}
 use Rattle.dj_asm.specs.trusted.Codes.{Places, target_of, IsMemberInstr, is_interface_call, IsInstrOf}
-use Rattle.dj_entries.specs.trusted.Room.{HasRoom}
-use Rattle.dj_entries.specs.Pooling.{found_index}
+use Rattle.dj_asm_pool.specs.trusted.Room.{HasRoom}
+use Rattle.dj_asm_pool.specs.Pooling.{found_index}
 use Rattle.dj_asm.specs.Judging.{rise_from, rise, is_lookup, is_table, are_many, has_many_slots, is_improper}
 use Rattle.dj_asm.proofs.JudgedSections.{lt_holds}
-use Rattle.dj_entries.proofs.Members.{in_here}
+use Rattle.dj_asm_pool.proofs.Members.{in_here}
 
 -- ---- tests of numbers
 

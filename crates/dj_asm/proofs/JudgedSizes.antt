@@ -17,10 +17,10 @@ use Rattle.dj_labels.specs.trusted.Targets.{with_targets}
 use Rattle.dj_labels.specs.trusted.Labels.{address_of, addressed}
 use Rattle.dj_layout.specs.trusted.Places.{starts_from, end_from}
 use Rattle.dj_layout.specs.trusted.Layouts.{placed}
-use Rattle.dj_source.specs.trusted.Lines.{Label, Operation, Plain, Push, Local, Increment, Load, LoadLong, Jump, Table, Lookup, Member, Dynamic, ClassOf, Array, Multi, Line, Does, IsOperation}
-use Rattle.dj_source.specs.trusted.Labels.{instruction_count}
-use Rattle.dj_entries.specs.trusted.Entries as entries
-use Rattle.dj_entries.specs.trusted.Needs.{member_entry}
+use Rattle.dj_asm_source.specs.trusted.Lines.{Label, Operation, Plain, Push, Local, Increment, Load, LoadLong, Jump, Table, Lookup, Member, Dynamic, ClassOf, Array, Multi, Line, Does, IsOperation}
+use Rattle.dj_asm_source.specs.trusted.Labels.{instruction_count}
+use Rattle.dj_asm_pool.specs.trusted.Entries as entries
+use Rattle.dj_asm_pool.specs.trusted.Needs.{member_entry}
 use Rattle.dj_asm.specs.trusted.Codes.{Places, target_of, IsMemberInstr, is_interface_call, IsInstrOf, AreInstrsOf}
 use Rattle.dj_asm.specs.Judging.{wide_size, switch_size, size_at, starts_at, end_at, half_of, is_near, reaches, target, is_reached}
 use Rattle.dj_asm.proofs.BodyLabels.{count_cons}

@@ -11,19 +11,19 @@ use Rattle.dj_ops.specs.trusted.Instructions.{IsProper}
 use Rattle.dj_layout.specs.trusted.Places.{starts_from, end_from}
 use Rattle.dj_layout.specs.trusted.Layouts.{placed, most_bytes}
 use Rattle.dj_layout.specs.trusted.Faults.{Reaches}
-use Rattle.dj_source.specs.trusted.Lines.{Frame, Full, Operation, Line, Framed, Does, End, IsLine}
-use Rattle.dj_source.specs.trusted.Sources.{Source, MethodSource, head_lines, method_lines, lines_of, IsSource}
-use Rattle.dj_source.specs.trusted.Labels.{instruction_count}
-use Rattle.dj_entries.specs.trusted.Entries.{Entry, with_parts}
-use Rattle.dj_entries.specs.trusted.Needs.{Need, needs_at, needs, method_needs, methods_needs, needs_of, index_in, head_entries, instruction_entries, catch_entries, stack_map_entries, frame_entries}
+use Rattle.dj_asm_source.specs.trusted.Lines.{Frame, Full, Operation, Line, Framed, Does, End, IsLine}
+use Rattle.dj_asm_source.specs.trusted.Sources.{Source, MethodSource, head_lines, method_lines, lines_of, IsSource}
+use Rattle.dj_asm_source.specs.trusted.Labels.{instruction_count}
+use Rattle.dj_asm_pool.specs.trusted.Entries.{Entry, with_parts}
+use Rattle.dj_asm_pool.specs.trusted.Needs.{Need, needs_at, needs, method_needs, methods_needs, needs_of, index_in, head_entries, instruction_entries, catch_entries, stack_map_entries, frame_entries}
 use Rattle.dj_asm.specs.trusted.Codes.{IsInstrOf, AreInstrsOf}
 use Rattle.dj_asm.specs.trusted.Files.{places_of}
-use Rattle.dj_entries.specs.trusted.Room.{HasRoom, IsPastPool}
+use Rattle.dj_asm_pool.specs.trusted.Room.{HasRoom, IsPastPool}
 use Rattle.dj_asm.specs.trusted.Large.{IsMethodLine, IsImproper, IsFarJump, IsEndOfLongCode, most_lines, is_interface, is_field, is_method, is_catch, IsOneTooMany, count_before, IsPastTable, IsPastCatches, HasLongLists, IsLongFrame, IsTooLarge}
-use Rattle.dj_entries.proofs.Members.{each_in, each_append, each_first, each_last}
+use Rattle.dj_asm_pool.proofs.Members.{each_in, each_append, each_first, each_last}
 use Rattle.dj_asm.proofs.Deciding.{Is, both, either, not_so, either_way, below, at_most, so, proper_or_not, offsets_or_not}
 use Rattle.dj_asm.proofs.OneFile.{one_instr, one_code}
-use Rattle.dj_entries.proofs.SourcePool.{room_or_not}
+use Rattle.dj_asm_pool.proofs.SourcePool.{room_or_not}
 use Rattle.dj_asm.proofs.BodyCode.{instr_of, instrs_of}
 use Rattle.dj_asm.proofs.SourceFile.{methods_allowed}
 use Rattle.dj_asm.proofs.Search.{some_in, IsCutSo, cut_or_not, at_or_not}

@@ -1,8 +1,8 @@
 -- What doesn't fit, at plain values.
 use Rattle.std.proofs.Common.{◌≡◌, ℕ, length, true, false, pos, List, [], ◌∷◌, map, None, refl, arith, inl, inr}
-use Rattle.dj_source.specs.trusted.Lines.{FrameType, Same, Full, Plain, Labelled, Catch, Line, Class, Implements, Field, Abstract, Method, Beside, Framed, Does, End}
-use Rattle.dj_entries.specs.trusted.Entries.{Utf8, Long, Class as ClassEntry, widths}
-use Rattle.dj_entries.specs.trusted.Room.{HasRoom}
+use Rattle.dj_asm_source.specs.trusted.Lines.{FrameType, Same, Full, Plain, Labelled, Catch, Line, Class, Implements, Field, Abstract, Method, Beside, Framed, Does, End}
+use Rattle.dj_asm_pool.specs.trusted.Entries.{Utf8, Long, Class as ClassEntry, widths}
+use Rattle.dj_asm_pool.specs.trusted.Room.{HasRoom}
 use Rattle.dj_asm.specs.trusted.Large.{is_interface, is_field, is_method, is_catch, HasLongLists, IsOneTooMany}
 
 abbrev lines : List Line

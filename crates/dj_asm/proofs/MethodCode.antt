@@ -23,27 +23,27 @@ use Rattle.dj_frames.specs.trusted.StackMaps.{IsType, types_of, HasCounts}
 use Rattle.dj_frames.specs.StackMaps.{AreWellFormed}
 use Rattle.dj_frames.specs.StackMaps as maps
 use Rattle.dj_class.specs.trusted.Code.{code_info_bytes}
-use Rattle.dj_source.specs.declared.syntax.Line as the_line
-use Rattle.dj_source.specs.LineViews.{line_view}
-use Rattle.dj_source.specs.trusted.Lines as lines
-use Rattle.dj_source.specs.trusted.Lines.{Operation, Plain, Push, Local, Increment, Load, LoadLong, Jump, Table, Lookup, Member, ClassOf, Array, Multi, Frame, IsFrame, IsSizedFrame, Line, Framed, Does, End, IsLine, IsSized}
-use Rattle.dj_source.specs.trusted.Sources.{Source, BodyPart, Mark, Step, FrameStep, MethodSource, Bodiless, Coded, head_lines, method_lines, body_lines, lines_of}
-use Rattle.dj_source.specs.trusted.Labels.{instruction_count, label_number, AreMethodLines, uses_of}
-use Rattle.dj_entries.specs.trusted.Entries.{Entry, same_entry, width, index_of}
-use Rattle.dj_entries.specs.trusted.Needs.{Need, needs, method_needs, methods_needs, needs_of, needed_entry, entries_of, index_in, literal_entry, member_entry, operation_entries, head_entries, instruction_entries, catch_entries, stack_map_entries, frame_entries}
-use Rattle.dj_entries.specs.Keys.{most_next}
-use Rattle.dj_entries.specs.Pooling.{found_index}
+use Rattle.dj_asm_source.specs.declared.syntax.Line as the_line
+use Rattle.dj_asm_source.specs.LineViews.{line_view}
+use Rattle.dj_asm_source.specs.trusted.Lines as lines
+use Rattle.dj_asm_source.specs.trusted.Lines.{Operation, Plain, Push, Local, Increment, Load, LoadLong, Jump, Table, Lookup, Member, ClassOf, Array, Multi, Frame, IsFrame, IsSizedFrame, Line, Framed, Does, End, IsLine, IsSized}
+use Rattle.dj_asm_source.specs.trusted.Sources.{Source, BodyPart, Mark, Step, FrameStep, MethodSource, Bodiless, Coded, head_lines, method_lines, body_lines, lines_of}
+use Rattle.dj_asm_source.specs.trusted.Labels.{instruction_count, label_number, AreMethodLines, uses_of}
+use Rattle.dj_asm_pool.specs.trusted.Entries.{Entry, same_entry, width, index_of}
+use Rattle.dj_asm_pool.specs.trusted.Needs.{Need, needs, method_needs, methods_needs, needs_of, needed_entry, entries_of, index_in, literal_entry, member_entry, operation_entries, head_entries, instruction_entries, catch_entries, stack_map_entries, frame_entries}
+use Rattle.dj_asm_pool.specs.Keys.{most_next}
+use Rattle.dj_asm_pool.specs.Pooling.{found_index}
 use Rattle.dj_asm.specs.trusted.Codes.{Places, is_interface_call, IsMemberInstr, IsInstrOf, operation_in, AreInstrsOf, ranges_in, form_of, frames_in, stack_map_of}
 use Rattle.dj_asm.specs.trusted.Files.{places_of}
-use Rattle.dj_entries.specs.trusted.Room.{HasRoom, IsPastPool, NoLine}
+use Rattle.dj_asm_pool.specs.trusted.Room.{HasRoom, IsPastPool, NoLine}
 use Rattle.dj_asm.specs.trusted.Large.{IsLongFrame, HasLongLists}
 use Rattle.dj_asm.specs.CodeBodies.{IsProperIn, AreProperIn, CanBeCode, IsLaidFor, IsCodeBody}
 use Rattle.dj_asm.proofs.Deciding.{stable, proper_or_not}
-use Rattle.dj_entries.proofs.Members.{none_in, in_here, in_cases, in_flat_map, each_in, each_from}
-use Rattle.dj_entries.proofs.EntryLaws.{once_has}
-use Rattle.dj_entries.proofs.SourcePool.{entry_has_room}
-use Rattle.dj_entries.proofs.NamedEntries.{IsNeeded, left, right, line_needs}
-use Rattle.dj_entries.proofs.PoolSteps.{any_in}
+use Rattle.dj_asm_pool.proofs.Members.{none_in, in_here, in_cases, in_flat_map, each_in, each_from}
+use Rattle.dj_asm_pool.proofs.EntryLaws.{once_has}
+use Rattle.dj_asm_pool.proofs.SourcePool.{entry_has_room}
+use Rattle.dj_asm_pool.proofs.NamedEntries.{IsNeeded, left, right, line_needs}
+use Rattle.dj_asm_pool.proofs.PoolSteps.{any_in}
 use Rattle.dj_asm.proofs.BodyLabels.{IsNumbered, uses_numbered, count_append, count_cons}
 use Rattle.dj_asm.proofs.BodyCode.{each_instr, code_count, targets_within, ranges_within}
 use Rattle.dj_asm.proofs.FrameCode.{starts_rise, starts_below, in_order_rise, step_count, AreFramesFrom, part_frames, forms_hold, counts_hold, types_hold}

@@ -2,14 +2,14 @@
 use Rattle.std.proofs.Common.{◌≡◌, ℕ, ◌<◌, inl, inr, List, Some, slice_get, sym, ap, ◌∙◌, subst, arith}
 use Rattle.std.proofs.lemmas.Bool.{cases_lt}
 use Rattle.std.proofs.lemmas.Option.{same_Some}
-use Rattle.dj_source.specs.declared.error.AsmError.{AsmError}
-use Rattle.dj_source.specs.declared.error.AsmError.TheVariants as asm_errors
-use Rattle.dj_source.specs.trusted.Sources.{Source, IsTextOf}
-use Rattle.dj_source.specs.trusted.Labels.{IsMislabelled, LabelFault, line_numbers}
-use Rattle.dj_source.proofs.FaultLaws.{no_fault_of_text, one_word_fault}
-use Rattle.dj_source.proofs.OneSource.{one_source}
+use Rattle.dj_asm_source.specs.declared.error.AsmError.{AsmError}
+use Rattle.dj_asm_source.specs.declared.error.AsmError.TheVariants as asm_errors
+use Rattle.dj_asm_source.specs.trusted.Sources.{Source, IsTextOf}
+use Rattle.dj_asm_source.specs.trusted.Labels.{IsMislabelled, LabelFault, line_numbers}
+use Rattle.dj_asm_source.proofs.FaultLaws.{no_fault_of_text, one_word_fault}
+use Rattle.dj_asm_source.proofs.OneSource.{one_source}
 use Rattle.dj_asm.specs.trusted.Large.{IsTooLarge}
-use Rattle.dj_entries.specs.trusted.Room.{NoLine}
+use Rattle.dj_asm_pool.specs.trusted.Room.{NoLine}
 use Rattle.dj_asm.specs.trusted.Texts.{IsTextOfBytes, LargeFault, TextFault}
 
 -- ---- no fault of a file's text

@@ -14,11 +14,11 @@ use Rattle.dj_layout.specs.trusted.Layouts.{IsLaidOut}
 use Rattle.dj_layout.proofs.Once.{one_layout_is}
 use Rattle.dj_class.specs.trusted.ClassFile.{MemberInfo, ClassFile, class_bytes}
 use Rattle.dj_class.specs.trusted.Code.{CodeInfo, code_info_bytes}
-use Rattle.dj_source.specs.trusted.Lines.{Operation, Member, Line}
-use Rattle.dj_source.specs.trusted.Sources.{Source, MethodSource, Bodiless, Coded, body_lines}
-use Rattle.dj_source.proofs.OneSource.{one_source}
-use Rattle.dj_entries.specs.trusted.Entries.{Entry, Utf8, pool_of}
-use Rattle.dj_entries.specs.trusted.Needs.{member_entry, code_name, entries_of, index_in}
+use Rattle.dj_asm_source.specs.trusted.Lines.{Operation, Member, Line}
+use Rattle.dj_asm_source.specs.trusted.Sources.{Source, MethodSource, Bodiless, Coded, body_lines}
+use Rattle.dj_asm_source.proofs.OneSource.{one_source}
+use Rattle.dj_asm_pool.specs.trusted.Entries.{Entry, Utf8, pool_of}
+use Rattle.dj_asm_pool.specs.trusted.Needs.{member_entry, code_name, entries_of, index_in}
 use Rattle.dj_asm.specs.trusted.Codes.{Places, IsInterfaceCall, IsMemberInstr, is_interface_call, IsInstrOf, operation_in, AreInstrsOf, stack_map_of, frames_in, IsCodeOf}
 use Rattle.dj_asm.specs.trusted.Files.{field_of, places_of, IsMethodOf, major_of, minor_of, class_index, IsFileOf}
 use Rattle.dj_asm.specs.trusted.Texts.{IsTextOfBytes}

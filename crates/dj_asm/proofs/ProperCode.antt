@@ -10,13 +10,13 @@ use Rattle.dj_ops.specs.declared.instruction.Instr.TheVariants as instrs
 use Rattle.dj_ops.specs.trusted.Instructions.{IsProper}
 use Rattle.dj_ops.specs.declared.frames.Frame as frames
 use Rattle.dj_labels.specs.declared.labelled.Protected.{Protected}
-use Rattle.dj_source.specs.declared.syntax.Line as the_line
-use Rattle.dj_source.specs.trusted.Lines.{Operation, Line, Framed, Does}
-use Rattle.dj_source.specs.LineViews.{line_view}
-use Rattle.dj_source.specs.LabelReading.{number_after}
+use Rattle.dj_asm_source.specs.declared.syntax.Line as the_line
+use Rattle.dj_asm_source.specs.trusted.Lines.{Operation, Line, Framed, Does}
+use Rattle.dj_asm_source.specs.LineViews.{line_view}
+use Rattle.dj_asm_source.specs.LabelReading.{number_after}
 use Rattle.dj_asm.specs.trusted.Codes.{Places, IsInterfaceCall, IsInstrOf, operation_in, AreInstrsOf, ranges_in, frames_in}
 use Rattle.dj_asm.specs.CodeBodies.{IsProperIn, AreProperIn, HasOneMore, framed}
-use Rattle.dj_entries.proofs.Members.{each_first, each_last}
+use Rattle.dj_asm_pool.proofs.Members.{each_first, each_last}
 
 -- the count of a proper call has one byte
 pub few_slots : (index : ℕ) (desc : List ℕ) (d : Desc) → ((i : Instr) → IsInterfaceCall index desc i → IsProper i) → Describes desc d → slots_of d + 1 < 2 ^ 8

@@ -2,7 +2,7 @@
 use Rattle.std.proofs.Common.{◌≡◌, ℕ, zero, suc, ◌+◌, ◌<◌, ◌⊎◌, inl, inr, List, [], ◌∷◌, ◌++◌, Option, Some, None, Contains, refl, sym, ap, subst, arith}
 use Rattle.std.proofs.lemmas.Bool.{cases_lt}
 use Rattle.std.proofs.lemmas.Option.{none-some, same_Some}
-use Rattle.dj_entries.proofs.Members.{none_in, in_here, in_rest, in_cases}
+use Rattle.dj_asm_pool.proofs.Members.{none_in, in_here, in_rest, in_cases}
 use Rattle.dj_asm.proofs.Deciding.{Is}
 
 module _ {X : Type 0} where

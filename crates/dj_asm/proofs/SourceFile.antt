@@ -3,15 +3,15 @@ use Rattle.std.proofs.Common.{◌≡◌, ◌+◌, inl, inr, List, [], ◌∷◌,
 use Rattle.std.specs.List.{flat_map, AllByRecursion, AllZip}
 use Rattle.dj_class.specs.trusted.ClassFile.{MemberInfo, ClassFile}
 use Rattle.dj_class.specs.trusted.Code.{code_info_bytes}
-use Rattle.dj_source.specs.trusted.Lines.{IsLine}
-use Rattle.dj_source.specs.trusted.Sources.{Source, MethodSource, Bodiless, Coded, method_lines, head_lines, IsSource}
-use Rattle.dj_source.specs.trusted.Labels.{AreMethodLines, IsMislabelled}
-use Rattle.dj_entries.specs.trusted.Entries.{Utf8, pool_of}
-use Rattle.dj_entries.specs.trusted.Needs.{code_name, entries_of, index_in}
+use Rattle.dj_asm_source.specs.trusted.Lines.{IsLine}
+use Rattle.dj_asm_source.specs.trusted.Sources.{Source, MethodSource, Bodiless, Coded, method_lines, head_lines, IsSource}
+use Rattle.dj_asm_source.specs.trusted.Labels.{AreMethodLines, IsMislabelled}
+use Rattle.dj_asm_pool.specs.trusted.Entries.{Utf8, pool_of}
+use Rattle.dj_asm_pool.specs.trusted.Needs.{code_name, entries_of, index_in}
 use Rattle.dj_asm.specs.trusted.Files.{field_of, IsMethodOf, major_of, minor_of, class_index, IsFileOf}
-use Rattle.dj_entries.specs.trusted.Room.{IsPastPool, NoLine}
+use Rattle.dj_asm_pool.specs.trusted.Room.{IsPastPool, NoLine}
 use Rattle.dj_asm.specs.trusted.Large.{IsImproper, IsFarJump, IsEndOfLongCode, IsPastTable, IsPastCatches, IsLongFrame, IsTooLarge}
-use Rattle.dj_entries.proofs.Members.{each_first, each_last}
+use Rattle.dj_asm_pool.proofs.Members.{each_first, each_last}
 use Rattle.dj_asm.proofs.BodyCode.{has_code}
 
 -- ---- all fits

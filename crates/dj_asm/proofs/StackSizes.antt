@@ -10,13 +10,13 @@ use Rattle.std.proofs.lemmas.List.Concat.{flat_map-append}
 use Rattle.dj_ops.specs.declared.frames.VType.{VType}
 use Rattle.dj_ops.specs.declared.frames.VType.TheVariants as types
 use Rattle.dj_ops.specs.declared.frames.Form.{Form}
-use Rattle.dj_bytes.specs.trusted.Spelling.{table_bytes}
+use Rattle.dj_cursor.specs.trusted.Spelling.{table_bytes}
 use Rattle.dj_frames.specs.trusted.StackMaps.{type_bytes, form_bytes}
 use Rattle.dj_frames.specs.trusted.Written.{short_tag, head_with, head_bytes, frame_bytes, frames_bytes, stack_map_bytes}
-use Rattle.dj_tokens.specs.trusted.Words.{is_blank, is_plain, begins_escape, escaped_unit, word_units, Opened, string_units, Token, Word, Quoted, LineEnd, Placed, Piece, bad, word_piece, string_piece, comment_piece, piece_of, placed_at, tokens_after, line_tokens, tokens_of}
-use Rattle.dj_source.specs.trusted.Items.{Item, Exactly, Flags, Number, Called, Text, Ended, Says}
-use Rattle.dj_source.specs.trusted.Lines.{FrameType, Simple, Object, New, Frame, Same, Stack1, Chop, Append, Full, Line, Framed, Does, IsSimpleType, IsFrameType, IsFrame, IsLine, type_item, items_of}
-use Rattle.dj_source.specs.trusted.Sources.{Source, line_items, sentence, token_of, IsTextOf}
+use Rattle.dj_asm_tokens.specs.trusted.Words.{is_blank, is_plain, begins_escape, escaped_unit, word_units, Opened, string_units, Token, Word, Quoted, LineEnd, Placed, Piece, bad, word_piece, string_piece, comment_piece, piece_of, placed_at, tokens_after, line_tokens, tokens_of}
+use Rattle.dj_asm_source.specs.trusted.Items.{Item, Exactly, Flags, Number, Called, Text, Ended, Says}
+use Rattle.dj_asm_source.specs.trusted.Lines.{FrameType, Simple, Object, New, Frame, Same, Stack1, Chop, Append, Full, Line, Framed, Does, IsSimpleType, IsFrameType, IsFrame, IsLine, type_item, items_of}
+use Rattle.dj_asm_source.specs.trusted.Sources.{Source, line_items, sentence, token_of, IsTextOf}
 use Rattle.dj_asm.specs.trusted.Codes.{Places, simple_type, type_of, form_of, frames_in}
 
 -- ---- the words of a text have at most its bytes

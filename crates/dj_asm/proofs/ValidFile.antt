@@ -5,7 +5,7 @@ use Rattle.std.specs.List.{flat_map, AllByRecursion, AllZip, count_by}
 use Rattle.std.proofs.lemmas.List.{length-append, length-map}
 use Rattle.std.proofs.lemmas.List.Concat.{flat_map-append}
 use Rattle.std.proofs.lemmas.List.Elements.{Contains-append_left, Contains-append_right}
-use Rattle.dj_bytes.specs.trusted.Spelling.{u2, u4, table_bytes}
+use Rattle.dj_cursor.specs.trusted.Spelling.{u2, u4, table_bytes}
 use Rattle.dj_names.specs.trusted.Names.{IsClassName, IsUnqualifiedName, IsMethodName}
 use Rattle.dj_names.specs.trusted.Descriptors.{IsFieldDescriptor, IsMethodDescriptor}
 use Rattle.dj_ops.specs.declared.frames.Frame as frames
@@ -16,20 +16,20 @@ use Rattle.dj_frames.specs.trusted.Written.{stack_map_bytes}
 use Rattle.dj_pool.specs.trusted.Pool.{Constant}
 use Rattle.dj_class.specs.trusted.ClassFile.{AttributeInfo, MemberInfo, ClassFile, attribute_bytes, NamesClass, AreAttributes, IsField, IsMethod, IsValid, IsClassFile}
 use Rattle.dj_class.specs.trusted.Code.{CodeInfo, row_bytes, code_info_bytes}
-use Rattle.dj_source.specs.trusted.Lines as lines
-use Rattle.dj_source.specs.trusted.Lines.{Value, Line, Super, Implements, Abstract, Stack, Locals, Beside, End, IsLine}
-use Rattle.dj_source.specs.trusted.Sources.{Source, FieldSource, MethodSource, Bodiless, Coded, BodyPart, version_lines, field_line, body_lines, head_lines, method_lines, lines_of, line_items, IsTextOf}
-use Rattle.dj_entries.specs.trusted.Entries.{Utf8, Class, pool_of}
-use Rattle.dj_entries.specs.trusted.Needs.{code_name, constant_value_name, stack_map_name, value_entries, entries_of, index_in}
+use Rattle.dj_asm_source.specs.trusted.Lines as lines
+use Rattle.dj_asm_source.specs.trusted.Lines.{Value, Line, Super, Implements, Abstract, Stack, Locals, Beside, End, IsLine}
+use Rattle.dj_asm_source.specs.trusted.Sources.{Source, FieldSource, MethodSource, Bodiless, Coded, BodyPart, version_lines, field_line, body_lines, head_lines, method_lines, lines_of, line_items, IsTextOf}
+use Rattle.dj_asm_pool.specs.trusted.Entries.{Utf8, Class, pool_of}
+use Rattle.dj_asm_pool.specs.trusted.Needs.{code_name, constant_value_name, stack_map_name, value_entries, entries_of, index_in}
 use Rattle.dj_asm.specs.trusted.Codes.{Places, frames_in, stack_map_of, IsCodeOf}
 use Rattle.dj_asm.specs.trusted.Files.{value_attribute, field_of, places_of, IsMethodOf, major_of, minor_of, class_index, IsFileOf}
 use Rattle.dj_asm.specs.trusted.Large.{most_lines, is_catch}
 use Rattle.dj_asm.specs.trusted.Texts.{IsTextOfBytes}
-use Rattle.dj_entries.proofs.Members.{in_here, in_rest, in_map, each_in, each_from, each_first, each_last}
-use Rattle.dj_entries.proofs.RightEntries.{Good, place_fits}
-use Rattle.dj_entries.proofs.SourcePool.{lines_good, pool_is_well_formed}
+use Rattle.dj_asm_pool.proofs.Members.{in_here, in_rest, in_map, each_in, each_from, each_first, each_last}
+use Rattle.dj_asm_pool.proofs.RightEntries.{Good, place_fits}
+use Rattle.dj_asm_pool.proofs.SourcePool.{lines_good, pool_is_well_formed}
 use Rattle.dj_asm.proofs.SourceFile.{AllFit, all_fit_of, method_at}
-use Rattle.dj_entries.proofs.NamedEntries.{head_has_entry, text_named, class_named}
+use Rattle.dj_asm_pool.proofs.NamedEntries.{head_has_entry, text_named, class_named}
 use Rattle.dj_asm.proofs.Counts.{count_both, count_fits, few_interfaces, few_fields, few_methods, ranges_counted}
 use Rattle.dj_asm.proofs.StackSizes.{weight, sentence_least, stack_map_is_short, part_least}
 

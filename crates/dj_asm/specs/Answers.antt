@@ -1,7 +1,7 @@
 -- What the call that assembles a text answers.
 use Rattle.std.specs.Prelude.{◌≡◌, ℕ, ◌⊎◌, ⊤, nat_le, if◌then◌else◌, List, Option, Some, None, Result, Ok, Err, IsErrOf, slice_get}
-use Rattle.dj_source.specs.declared.error.AsmError.{AsmError}
-use Rattle.dj_source.specs.declared.error.AsmError.TheVariants as asm_errors
+use Rattle.dj_asm_source.specs.declared.error.AsmError.{AsmError}
+use Rattle.dj_asm_source.specs.declared.error.AsmError.TheVariants as asm_errors
 use Rattle.dj_asm.specs.trusted.Texts.{IsTextOfBytes, TextFault}
 
 -- want of memory has no cause in the text

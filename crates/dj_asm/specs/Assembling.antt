@@ -1,15 +1,15 @@
 -- What the assembler's passes make of a source; used by the code alone. No public clause cites these.
 use Rattle.std.specs.Prelude.{◌≡◌, ℕ, ◌<◌, List, [], map, Option, Some, None}
 use Rattle.dj_class.specs.trusted.ClassFile.{ClassFile, class_bytes}
-use Rattle.dj_source.specs.trusted.Lines.{Line}
-use Rattle.dj_source.specs.trusted.Sources.{Source, lines_of, IsSizedSource}
-use Rattle.dj_source.specs.trusted.Labels.{IsMislabelled}
-use Rattle.dj_entries.specs.trusted.Entries.{Entry}
-use Rattle.dj_entries.specs.trusted.Needs.{needs_of, needed_entry, entries_of}
+use Rattle.dj_asm_source.specs.trusted.Lines.{Line}
+use Rattle.dj_asm_source.specs.trusted.Sources.{Source, lines_of, IsSizedSource}
+use Rattle.dj_asm_source.specs.trusted.Labels.{IsMislabelled}
+use Rattle.dj_asm_pool.specs.trusted.Entries.{Entry}
+use Rattle.dj_asm_pool.specs.trusted.Needs.{needs_of, needed_entry, entries_of}
 use Rattle.dj_asm.specs.trusted.Files.{IsFileOf}
-use Rattle.dj_entries.specs.trusted.Room.{IsPastPool, NoLine}
+use Rattle.dj_asm_pool.specs.trusted.Room.{IsPastPool, NoLine}
 use Rattle.dj_asm.specs.trusted.Large.{IsTooLarge}
-use Rattle.dj_entries.specs.Pooling.{all_kept}
+use Rattle.dj_asm_pool.specs.Pooling.{all_kept}
 
 -- ---- what is too large
 

@@ -8,15 +8,15 @@ use Rattle.dj_labels.specs.declared.labelled.Labelled.{Labelled}
 use Rattle.dj_layout.specs.declared.laid.Laid.{Laid}
 use Rattle.dj_layout.specs.trusted.Layouts.{IsLaidOut}
 use Rattle.dj_class.specs.trusted.Code.{CodeInfo, code_info_bytes}
-use Rattle.dj_source.specs.trusted.Lines.{Operation, Plain, Push, Local, Increment, Load, LoadLong, Dynamic, ClassOf, Array, Multi, Line, Framed, Does}
-use Rattle.dj_source.specs.trusted.Sources.{Source, IsSizedSource}
-use Rattle.dj_source.specs.trusted.Labels.{AreMethodLines, IsMislabelled}
-use Rattle.dj_entries.specs.trusted.Entries.{Entry}
-use Rattle.dj_entries.specs.trusted.Needs.{entries_of}
+use Rattle.dj_asm_source.specs.trusted.Lines.{Operation, Plain, Push, Local, Increment, Load, LoadLong, Dynamic, ClassOf, Array, Multi, Line, Framed, Does}
+use Rattle.dj_asm_source.specs.trusted.Sources.{Source, IsSizedSource}
+use Rattle.dj_asm_source.specs.trusted.Labels.{AreMethodLines, IsMislabelled}
+use Rattle.dj_asm_pool.specs.trusted.Entries.{Entry}
+use Rattle.dj_asm_pool.specs.trusted.Needs.{entries_of}
 use Rattle.dj_asm.specs.trusted.Codes.{Places, form_of, IsInstrOf, AreInstrsOf, ranges_in, IsCodeOf}
 use Rattle.dj_asm.specs.trusted.Files.{places_of}
 use Rattle.dj_asm.specs.trusted.Large.{IsTooLarge}
-use Rattle.dj_entries.specs.trusted.Room.{NoLine}
+use Rattle.dj_asm_pool.specs.trusted.Room.{NoLine}
 
 -- ---- instructions
 

@@ -1,16 +1,16 @@
 -- The parts of a class file that lines mean, by the indexes of entries; used by the code alone. No public clause cites these.
 use Rattle.std.specs.Prelude.{◌≡◌, ℕ, ℤ, pos, Bool, true, false, unsigned_abs, List, [], ◌∷◌, ◌++◌, Option, Some, None, if◌then◌else◌}
 use Rattle.std.specs.List.{flat_map, AllByRecursion, AllZip}
-use Rattle.dj_bytes.specs.trusted.Spelling.{u2}
+use Rattle.dj_cursor.specs.trusted.Spelling.{u2}
 use Rattle.dj_class.specs.trusted.ClassFile.{AttributeInfo, MemberInfo, ClassFile}
-use Rattle.dj_source.specs.trusted.Lines.{Line, Class, Version, Super, Implements, Field, Abstract, Method, Stack, Locals}
-use Rattle.dj_source.specs.LabelReading.{sections_of}
+use Rattle.dj_asm_source.specs.trusted.Lines.{Line, Class, Version, Super, Implements, Field, Abstract, Method, Stack, Locals}
+use Rattle.dj_asm_source.specs.LabelReading.{sections_of}
 use Rattle.dj_asm.specs.declared.heading.Heading.{Heading}
-use Rattle.dj_entries.specs.trusted.Entries as entries
-use Rattle.dj_entries.specs.trusted.Entries.{Entry, pool_of}
-use Rattle.dj_entries.specs.trusted.Needs.{value_entry, code_name, constant_value_name}
+use Rattle.dj_asm_pool.specs.trusted.Entries as entries
+use Rattle.dj_asm_pool.specs.trusted.Entries.{Entry, pool_of}
+use Rattle.dj_asm_pool.specs.trusted.Needs.{value_entry, code_name, constant_value_name}
 use Rattle.dj_asm.specs.CodeBodies.{CanBeCode, IsCodeBody}
-use Rattle.dj_entries.specs.Pooling.{found_index}
+use Rattle.dj_asm_pool.specs.Pooling.{found_index}
 
 -- ---- what comes before the fields
 

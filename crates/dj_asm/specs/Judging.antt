@@ -8,14 +8,14 @@ use Rattle.dj_names.specs.declared.descriptor.Desc.{Desc}
 use Rattle.dj_names.specs.trusted.DescReading.{desc_read}
 use Rattle.dj_ops.specs.trusted.Instructions.{padding_count}
 use Rattle.dj_layout.specs.trusted.Layouts.{most_bytes}
-use Rattle.dj_source.specs.trusted.Lines.{Label, Frame, Full, Operation, Plain, Push, Local, Increment, Load, LoadLong, Jump, Table, Lookup, Member, Dynamic, ClassOf, Array, Multi, Line, Framed, Does, End}
-use Rattle.dj_source.specs.trusted.Labels.{instruction_count, label_number}
-use Rattle.dj_source.specs.LabelReading.{sections_of}
-use Rattle.dj_entries.specs.trusted.Entries.{Entry}
-use Rattle.dj_entries.specs.trusted.Needs.{literal_entry}
+use Rattle.dj_asm_source.specs.trusted.Lines.{Label, Frame, Full, Operation, Plain, Push, Local, Increment, Load, LoadLong, Jump, Table, Lookup, Member, Dynamic, ClassOf, Array, Multi, Line, Framed, Does, End}
+use Rattle.dj_asm_source.specs.trusted.Labels.{instruction_count, label_number}
+use Rattle.dj_asm_source.specs.LabelReading.{sections_of}
+use Rattle.dj_asm_pool.specs.trusted.Entries.{Entry}
+use Rattle.dj_asm_pool.specs.trusted.Needs.{literal_entry}
 use Rattle.dj_asm.specs.trusted.Codes.{is_interface_call, operation_in}
 use Rattle.dj_asm.specs.trusted.Large.{most_lines, is_interface, is_field, is_method, is_catch}
-use Rattle.dj_entries.specs.Pooling.{found_index}
+use Rattle.dj_asm_pool.specs.Pooling.{found_index}
 use Rattle.dj_asm.specs.declared.counted.Kind.{Kind}
 use Rattle.dj_asm.specs.declared.counted.Kind.TheVariants as kinds
 

@@ -1,7 +1,7 @@
 -- Laws of texts: what they mean, and where they mean nothing.
 use Rattle.std.specs.Prelude.{◌≡◌, ℕ, ◌≤◌, ◌⊎◌, List, length}
 use Rattle.dj_class.specs.trusted.ClassFile.{ClassFile, IsClassFile}
-use Rattle.dj_source.specs.declared.error.AsmError.{AsmError}
+use Rattle.dj_asm_source.specs.declared.error.AsmError.{AsmError}
 use Rattle.dj_asm.specs.trusted.Texts.{IsTextOfBytes, TextFault}
 
 -- a text means at most one file

@@ -1,12 +1,12 @@
 //! A text becomes a class file.
 ghost use Rattle.std.specs.Prelude.{◌≡◌, ◌≤◌, ◌<◌, ◌^◌, ◌⊎◌, ◌≢◌, None, length, map, ℕ, List, Ok, Err, IfOk, IfErr};
-ghost use Rattle.dj_source.specs.declared.error.AsmError.{AsmError};
-ghost use Rattle.dj_source.specs.declared.error.AsmError.TheVariants as asm_errors;
-ghost use Rattle.dj_source.specs.LineViews.{line_view};
-ghost use Rattle.dj_source.specs.SourceLines.{AreLinesOf};
-ghost use Rattle.dj_source.specs.trusted.Sources.{Source, lines_of};
-ghost use Rattle.dj_entries.specs.Room.{IsFirst};
-ghost use Rattle.dj_entries.specs.PoolNeeds.{IsPoolOf};
+ghost use Rattle.dj_asm_source.specs.declared.error.AsmError.{AsmError};
+ghost use Rattle.dj_asm_source.specs.declared.error.AsmError.TheVariants as asm_errors;
+ghost use Rattle.dj_asm_source.specs.LineViews.{line_view};
+ghost use Rattle.dj_asm_source.specs.SourceLines.{AreLinesOf};
+ghost use Rattle.dj_asm_source.specs.trusted.Sources.{Source, lines_of};
+ghost use Rattle.dj_asm_pool.specs.Room.{IsFirst};
+ghost use Rattle.dj_asm_pool.specs.PoolNeeds.{IsPoolOf};
 ghost use Rattle.dj_asm.specs.trusted.Large.{IsTooLarge};
 ghost use Rattle.dj_asm.specs.Assembling.{IsFitting, AreFileBytes};
 ghost use Rattle.dj_asm.specs.trusted.Texts.{IsTextOfBytes, TextFault};
@@ -14,9 +14,9 @@ ghost use Rattle.dj_asm.specs.Answers.{IsAsmFault, Yields, GivesFile, least_of, 
 
 use crate::file::write_file;
 use crate::judge::first_large;
-use dj_entries::{PoolBuilder, pool_of};
+use dj_asm_pool::{PoolBuilder, pool_of};
+use dj_asm_source::{AsmError, Line, SourceLines, read_source};
 use dj_names::Bytes;
-use dj_source::{AsmError, Line, SourceLines, read_source};
 use std::alloc::Global;
 
 /// The class file that a text means.

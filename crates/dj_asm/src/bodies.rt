@@ -1,17 +1,17 @@
 //! The bodies of the attributes of fields and methods, one for each.
 ghost use Rattle.std.specs.Prelude.{◌≡◌, ◌<◌, ◌^◌, pos, option_map, [], ◌∷◌, ◌++◌, length, map, IfOk, OnOk};
 ghost use Rattle.std.specs.List.{flat_map};
-ghost use Rattle.dj_bytes.specs.trusted.Spelling.{u2};
-ghost use Rattle.dj_source.specs.LineViews.{line_view};
-ghost use Rattle.dj_source.specs.TypeViews.{value_view};
-ghost use Rattle.dj_entries.specs.trusted.Needs.{value_entry};
-ghost use Rattle.dj_entries.specs.Pooling.{found_index};
+ghost use Rattle.dj_cursor.specs.trusted.Spelling.{u2};
+ghost use Rattle.dj_asm_source.specs.LineViews.{line_view};
+ghost use Rattle.dj_asm_source.specs.TypeViews.{value_view};
+ghost use Rattle.dj_asm_pool.specs.trusted.Needs.{value_entry};
+ghost use Rattle.dj_asm_pool.specs.Pooling.{found_index};
 ghost use Rattle.dj_asm.specs.Filing.{constant_bodies, stack_at, locals_at, first_reported, begins_code, IsBody, MayHaveBody, MayHaveBodies, AreBodies};
 
 use crate::code::code_body;
-use dj_entries::PoolBuilder;
+use dj_asm_pool::PoolBuilder;
+use dj_asm_source::{Line, Value, section_size};
 use dj_names::Bytes;
-use dj_source::{Line, Value, section_size};
 use std::alloc::{AllocError, Global};
 
 /// The body of a ConstantValue (JVMS 4.7.2): the index of the constant.

@@ -1,10 +1,10 @@
 //! Lines that a class file counts.
 ghost use Rattle.std.specs.Prelude.{◌≡◌, length, map};
-ghost use Rattle.dj_source.specs.LineViews.{line_view};
+ghost use Rattle.dj_asm_source.specs.LineViews.{line_view};
 ghost use Rattle.dj_asm.specs.trusted.Large as large;
 ghost use Rattle.dj_asm.specs.Judging.{IsFirstOf, is_kind, is_past};
 
-use dj_source::Line;
+use dj_asm_source::Line;
 
 // A count of two bytes has this many (JVMS 4.1 and 4.7.3).
 const MOST_LINES: usize = 65535;

@@ -1,18 +1,18 @@
 //! The frames of a method's lines.
 ghost use Rattle.std.specs.Prelude.{◌≡◌, ◌<◌, ◌^◌, ◌+◌, ◌++◌, List, length, map, IfOk};
 ghost use Rattle.dj_ops.specs.declared.frames.VType.TheVariants as types;
-ghost use Rattle.dj_source.specs.trusted.Labels.{is_instruction};
-ghost use Rattle.dj_source.specs.TypeViews.{simple_word, type_view};
-ghost use Rattle.dj_source.specs.LineViews.{frame_view, line_view};
-ghost use Rattle.dj_source.specs.LabelReading.{number_after};
-ghost use Rattle.dj_entries.specs.Pooling.{found_index};
+ghost use Rattle.dj_asm_source.specs.trusted.Labels.{is_instruction};
+ghost use Rattle.dj_asm_source.specs.TypeViews.{simple_word, type_view};
+ghost use Rattle.dj_asm_source.specs.LineViews.{frame_view, line_view};
+ghost use Rattle.dj_asm_source.specs.LabelReading.{number_after};
+ghost use Rattle.dj_asm_pool.specs.Pooling.{found_index};
 ghost use Rattle.dj_asm.specs.trusted.Codes.{simple_type, type_of, form_of, frames_in};
 ghost use Rattle.dj_asm.specs.trusted.Files.{places_of};
 ghost use Rattle.dj_asm.specs.CodeBodies.{framed};
 
-use dj_entries::PoolBuilder;
+use dj_asm_pool::PoolBuilder;
+use dj_asm_source::{Frame, FrameType, Line, MethodLabels, SimpleType, is_instruction};
 use dj_ops::{Form, Frame as OpsFrame, Frames, VType, VTypes};
-use dj_source::{Frame, FrameType, Line, MethodLabels, SimpleType, is_instruction};
 use std::alloc::{AllocError, Global};
 
 /// The type that a word names.

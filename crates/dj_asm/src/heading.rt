@@ -1,13 +1,13 @@
 //! What a class file has before its fields: the versions, the class, its superclass and its interfaces.
 ghost use Rattle.std.specs.Prelude.{◌≡◌, ◌++◌, map, IfOk, OnOk};
 ghost use Rattle.std.specs.List.{flat_map};
-ghost use Rattle.dj_source.specs.LineViews.{line_view};
-ghost use Rattle.dj_entries.specs.Pooling.{found_index};
+ghost use Rattle.dj_asm_source.specs.LineViews.{line_view};
+ghost use Rattle.dj_asm_pool.specs.Pooling.{found_index};
 ghost use Rattle.dj_asm.specs.Filing.{no_heading, heading_with, heading_from, interface_indexes};
 
-use dj_entries::PoolBuilder;
+use dj_asm_pool::PoolBuilder;
+use dj_asm_source::Line;
 use dj_pool::Indexes;
-use dj_source::Line;
 use std::alloc::{AllocError, Global};
 
 /// The versions, the flags, and the indexes of the class and its superclass.

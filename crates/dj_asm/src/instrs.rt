@@ -4,23 +4,23 @@ ghost use Rattle.std.specs.List.{flat_map};
 ghost use Rattle.dj_ops.specs.declared.instruction.Instr.{Instr};
 ghost use Rattle.dj_ops.specs.declared.instruction.Instr.TheVariants as instrs;
 ghost use Rattle.dj_ops.specs.trusted.Instructions.{IsProper};
-ghost use Rattle.dj_source.specs.trusted.Lines as lines;
-ghost use Rattle.dj_source.specs.trusted.Lines.{Label};
-ghost use Rattle.dj_source.specs.trusted.Labels.{label_number};
-ghost use Rattle.dj_tokens.specs.Views.{units_of};
-ghost use Rattle.dj_source.specs.PairViews.{pair_view};
-ghost use Rattle.dj_source.specs.OperationViews.{operation_view};
-ghost use Rattle.dj_source.specs.LineViews.{line_view};
-ghost use Rattle.dj_entries.specs.Pooling.{found_index};
-ghost use Rattle.dj_entries.specs.trusted.Needs.{member_entry};
+ghost use Rattle.dj_asm_source.specs.trusted.Lines as lines;
+ghost use Rattle.dj_asm_source.specs.trusted.Lines.{Label};
+ghost use Rattle.dj_asm_source.specs.trusted.Labels.{label_number};
+ghost use Rattle.dj_asm_tokens.specs.Views.{units_of};
+ghost use Rattle.dj_asm_source.specs.PairViews.{pair_view};
+ghost use Rattle.dj_asm_source.specs.OperationViews.{operation_view};
+ghost use Rattle.dj_asm_source.specs.LineViews.{line_view};
+ghost use Rattle.dj_asm_pool.specs.Pooling.{found_index};
+ghost use Rattle.dj_asm_pool.specs.trusted.Needs.{member_entry};
 ghost use Rattle.dj_asm.specs.trusted.Codes.{Places, is_interface_call, IsInterfaceCall, IsMemberInstr, IsInstrOf, AreInstrsOf, operation_in};
 ghost use Rattle.dj_asm.specs.trusted.Files.{places_of};
 ghost use Rattle.dj_asm.specs.CodeBodies.{IsAlone, IsOfPool, IsProperIn, AreProperIn, HasOneMore};
 
-use dj_entries::PoolBuilder;
+use dj_asm_pool::PoolBuilder;
+use dj_asm_source::{Line, MethodLabels, Operation, Pair, Word};
 use dj_names::{read_desc, slots};
 use dj_ops::{Instr, Instrs, Pairs, Targets};
-use dj_source::{Line, MethodLabels, Operation, Pair, Word};
 use std::alloc::{AllocError, Global};
 
 /// The number of the instruction at a label.

@@ -1,16 +1,16 @@
 //! The first line of a source that is too large for a class file for another reason than its entries.
 ghost use Rattle.std.specs.Prelude.{◌≡◌, ◌<◌, ◌^◌, ℕ, length, map, IfOk};
-ghost use Rattle.dj_source.specs.LineViews.{line_view};
-ghost use Rattle.dj_source.specs.LabelReading.{sections_of};
-ghost use Rattle.dj_source.specs.trusted.Sources.{Source};
+ghost use Rattle.dj_asm_source.specs.LineViews.{line_view};
+ghost use Rattle.dj_asm_source.specs.LabelReading.{sections_of};
+ghost use Rattle.dj_asm_source.specs.trusted.Sources.{Source};
 ghost use Rattle.dj_asm.specs.Assembling.{IsJudged, IsFirstBeside};
 ghost use Rattle.dj_asm.specs.Judging.{IsFirstOf, earliest, past_table, is_large_in, in_sections, is_judged};
 
 use crate::counted::{Kind, first_past};
 use crate::proper::first_alone;
 use crate::reach::first_wide_line;
-use dj_entries::PoolBuilder;
-use dj_source::{Line, section_size};
+use dj_asm_pool::PoolBuilder;
+use dj_asm_source::{Line, section_size};
 use std::alloc::{AllocError, Global};
 
 /// The lesser place, where there is one.

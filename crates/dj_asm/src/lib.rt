@@ -18,5 +18,5 @@ mod reach;
 mod sizes;
 
 pub use assembling::assemble;
-pub use dj_source::AsmError;
+pub use dj_asm_source::AsmError;
 pub use laws::{file_or_fault, means_class_file, no_file_where_fault, one_fault, one_file};

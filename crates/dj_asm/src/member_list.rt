@@ -1,14 +1,14 @@
 //! The fields and methods of a class file (JVMS 4.5 and 4.6).
 ghost use Rattle.std.specs.Prelude.{◌≡◌, [], ◌∷◌, ◌++◌, map, IfOk, OnOk};
-ghost use Rattle.dj_tokens.specs.Texts.{text_view};
-ghost use Rattle.dj_source.specs.LineViews.{line_view};
-ghost use Rattle.dj_entries.specs.Pooling.{found_index};
+ghost use Rattle.dj_asm_tokens.specs.Texts.{text_view};
+ghost use Rattle.dj_asm_source.specs.LineViews.{line_view};
+ghost use Rattle.dj_asm_pool.specs.Pooling.{found_index};
 ghost use Rattle.dj_asm.specs.Filing.{member_with, one_attribute, attributes_at, members_at, members_in, begins_member, first_body, other_bodies, bodies_after};
 
+use dj_asm_pool::PoolBuilder;
+use dj_asm_source::{Line, Text};
 use dj_class::{Attribute, Attributes, MemberView, Members};
-use dj_entries::PoolBuilder;
 use dj_names::Bytes;
-use dj_source::{Line, Text};
 use std::alloc::{AllocError, Global};
 
 /// Appends a field or a method.

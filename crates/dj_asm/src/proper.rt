@@ -1,16 +1,16 @@
 //! Lines whose instruction isn't proper, and frames with too many types.
 ghost use Rattle.std.specs.Prelude.{◌≡◌, Some, nat_lt, length, map, IfOk};
-ghost use Rattle.dj_source.specs.PairViews.{pair_view};
-ghost use Rattle.dj_source.specs.OperationViews.{operation_view};
-ghost use Rattle.dj_source.specs.LineViews.{frame_view, line_view};
-ghost use Rattle.dj_source.specs.TypeViews.{literal_view};
-ghost use Rattle.dj_entries.specs.trusted.Needs.{literal_entry};
-ghost use Rattle.dj_entries.specs.Pooling.{found_index};
+ghost use Rattle.dj_asm_source.specs.PairViews.{pair_view};
+ghost use Rattle.dj_asm_source.specs.OperationViews.{operation_view};
+ghost use Rattle.dj_asm_source.specs.LineViews.{frame_view, line_view};
+ghost use Rattle.dj_asm_source.specs.TypeViews.{literal_view};
+ghost use Rattle.dj_asm_pool.specs.trusted.Needs.{literal_entry};
+ghost use Rattle.dj_asm_pool.specs.Pooling.{found_index};
 ghost use Rattle.dj_asm.specs.Judging.{IsFirstOf, is_long_frame, is_table, rise_from, rise, is_lookup, has_many_slots, is_improper, is_alone, alone};
 
-use dj_entries::PoolBuilder;
+use dj_asm_pool::PoolBuilder;
+use dj_asm_source::{Frame, Line, Literal, Operation, Pair};
 use dj_names::{DescError, read_desc, slots};
-use dj_source::{Frame, Line, Literal, Operation, Pair};
 use std::alloc::{AllocError, Global};
 
 // A list of types has a count of two bytes (JVMS 4.7.4).

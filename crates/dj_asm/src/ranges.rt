@@ -2,18 +2,18 @@
 ghost use Rattle.std.specs.Prelude.{◌≡◌, ◌++◌, List, map, IfOk};
 ghost use Rattle.std.specs.Option.{option_map};
 ghost use Rattle.std.specs.List.{flat_map};
-ghost use Rattle.dj_source.specs.trusted.Lines as lines;
-ghost use Rattle.dj_source.specs.trusted.Labels.{label_number};
-ghost use Rattle.dj_tokens.specs.Views.{units_of};
-ghost use Rattle.dj_tokens.specs.Texts.{text_view};
-ghost use Rattle.dj_source.specs.LineViews.{line_view};
-ghost use Rattle.dj_entries.specs.Pooling.{found_index};
+ghost use Rattle.dj_asm_source.specs.trusted.Lines as lines;
+ghost use Rattle.dj_asm_source.specs.trusted.Labels.{label_number};
+ghost use Rattle.dj_asm_tokens.specs.Views.{units_of};
+ghost use Rattle.dj_asm_tokens.specs.Texts.{text_view};
+ghost use Rattle.dj_asm_source.specs.LineViews.{line_view};
+ghost use Rattle.dj_asm_pool.specs.Pooling.{found_index};
 ghost use Rattle.dj_asm.specs.trusted.Codes.{catch_index, ranges_in};
 ghost use Rattle.dj_asm.specs.trusted.Files.{places_of};
 
-use dj_entries::PoolBuilder;
+use dj_asm_pool::PoolBuilder;
+use dj_asm_source::{Line, MethodLabels, Text, Word};
 use dj_labels::{Protected, Ranges};
-use dj_source::{Line, MethodLabels, Text, Word};
 use std::alloc::{AllocError, Global};
 
 /// The index of the class that is caught, or 0 for any.

@@ -1,15 +1,15 @@
 //! Jumps whose targets are too far away, and code that is too long.
 ghost use Rattle.std.specs.Prelude.{◌≡◌, ◌<◌, ◌^◌, Some, length, map, slice_index, IfOk};
 ghost use Rattle.std.specs.List.{list_all};
-ghost use Rattle.dj_source.specs.trusted.Labels.{is_instruction, label_number};
-ghost use Rattle.dj_tokens.specs.Views.{units_of};
-ghost use Rattle.dj_source.specs.PairViews.{pair_view};
-ghost use Rattle.dj_source.specs.OperationViews.{operation_view};
-ghost use Rattle.dj_source.specs.LineViews.{line_view};
+ghost use Rattle.dj_asm_source.specs.trusted.Labels.{is_instruction, label_number};
+ghost use Rattle.dj_asm_tokens.specs.Views.{units_of};
+ghost use Rattle.dj_asm_source.specs.PairViews.{pair_view};
+ghost use Rattle.dj_asm_source.specs.OperationViews.{operation_view};
+ghost use Rattle.dj_asm_source.specs.LineViews.{line_view};
 ghost use Rattle.dj_asm.specs.Judging.{IsFirstOf, is_near, reaches, target, is_reached, is_wide_line, is_wide, wide_code};
 
 use crate::sizes::{half_of, starts_of};
-use dj_source::{Line, MethodLabels, Operation, Pair, Word, is_instruction};
+use dj_asm_source::{Line, MethodLabels, Operation, Pair, Word, is_instruction};
 use std::alloc::{AllocError, Global};
 
 // The most bytes of a method's code (JVMS 4.7.3, code_length).

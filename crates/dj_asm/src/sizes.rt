@@ -1,11 +1,11 @@
 //! How many bytes instructions have, and where they come to stand.
 ghost use Rattle.std.specs.Prelude.{◌≡◌, ◌+◌, ◌≤◌, [], ◌∷◌, map, IfOk, IfSome, IfNone};
-ghost use Rattle.dj_source.specs.OperationViews.{operation_view};
-ghost use Rattle.dj_source.specs.LineViews.{line_view};
+ghost use Rattle.dj_asm_source.specs.OperationViews.{operation_view};
+ghost use Rattle.dj_asm_source.specs.LineViews.{line_view};
 ghost use Rattle.dj_asm.specs.trusted.Codes.{operation_in};
 ghost use Rattle.dj_asm.specs.Judging.{wide_size, switch_size, size_at, half_of, AreStarts};
 
-use dj_source::{Line, Operation};
+use dj_asm_source::{Line, Operation};
 use std::alloc::{AllocError, Global};
 
 /// How far back the offset of a jump goes.

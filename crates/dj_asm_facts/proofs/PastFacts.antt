@@ -5,13 +5,13 @@ use Rattle.std.proofs.lemmas.Bool.{cases_lt}
 use Rattle.std.proofs.lemmas.List.{length-take-le, take_all}
 use Rattle.std.proofs.lemmas.List.Elements.{Contains-append_right}
 use Rattle.std.proofs.lemmas.List.Sums.{count_by-le-length, sum_by-cons, sum_by-append}
-use Rattle.dj_source.specs.trusted.Lines.{FrameType, Frame, Same, Full, Plain, Aside, Catch, Line, Beside, Framed, End}
-use Rattle.dj_source.specs.trusted.Sources.{Source, BodyPart, MethodSource, Mark, FrameStep, Coded, body_lines, method_lines, lines_of}
-use Rattle.dj_source.specs.trusted.Labels.{AreMethodLines}
-use Rattle.dj_entries.specs.trusted.Entries.{Utf8, Class, each_once, index_of}
-use Rattle.dj_entries.specs.trusted.Needs.{Need, needs_of, methods_needs, index_in}
-use Rattle.dj_entries.specs.trusted.Room.{HasRoom}
-use Rattle.dj_entries.proofs.Members.{each_in, in_here}
+use Rattle.dj_asm_source.specs.trusted.Lines.{FrameType, Frame, Same, Full, Plain, Aside, Catch, Line, Beside, Framed, End}
+use Rattle.dj_asm_source.specs.trusted.Sources.{Source, BodyPart, MethodSource, Mark, FrameStep, Coded, body_lines, method_lines, lines_of}
+use Rattle.dj_asm_source.specs.trusted.Labels.{AreMethodLines}
+use Rattle.dj_asm_pool.specs.trusted.Entries.{Utf8, Class, each_once, index_of}
+use Rattle.dj_asm_pool.specs.trusted.Needs.{Need, needs_of, methods_needs, index_in}
+use Rattle.dj_asm_pool.specs.trusted.Room.{HasRoom}
+use Rattle.dj_asm_pool.proofs.Members.{each_in, in_here}
 use Rattle.dj_asm.specs.trusted.Large.{is_interface, is_field, is_method, is_catch, count_before, IsMethodLine, IsPastCatches, HasLongLists, IsLongFrame, IsTooLarge}
 
 -- ---- ranges are counted over a method

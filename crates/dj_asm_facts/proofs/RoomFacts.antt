@@ -1,13 +1,13 @@
 -- The first line that needs an entry without room, where the pool has the need of a later line before it.
 use Rattle.std.proofs.Common.{◌≡◌, ℕ, ◌<◌, pos, List, [], ◌∷◌, length, Some, None, codes, refl, arith}
 use Rattle.std.specs.List.{AllByRecursion}
-use Rattle.dj_source.specs.trusted.Lines.{Catch, ClassOf}
-use Rattle.dj_source.specs.trusted.Sources.{Source, Mark, Step, Coded}
-use Rattle.dj_entries.specs.trusted.Entries.{Utf8, Class, each_once, index_of}
-use Rattle.dj_entries.specs.trusted.Needs.{Need, needs_of, methods_needs, index_in}
-use Rattle.dj_entries.specs.trusted.Room.{HasRoom, IsPastPool}
-use Rattle.dj_entries.specs.Room.{IsFirst}
-use Rattle.dj_entries.proofs.Members.{each_in}
+use Rattle.dj_asm_source.specs.trusted.Lines.{Catch, ClassOf}
+use Rattle.dj_asm_source.specs.trusted.Sources.{Source, Mark, Step, Coded}
+use Rattle.dj_asm_pool.specs.trusted.Entries.{Utf8, Class, each_once, index_of}
+use Rattle.dj_asm_pool.specs.trusted.Needs.{Need, needs_of, methods_needs, index_in}
+use Rattle.dj_asm_pool.specs.trusted.Room.{HasRoom, IsPastPool}
+use Rattle.dj_asm_pool.specs.Room.{IsFirst}
+use Rattle.dj_asm_pool.proofs.Members.{each_in}
 
 -- .class, .super, .method, .stack, .locals, `.catch` of a class, `new` of it, .end
 abbrev source : List ℕ → Source

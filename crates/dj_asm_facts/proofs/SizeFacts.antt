@@ -2,7 +2,7 @@
 use Rattle.std.proofs.Common.{◌≡◌, ℕ, ◌^◌, ◌<◌, true, false, pos, negsuc, [], Some, refl, ap, nat_abs, arith}
 use Rattle.std.proofs.Math.Facts.{sfits_lit}
 use Rattle.std.proofs.lemmas.Int.{ints}
-use Rattle.dj_source.specs.trusted.Lines.{Version, Field, Stack, Locals, IntValue, LongValue, Local, LoadLong, Dynamic, Multi, FitsBits, IsSized, IsSizedOperation}
+use Rattle.dj_asm_source.specs.trusted.Lines.{Version, Field, Stack, Locals, IntValue, LongValue, Local, LoadLong, Dynamic, Multi, FitsBits, IsSized, IsSizedOperation}
 
 -- ---- numbers without sign
 

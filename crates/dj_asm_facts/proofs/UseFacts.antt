@@ -5,11 +5,11 @@ use Rattle.dj_names.specs.declared.descriptor.Base.TheVariants as bases
 use Rattle.dj_names.specs.declared.descriptor.Of.TheVariants as ofs
 use Rattle.dj_names.specs.trusted.Names.{IsNameByte, IsUnqualifiedName, IsClassName, IsMethodName}
 use Rattle.dj_names.specs.trusted.Descriptors.{IsFieldDescriptor}
-use Rattle.dj_source.specs.trusted.Lines.{Line, Field, Abstract, Jump, Member, Dynamic, Labelled, Beside, Does, End, IsLine, IsOperation}
-use Rattle.dj_source.specs.trusted.Sources.{Source, Mark, Step, Coded}
-use Rattle.dj_source.specs.trusted.Labels.{AtInstruction, IsLabelAt, IsMet, IsDoubled, IsMislabelled, instruction_count}
-use Rattle.dj_source.specs.LabelReading.{marks_from, mislabelled_from, sections_of, mislabelled_after}
-use Rattle.dj_source.proofs.LabelTextLaws.{first_is}
+use Rattle.dj_asm_source.specs.trusted.Lines.{Line, Field, Abstract, Jump, Member, Dynamic, Labelled, Beside, Does, End, IsLine, IsOperation}
+use Rattle.dj_asm_source.specs.trusted.Sources.{Source, Mark, Step, Coded}
+use Rattle.dj_asm_source.specs.trusted.Labels.{AtInstruction, IsLabelAt, IsMet, IsDoubled, IsMislabelled, instruction_count}
+use Rattle.dj_asm_source.specs.LabelReading.{marks_from, mislabelled_from, sections_of, mislabelled_after}
+use Rattle.dj_asm_source.proofs.LabelTextLaws.{first_is}
 
 -- ---- names of fields and of methods
 

@@ -1,5 +1,5 @@
 ghost use Rattle.std.specs.Prelude.{pos};
-ghost use Rattle.dj_source.specs.trusted.Lines.{Version, IsSized};
+ghost use Rattle.dj_asm_source.specs.trusted.Lines.{Version, IsSized};
 
 /// The greatest versions fit a class file (JVMS 4.1), and the next ones don't.
 #[tactic(auto, using(crate::proofs::SizeFacts::greatest_version, crate::proofs::SizeFacts::large_major, crate::proofs::SizeFacts::large_minor))]

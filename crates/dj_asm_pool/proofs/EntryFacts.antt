@@ -2,7 +2,7 @@
 use Rattle.std.proofs.Common.{◌≡◌, ℕ, true, false, pos, negsuc, List, [], ◌∷◌, map, codes, refl}
 use Rattle.dj_pool.specs.trusted.Pool as pool
 use Rattle.dj_pool.specs.trusted.Pool.{Constant, Hole, indexed}
-use Rattle.dj_entries.specs.trusted.Entries.{Entry, Utf8, Integer, Long, Class, Text, NameAndType, Field, Method, InterfaceMethod, Dynamic, same_entry, with_parts, each_once, index_of, pool_of}
+use Rattle.dj_asm_pool.specs.trusted.Entries.{Entry, Utf8, Integer, Long, Class, Text, NameAndType, Field, Method, InterfaceMethod, Dynamic, same_entry, with_parts, each_once, index_of, pool_of}
 
 abbrev a : List ℕ
 a = codes "a"

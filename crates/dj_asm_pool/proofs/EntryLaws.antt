@@ -9,8 +9,8 @@ use Rattle.std.proofs.lemmas.List.Elements.{All-from_recursion}
 use Rattle.dj_names.specs.trusted.Types.{Name, same_name}
 use Rattle.dj_pool.specs.trusted.Pool.{Constant, takes_two, indexed, constant_at}
 use Rattle.dj_pool.proofs.Slots.{indexed_wide, indexed_narrow}
-use Rattle.dj_entries.specs.trusted.Entries.{Entry, Utf8, Integer, Long, Class, Text, NameAndType, Field, Method, InterfaceMethod, Dynamic, same_pair, same_member, same_entry, with_parts, each_once, width, widths, before, index_of, constant_of, pool_of}
-use Rattle.dj_entries.proofs.Members.{none_in, in_here, in_rest, in_cases, in_filter, from_filter, from_take, each_in, each_from}
+use Rattle.dj_asm_pool.specs.trusted.Entries.{Entry, Utf8, Integer, Long, Class, Text, NameAndType, Field, Method, InterfaceMethod, Dynamic, same_pair, same_member, same_entry, with_parts, each_once, width, widths, before, index_of, constant_of, pool_of}
+use Rattle.dj_asm_pool.proofs.Members.{none_in, in_here, in_rest, in_cases, in_filter, from_filter, from_take, each_in, each_from}
 
 -- ---- equal entries
 

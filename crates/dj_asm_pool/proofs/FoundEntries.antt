@@ -7,21 +7,21 @@ use Rattle.std.proofs.lemmas.List.Elements.{Contains-append_right, Contains-appe
 use Rattle.dj_names.specs.trusted.Types.{Name}
 use Rattle.dj_pool.specs.trusted.Pool as pool
 use Rattle.dj_pool.specs.trusted.Pool.{Constant}
-use Rattle.dj_entries.specs.declared.key.Key.{Key}
-use Rattle.dj_entries.specs.declared.key.Key.TheVariants as keys
-use Rattle.dj_entries.specs.Keys.{key_width, most_next, IsNumbered, StandsAt, IsWithin, FindsKey}
-use Rattle.dj_entries.specs.trusted.Entries.{Entry, Utf8, Integer, Long, Class, Text, NameAndType, Field, Method, InterfaceMethod, Dynamic, each_once, width, index_of, constant_of}
-use Rattle.dj_entries.specs.trusted.Room.{HasRoom}
-use Rattle.dj_entries.specs.Pooling.{IsNumberOf, constant_of_key, constants_of, named_by, EndsIn, all_kept, HasNumber, HasIndex, AreKeysOf, keyed_entries, IsFull, found_index, IsSought}
-use Rattle.dj_entries.specs.PoolNeeds.{HasPlace}
-use Rattle.dj_entries.proofs.Members.{none_in, in_here, in_map, from_map, each_in, each_from}
-use Rattle.dj_entries.proofs.EntryLaws.{index_is, once_has}
-use Rattle.dj_entries.proofs.KeyLaws.{same_key, stands, lacks}
-use Rattle.dj_entries.proofs.PoolingLaws.{text_is, index_absent, same_constant}
-use Rattle.dj_entries.proofs.PoolSteps.{any_in, any_out, key_there, place_same, width_same}
-use Rattle.dj_entries.proofs.PoolChains.{AreFields, no_texts}
-use Rattle.dj_entries.proofs.PoolEntries.{text_key}
-use Rattle.dj_entries.proofs.PoolOnce.{IsOnce, once, there_or_not, index_in_once, past_in_once}
+use Rattle.dj_asm_pool.specs.declared.key.Key.{Key}
+use Rattle.dj_asm_pool.specs.declared.key.Key.TheVariants as keys
+use Rattle.dj_asm_pool.specs.Keys.{key_width, most_next, IsNumbered, StandsAt, IsWithin, FindsKey}
+use Rattle.dj_asm_pool.specs.trusted.Entries.{Entry, Utf8, Integer, Long, Class, Text, NameAndType, Field, Method, InterfaceMethod, Dynamic, each_once, width, index_of, constant_of}
+use Rattle.dj_asm_pool.specs.trusted.Room.{HasRoom}
+use Rattle.dj_asm_pool.specs.Pooling.{IsNumberOf, constant_of_key, constants_of, named_by, EndsIn, all_kept, HasNumber, HasIndex, AreKeysOf, keyed_entries, IsFull, found_index, IsSought}
+use Rattle.dj_asm_pool.specs.PoolNeeds.{HasPlace}
+use Rattle.dj_asm_pool.proofs.Members.{none_in, in_here, in_map, from_map, each_in, each_from}
+use Rattle.dj_asm_pool.proofs.EntryLaws.{index_is, once_has}
+use Rattle.dj_asm_pool.proofs.KeyLaws.{same_key, stands, lacks}
+use Rattle.dj_asm_pool.proofs.PoolingLaws.{text_is, index_absent, same_constant}
+use Rattle.dj_asm_pool.proofs.PoolSteps.{any_in, any_out, key_there, place_same, width_same}
+use Rattle.dj_asm_pool.proofs.PoolChains.{AreFields, no_texts}
+use Rattle.dj_asm_pool.proofs.PoolEntries.{text_key}
+use Rattle.dj_asm_pool.proofs.PoolOnce.{IsOnce, once, there_or_not, index_in_once, past_in_once}
 
 -- ---- found or not
 

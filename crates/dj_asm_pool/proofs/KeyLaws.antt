@@ -3,11 +3,11 @@ use Rattle.std.proofs.Common.{◌≡◌, ℕ, ◌+◌, ◌<◌, ◌≤◌, inl, 
 use Rattle.std.specs.Map.{keys_of, lookup}
 use Rattle.std.proofs.lemmas.Bool.{cases_Bool, and_parts, and_from, false≢true}
 use Rattle.std.proofs.lemmas.Bool.Decides.{Decides-int_eq, Decides-eqb}
-use Rattle.dj_entries.specs.contracts.key.KeyPartialEq.TheImpl as key_eq
-use Rattle.dj_entries.specs.declared.key.Key.{Key}
-use Rattle.dj_entries.specs.declared.key.Key.TheVariants as keys
-use Rattle.dj_entries.specs.Keys.{key_width, key_widths, numbered, next_index, most_next, IsNumbered, StandsAt, IsLeftOut, IsKept, IsWithin, IsPlaced}
-use Rattle.dj_entries.proofs.Members.{none_in, in_here, in_rest, in_cases}
+use Rattle.dj_asm_pool.specs.contracts.key.KeyPartialEq.TheImpl as key_eq
+use Rattle.dj_asm_pool.specs.declared.key.Key.{Key}
+use Rattle.dj_asm_pool.specs.declared.key.Key.TheVariants as keys
+use Rattle.dj_asm_pool.specs.Keys.{key_width, key_widths, numbered, next_index, most_next, IsNumbered, StandsAt, IsLeftOut, IsKept, IsWithin, IsPlaced}
+use Rattle.dj_asm_pool.proofs.Members.{none_in, in_here, in_rest, in_cases}
 
 abbrev pub same_key : Key → Key → Bool
 same_key = (key_eq.ghosts).eq

@@ -6,13 +6,13 @@ use Rattle.std.proofs.lemmas.List.{map-append}
 use Rattle.std.proofs.lemmas.List.Elements.{Contains-append_left, Contains-append_right, Contains-append_cases}
 use Rattle.dj_names.specs.trusted.Types.{Name}
 use Rattle.dj_pool.specs.trusted.Pool.{Constant, text_of, class_text_of, text_at, class_name_at, NamesText}
-use Rattle.dj_source.specs.trusted.Lines.{Line}
-use Rattle.dj_source.specs.trusted.Sources.{Source, MethodSource, head_lines, method_lines, lines_of, IsTextOf}
-use Rattle.dj_entries.specs.trusted.Entries.{Entry, Utf8, Integer, Long, Class, Text, NameAndType, Field, Method, InterfaceMethod, Dynamic, with_parts, pool_of}
-use Rattle.dj_entries.specs.trusted.Needs.{Need, needs_at, needs, method_needs, methods_needs, needs_of, needed_entry, entries_of, index_in, head_entries, instruction_entries, catch_entries, stack_map_entries, frame_entries}
-use Rattle.dj_entries.proofs.Members.{none_in, in_here, in_cases, in_flat_map}
-use Rattle.dj_entries.proofs.EntryLaws.{once_has, constant_found}
-use Rattle.dj_entries.proofs.SourcePool.{entries_again, parts_there}
+use Rattle.dj_asm_source.specs.trusted.Lines.{Line}
+use Rattle.dj_asm_source.specs.trusted.Sources.{Source, MethodSource, head_lines, method_lines, lines_of, IsTextOf}
+use Rattle.dj_asm_pool.specs.trusted.Entries.{Entry, Utf8, Integer, Long, Class, Text, NameAndType, Field, Method, InterfaceMethod, Dynamic, with_parts, pool_of}
+use Rattle.dj_asm_pool.specs.trusted.Needs.{Need, needs_at, needs, method_needs, methods_needs, needs_of, needed_entry, entries_of, index_in, head_entries, instruction_entries, catch_entries, stack_map_entries, frame_entries}
+use Rattle.dj_asm_pool.proofs.Members.{none_in, in_here, in_cases, in_flat_map}
+use Rattle.dj_asm_pool.proofs.EntryLaws.{once_has, constant_found}
+use Rattle.dj_asm_pool.proofs.SourcePool.{entries_again, parts_there}
 
 -- ---- needs
 

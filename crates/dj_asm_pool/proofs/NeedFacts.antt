@@ -1,12 +1,12 @@
 -- What sources need of the pool, in its order, at plain values.
 use Rattle.std.proofs.Common.{◌≡◌, ℕ, true, false, pos, List, [], ◌∷◌, map, Some, None, codes, refl}
-use Rattle.dj_source.specs.trusted.Lines as lines
-use Rattle.dj_source.specs.trusted.Lines.{IntValue, LongValue, StringValue, IntLiteral, StringLiteral, ClassLiteral, Simple, Object, New, Same, Stack1, Chop, Append, Full, Plain, Push, Jump, Load, LoadLong, Member, ClassOf, Array, Multi, Labelled, Catch, Framed, Does, Beside, Stack, End}
-use Rattle.dj_source.specs.trusted.Sources.{Source, Mark, Step, FrameStep, Bodiless, Coded}
+use Rattle.dj_asm_source.specs.trusted.Lines as lines
+use Rattle.dj_asm_source.specs.trusted.Lines.{IntValue, LongValue, StringValue, IntLiteral, StringLiteral, ClassLiteral, Simple, Object, New, Same, Stack1, Chop, Append, Full, Plain, Push, Jump, Load, LoadLong, Member, ClassOf, Array, Multi, Labelled, Catch, Framed, Does, Beside, Stack, End}
+use Rattle.dj_asm_source.specs.trusted.Sources.{Source, Mark, Step, FrameStep, Bodiless, Coded}
 use Rattle.dj_pool.specs.trusted.Pool as pool
 use Rattle.dj_pool.specs.trusted.Pool.{indexed}
-use Rattle.dj_entries.specs.trusted.Entries.{Utf8, Integer, Long, Class, Text, Field, Method, InterfaceMethod, Dynamic, each_once, index_of, pool_of}
-use Rattle.dj_entries.specs.trusted.Needs.{Need, operation_entries, types_entries, value_entry, head_entries, instruction_entries, catch_entries, stack_map_entries, frame_entries, needs_of, methods_needs, entries_of}
+use Rattle.dj_asm_pool.specs.trusted.Entries.{Utf8, Integer, Long, Class, Text, Field, Method, InterfaceMethod, Dynamic, each_once, index_of, pool_of}
+use Rattle.dj_asm_pool.specs.trusted.Needs.{Need, operation_entries, types_entries, value_entry, head_entries, instruction_entries, catch_entries, stack_map_entries, frame_entries, needs_of, methods_needs, entries_of}
 use Rattle.dj_ops.specs.Mnemonics.{nop, bipush, goto, areturn, getstatic, putstatic, putfield, invokevirtual, invokespecial, invokestatic, invokeinterface, new, anewarray}
 
 abbrev s : List ℕ

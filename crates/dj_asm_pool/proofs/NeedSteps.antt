@@ -4,16 +4,16 @@ use Rattle.std.specs.List.{AllByRecursion, flat_map, list_all}
 use Rattle.std.proofs.lemmas.Bool.{cases_Bool, false≢true, and_parts}
 use Rattle.std.proofs.lemmas.List.Elements.{Contains-append_left, Contains-append_right}
 use Rattle.dj_names.specs.trusted.Types.{Name}
-use Rattle.dj_entries.specs.trusted.Entries.{Entry, Utf8, Integer, Long, Class, Text, NameAndType, Field, Method, InterfaceMethod, Dynamic, with_parts}
-use Rattle.dj_source.specs.declared.syntax.FrameType as the_type
-use Rattle.dj_source.specs.TypeViews.{type_view}
-use Rattle.dj_entries.specs.trusted.Needs.{member_entry, type_entries}
-use Rattle.dj_entries.specs.trusted.Room.{IsShort}
-use Rattle.dj_entries.specs.Pooling.{EndsIn, all_kept, HasIndex, IsFull, Puts}
-use Rattle.dj_entries.specs.PoolNeeds.{is_short, short_entry, HasPlace, LacksPlace, OneLacksPlace, all_parts, PutsNeeds}
-use Rattle.dj_entries.proofs.Members.{in_here, in_rest, each_in, each_from, each_append}
-use Rattle.dj_entries.proofs.PoolChains.{kept_append, all_index, all_full}
-use Rattle.dj_entries.proofs.PoolEntries.{one_more}
+use Rattle.dj_asm_pool.specs.trusted.Entries.{Entry, Utf8, Integer, Long, Class, Text, NameAndType, Field, Method, InterfaceMethod, Dynamic, with_parts}
+use Rattle.dj_asm_source.specs.declared.syntax.FrameType as the_type
+use Rattle.dj_asm_source.specs.TypeViews.{type_view}
+use Rattle.dj_asm_pool.specs.trusted.Needs.{member_entry, type_entries}
+use Rattle.dj_asm_pool.specs.trusted.Room.{IsShort}
+use Rattle.dj_asm_pool.specs.Pooling.{EndsIn, all_kept, HasIndex, IsFull, Puts}
+use Rattle.dj_asm_pool.specs.PoolNeeds.{is_short, short_entry, HasPlace, LacksPlace, OneLacksPlace, all_parts, PutsNeeds}
+use Rattle.dj_asm_pool.proofs.Members.{in_here, in_rest, each_in, each_from, each_append}
+use Rattle.dj_asm_pool.proofs.PoolChains.{kept_append, all_index, all_full}
+use Rattle.dj_asm_pool.proofs.PoolEntries.{one_more}
 
 -- ---- lists
 

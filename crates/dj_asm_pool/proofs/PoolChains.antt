@@ -4,14 +4,14 @@ use Rattle.std.specs.List.{AllByRecursion}
 use Rattle.std.proofs.lemmas.List.Elements.{Contains-append_left, Contains-append_right}
 use Rattle.dj_names.specs.trusted.Types.{Name}
 use Rattle.dj_pool.specs.trusted.Pool as pool
-use Rattle.dj_entries.specs.declared.key.Key.{Key}
-use Rattle.dj_entries.specs.declared.key.Key.TheVariants as keys
-use Rattle.dj_entries.specs.Keys.{IsPlaced, AddsKey}
-use Rattle.dj_entries.specs.trusted.Entries.{Entry, Utf8, Class, Text, NameAndType, Field, Method, InterfaceMethod, Dynamic, class_with_parts, names_with_parts, with_parts, index_of, constant_of}
-use Rattle.dj_entries.specs.Pooling.{IsNumberOf, constant_of_key, constants_in, entries_in, named_by, kept, all_kept, HasNumber, HasIndex, AreKeysOf, keyed_entries, IsFull, PutsOne, IsNoText, IsKeyOf, PutsAll, Stops, Puts, PutsPair, member_parts}
-use Rattle.dj_entries.proofs.Members.{in_here, each_in, each_from, each_append}
-use Rattle.dj_entries.proofs.PoolingLaws.{map_alike, text_is, new_number, number_with, constant_with, index_stays, keyed_are}
-use Rattle.dj_entries.proofs.PoolSteps.{kept_full, kept_with, kept_index, step}
+use Rattle.dj_asm_pool.specs.declared.key.Key.{Key}
+use Rattle.dj_asm_pool.specs.declared.key.Key.TheVariants as keys
+use Rattle.dj_asm_pool.specs.Keys.{IsPlaced, AddsKey}
+use Rattle.dj_asm_pool.specs.trusted.Entries.{Entry, Utf8, Class, Text, NameAndType, Field, Method, InterfaceMethod, Dynamic, class_with_parts, names_with_parts, with_parts, index_of, constant_of}
+use Rattle.dj_asm_pool.specs.Pooling.{IsNumberOf, constant_of_key, constants_in, entries_in, named_by, kept, all_kept, HasNumber, HasIndex, AreKeysOf, keyed_entries, IsFull, PutsOne, IsNoText, IsKeyOf, PutsAll, Stops, Puts, PutsPair, member_parts}
+use Rattle.dj_asm_pool.proofs.Members.{in_here, each_in, each_from, each_append}
+use Rattle.dj_asm_pool.proofs.PoolingLaws.{map_alike, text_is, new_number, number_with, constant_with, index_stays, keyed_are}
+use Rattle.dj_asm_pool.proofs.PoolSteps.{kept_full, kept_with, kept_index, step}
 
 -- ---- lists of entries
 

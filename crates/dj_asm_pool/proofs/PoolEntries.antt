@@ -9,15 +9,15 @@ use Rattle.dj_pool.specs.declared.pool.Entry as list
 use Rattle.dj_pool.specs.declared.pool.Entry.TheVariants as list_entries
 use Rattle.dj_pool.proofs.Slots.{indexed_wide, indexed_narrow}
 use Rattle.dj_pool.proofs.ChangeLaws.{indexed_append}
-use Rattle.dj_entries.specs.declared.key.Key.{Key}
-use Rattle.dj_entries.specs.declared.key.Key.TheVariants as keys
-use Rattle.dj_entries.specs.Keys.{next_index, most_next}
-use Rattle.dj_entries.specs.trusted.Entries.{Utf8, index_of, constant_of, widths}
-use Rattle.dj_entries.specs.Pooling.{constant_of_key, constants_in, HasNumber, EndsIn, keyed_entries, IsFull, PutsOne}
-use Rattle.dj_entries.proofs.Members.{in_here, in_map, from_map, each_in}
-use Rattle.dj_entries.proofs.PoolingLaws.{text_is, map_seam, index_absent}
-use Rattle.dj_entries.proofs.PoolSteps.{next_same, kept_full}
-use Rattle.dj_entries.proofs.PoolChains.{AreFields}
+use Rattle.dj_asm_pool.specs.declared.key.Key.{Key}
+use Rattle.dj_asm_pool.specs.declared.key.Key.TheVariants as keys
+use Rattle.dj_asm_pool.specs.Keys.{next_index, most_next}
+use Rattle.dj_asm_pool.specs.trusted.Entries.{Utf8, index_of, constant_of, widths}
+use Rattle.dj_asm_pool.specs.Pooling.{constant_of_key, constants_in, HasNumber, EndsIn, keyed_entries, IsFull, PutsOne}
+use Rattle.dj_asm_pool.proofs.Members.{in_here, in_map, from_map, each_in}
+use Rattle.dj_asm_pool.proofs.PoolingLaws.{text_is, map_seam, index_absent}
+use Rattle.dj_asm_pool.proofs.PoolSteps.{next_same, kept_full}
+use Rattle.dj_asm_pool.proofs.PoolChains.{AreFields}
 use Rattle.std.proofs.lemmas.List.Elements.{Contains-append_right}
 
 pub indexed_more : (xs : List Constant) (k : Constant) → indexed xs ++ indexed (k ∷ []) ≡ indexed (xs ++ k ∷ [])

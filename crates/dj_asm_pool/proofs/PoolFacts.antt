@@ -1,11 +1,11 @@
 -- What a pool keeps, and what its keys stand for, at plain values.
 use Rattle.std.proofs.Common.{◌≡◌, ℕ, true, pos, List, [], ◌∷◌, ◌++◌, map, codes, refl}
 use Rattle.dj_pool.specs.trusted.Pool.{indexed}
-use Rattle.dj_entries.specs.declared.key.Key.TheVariants as keys
-use Rattle.dj_entries.specs.Keys.{numbered, next_index}
-use Rattle.dj_entries.specs.trusted.Entries.{Utf8, Integer, Long, Class, Text, NameAndType, Field, Dynamic, with_parts}
-use Rattle.dj_entries.specs.Pooling.{all_kept, keyed_entries}
-use Rattle.dj_entries.specs.PoolNeeds.{short_entry, all_parts}
+use Rattle.dj_asm_pool.specs.declared.key.Key.TheVariants as keys
+use Rattle.dj_asm_pool.specs.Keys.{numbered, next_index}
+use Rattle.dj_asm_pool.specs.trusted.Entries.{Utf8, Integer, Long, Class, Text, NameAndType, Field, Dynamic, with_parts}
+use Rattle.dj_asm_pool.specs.Pooling.{all_kept, keyed_entries}
+use Rattle.dj_asm_pool.specs.PoolNeeds.{short_entry, all_parts}
 
 abbrev a : List ℕ
 a = codes "a"

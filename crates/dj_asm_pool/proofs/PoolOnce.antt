@@ -3,14 +3,14 @@ use Rattle.std.proofs.Common.{◌≡◌, ℕ, suc, ◌+◌, ◌≤◌, ◌⊎◌
 use Rattle.std.specs.List.{list_any, prefix_len}
 use Rattle.std.proofs.lemmas.Bool.{cases_Bool, false≢true}
 use Rattle.std.proofs.lemmas.List.Elements.{Contains-append_right}
-use Rattle.dj_entries.specs.Keys.{most_next}
-use Rattle.dj_entries.specs.trusted.Entries.{Entry, same_entry, each_once, width, widths, before, index_of}
-use Rattle.dj_entries.specs.Pooling.{EndsIn, all_kept, HasIndex, IsFull}
-use Rattle.dj_entries.proofs.Members.{none_in, in_here, in_rest, in_cases, each_in}
-use Rattle.dj_entries.proofs.EntryLaws.{same_is, same_itself, index_is, once_from, once_differ, Differ}
-use Rattle.dj_entries.proofs.PoolingLaws.{index_stays}
-use Rattle.dj_entries.proofs.PoolSteps.{any_in, any_out, kept_there, kept_new}
-use Rattle.dj_entries.proofs.PoolChains.{all_full}
+use Rattle.dj_asm_pool.specs.Keys.{most_next}
+use Rattle.dj_asm_pool.specs.trusted.Entries.{Entry, same_entry, each_once, width, widths, before, index_of}
+use Rattle.dj_asm_pool.specs.Pooling.{EndsIn, all_kept, HasIndex, IsFull}
+use Rattle.dj_asm_pool.proofs.Members.{none_in, in_here, in_rest, in_cases, each_in}
+use Rattle.dj_asm_pool.proofs.EntryLaws.{same_is, same_itself, index_is, once_from, once_differ, Differ}
+use Rattle.dj_asm_pool.proofs.PoolingLaws.{index_stays}
+use Rattle.dj_asm_pool.proofs.PoolSteps.{any_in, any_out, kept_there, kept_new}
+use Rattle.dj_asm_pool.proofs.PoolChains.{all_full}
 
 -- ---- lists
 

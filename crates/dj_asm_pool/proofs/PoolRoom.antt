@@ -1,12 +1,12 @@
 -- Whether an entry has room among all that are needed is known when it is put.
 use Rattle.std.proofs.Common.{◌≡◌, inl, inr, true, List, [], ◌++◌, sym, ◌∙◌, subst}
-use Rattle.dj_entries.specs.trusted.Entries.{Entry, each_once, index_of}
-use Rattle.dj_entries.specs.trusted.Room.{HasRoom}
-use Rattle.dj_entries.specs.Pooling.{EndsIn, all_kept, HasIndex, IsFull}
-use Rattle.dj_entries.specs.PoolNeeds.{HasPlace, LacksPlace, all_parts, PutsNeeds}
-use Rattle.dj_entries.proofs.Members.{each_in}
-use Rattle.dj_entries.proofs.PoolChains.{kept_append, all_index, all_full}
-use Rattle.dj_entries.proofs.PoolOnce.{has_index_in_once, past_in_once, whole}
+use Rattle.dj_asm_pool.specs.trusted.Entries.{Entry, each_once, index_of}
+use Rattle.dj_asm_pool.specs.trusted.Room.{HasRoom}
+use Rattle.dj_asm_pool.specs.Pooling.{EndsIn, all_kept, HasIndex, IsFull}
+use Rattle.dj_asm_pool.specs.PoolNeeds.{HasPlace, LacksPlace, all_parts, PutsNeeds}
+use Rattle.dj_asm_pool.proofs.Members.{each_in}
+use Rattle.dj_asm_pool.proofs.PoolChains.{kept_append, all_index, all_full}
+use Rattle.dj_asm_pool.proofs.PoolOnce.{has_index_in_once, past_in_once, whole}
 
 -- what has room when it is put has room among all
 pub room_in_whole : (xs ys : List Entry) (e : Entry) → HasPlace (all_kept [] xs) e → HasRoom (index_of (each_once (xs ++ ys)) e) e

@@ -5,14 +5,14 @@ use Rattle.std.proofs.lemmas.Bool.{cases_Bool, false≢true}
 use Rattle.std.proofs.lemmas.List.Elements.{Contains-append_left, Contains-append_right, Contains-append_cases}
 use Rattle.dj_names.specs.trusted.Types.{Name}
 use Rattle.dj_pool.specs.trusted.Pool.{Constant, takes_two}
-use Rattle.dj_entries.specs.declared.key.Key.{Key}
-use Rattle.dj_entries.specs.declared.key.Key.TheVariants as keys
-use Rattle.dj_entries.specs.Keys.{key_width, key_widths, next_index, most_next, StandsAt, IsKept, IsPlaced}
-use Rattle.dj_entries.specs.trusted.Entries.{Entry, Utf8, Integer, Long, Class, Text, NameAndType, Field, Method, InterfaceMethod, Dynamic, same_entry, width, widths, before, index_of, constant_of}
-use Rattle.dj_entries.specs.Pooling.{constant_of_key, constants_in, constants_of, named_by, EndsIn, kept, HasNumber, HasIndex, AreKeysOf, IsFull, PutsOne}
-use Rattle.dj_entries.proofs.Members.{none_in, in_here, in_rest, in_cases, in_map, from_map, each_in, each_from, each_append}
-use Rattle.dj_entries.proofs.EntryLaws.{same_is, same_itself, index_is}
-use Rattle.dj_entries.proofs.PoolingLaws.{map_seam, seam_in, same_keys, index_absent, index_first, has_index_with, constant_stays, constants_with, same_entries}
+use Rattle.dj_asm_pool.specs.declared.key.Key.{Key}
+use Rattle.dj_asm_pool.specs.declared.key.Key.TheVariants as keys
+use Rattle.dj_asm_pool.specs.Keys.{key_width, key_widths, next_index, most_next, StandsAt, IsKept, IsPlaced}
+use Rattle.dj_asm_pool.specs.trusted.Entries.{Entry, Utf8, Integer, Long, Class, Text, NameAndType, Field, Method, InterfaceMethod, Dynamic, same_entry, width, widths, before, index_of, constant_of}
+use Rattle.dj_asm_pool.specs.Pooling.{constant_of_key, constants_in, constants_of, named_by, EndsIn, kept, HasNumber, HasIndex, AreKeysOf, IsFull, PutsOne}
+use Rattle.dj_asm_pool.proofs.Members.{none_in, in_here, in_rest, in_cases, in_map, from_map, each_in, each_from, each_append}
+use Rattle.dj_asm_pool.proofs.EntryLaws.{same_is, same_itself, index_is}
+use Rattle.dj_asm_pool.proofs.PoolingLaws.{map_seam, seam_in, same_keys, index_absent, index_first, has_index_with, constant_stays, constants_with, same_entries}
 
 -- ---- widths
 

@@ -8,13 +8,13 @@ use Rattle.std.specs.Cmp.Lexicographic.{bytes_decides}
 use Rattle.dj_names.specs.trusted.Types.{Name, same_name}
 use Rattle.dj_pool.specs.trusted.Pool as pool
 use Rattle.dj_pool.specs.trusted.Pool.{Constant, takes_two, indexed, constant_at, text_of, class_text_of, names_of, both, text_at, class_name_at, name_and_type_at}
-use Rattle.dj_entries.specs.declared.key.Key.{Key}
-use Rattle.dj_entries.specs.declared.key.Key.TheVariants as keys
-use Rattle.dj_entries.specs.Keys.{most_next}
-use Rattle.dj_entries.specs.trusted.Entries.{Entry, Utf8, Integer, Long, Class, Text, NameAndType, Field, Method, InterfaceMethod, Dynamic, same_entry, width, widths, before, index_of, constant_of, pool_of}
-use Rattle.dj_entries.specs.Pooling.{IsNumberOf, constant_of_key, constants_of, entry_in, entries_in, named_by, HasNumber, HasIndex, AreKeysOf, keyed_entries}
-use Rattle.dj_entries.proofs.Members.{none_in, in_here, in_rest, in_cases, each_in, each_from}
-use Rattle.dj_entries.proofs.EntryLaws.{same_is, same_itself, constant_found, index_is}
+use Rattle.dj_asm_pool.specs.declared.key.Key.{Key}
+use Rattle.dj_asm_pool.specs.declared.key.Key.TheVariants as keys
+use Rattle.dj_asm_pool.specs.Keys.{most_next}
+use Rattle.dj_asm_pool.specs.trusted.Entries.{Entry, Utf8, Integer, Long, Class, Text, NameAndType, Field, Method, InterfaceMethod, Dynamic, same_entry, width, widths, before, index_of, constant_of, pool_of}
+use Rattle.dj_asm_pool.specs.Pooling.{IsNumberOf, constant_of_key, constants_of, entry_in, entries_in, named_by, HasNumber, HasIndex, AreKeysOf, keyed_entries}
+use Rattle.dj_asm_pool.proofs.Members.{none_in, in_here, in_rest, in_cases, each_in, each_from}
+use Rattle.dj_asm_pool.proofs.EntryLaws.{same_is, same_itself, constant_found, index_is}
 
 -- ---- lists
 

@@ -9,13 +9,13 @@ use Rattle.dj_names.specs.trusted.ModifiedUtf8.{units_text, IsModifiedUtf8}
 use Rattle.dj_names.specs.trusted.Names.{IsUnqualifiedName, IsMethodName}
 use Rattle.dj_names.specs.trusted.Descriptors.{IsFieldDescriptor, IsMethodDescriptor}
 use Rattle.dj_pool.specs.trusted.Pool.{IsClassText}
-use Rattle.dj_source.specs.trusted.Items.{Exactly}
-use Rattle.dj_source.specs.trusted.Lines as lines
-use Rattle.dj_source.specs.trusted.Lines.{Value, IntValue, LongValue, StringValue, IntLiteral, StringLiteral, ClassLiteral, FrameType, Simple, Object, New, Same, Stack1, Chop, Append, Full, Plain, Push, Local, Increment, Load, LoadLong, Jump, Table, Lookup, Member, ClassOf, Array, Multi, Labelled, Catch, Line, Version, Super, Implements, Abstract, Stack, Locals, Beside, Framed, Does, End, FitsBits, IsFrameType, IsFieldUse, IsMethodUse, IsLine, IsSized, value_items, type_item}
-use Rattle.dj_entries.specs.trusted.Entries.{Entry, Utf8, Integer, Long, Class, Text, NameAndType, Field, Method, InterfaceMethod, Dynamic, with_parts}
-use Rattle.dj_entries.specs.trusted.Needs.{member_entry, type_entries, constant_value_name, code_name, stack_map_name, head_entries, instruction_entries, catch_entries, stack_map_entries, frame_entries}
-use Rattle.dj_entries.proofs.Members.{each_append, each_first, each_last}
-use Rattle.dj_entries.proofs.TokenUnits.{Sixteen, ItemFits, LineFits}
+use Rattle.dj_asm_source.specs.trusted.Items.{Exactly}
+use Rattle.dj_asm_source.specs.trusted.Lines as lines
+use Rattle.dj_asm_source.specs.trusted.Lines.{Value, IntValue, LongValue, StringValue, IntLiteral, StringLiteral, ClassLiteral, FrameType, Simple, Object, New, Same, Stack1, Chop, Append, Full, Plain, Push, Local, Increment, Load, LoadLong, Jump, Table, Lookup, Member, ClassOf, Array, Multi, Labelled, Catch, Line, Version, Super, Implements, Abstract, Stack, Locals, Beside, Framed, Does, End, FitsBits, IsFrameType, IsFieldUse, IsMethodUse, IsLine, IsSized, value_items, type_item}
+use Rattle.dj_asm_pool.specs.trusted.Entries.{Entry, Utf8, Integer, Long, Class, Text, NameAndType, Field, Method, InterfaceMethod, Dynamic, with_parts}
+use Rattle.dj_asm_pool.specs.trusted.Needs.{member_entry, type_entries, constant_value_name, code_name, stack_map_name, head_entries, instruction_entries, catch_entries, stack_map_entries, frame_entries}
+use Rattle.dj_asm_pool.proofs.Members.{each_append, each_first, each_last}
+use Rattle.dj_asm_pool.proofs.TokenUnits.{Sixteen, ItemFits, LineFits}
 
 -- ---- entries
 

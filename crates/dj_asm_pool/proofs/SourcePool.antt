@@ -8,15 +8,15 @@ use Rattle.dj_names.specs.trusted.Types.{Name}
 use Rattle.dj_names.specs.trusted.Names.{IsUnqualifiedName, IsMethodName}
 use Rattle.dj_names.specs.trusted.Descriptors.{IsFieldDescriptor, IsMethodDescriptor}
 use Rattle.dj_pool.specs.trusted.Pool.{Constant, text_of, class_text_of, names_of, constant_at, text_at, desc_at, IsClassText, NamesText, NamesAnyClass, NamesDesc, IsConstant, IsPool}
-use Rattle.dj_source.specs.trusted.Lines.{Line, IsLine, IsSized}
-use Rattle.dj_source.specs.trusted.Sources.{Source, MethodSource, head_lines, method_lines, lines_of, IsTextOf}
-use Rattle.dj_entries.specs.trusted.Entries.{Entry, Utf8, Integer, Long, Class, Text, NameAndType, Field, Method, InterfaceMethod, Dynamic, with_parts, width, widths, before, index_of, constant_of, pool_of}
-use Rattle.dj_entries.specs.trusted.Needs.{Need, needs_at, needs, method_needs, methods_needs, needs_of, needed_entry, entries_of, index_in, head_entries, instruction_entries, catch_entries, stack_map_entries, frame_entries}
-use Rattle.dj_entries.specs.trusted.Room.{IsShort, HasRoom, IsPastPool, NoLine}
-use Rattle.dj_entries.proofs.Members.{in_here, in_rest, from_map, in_map, each_in, each_from, each_append, each_first, each_last}
-use Rattle.dj_entries.proofs.EntryLaws.{once_has, once_from, once_differ, each_stands_once, parts_of, ComeBefore, Nothing, all_parts_seen, append_seen, parts_stand_before, parts_stand, constant_count, index_is, constant_found, all_fit}
-use Rattle.dj_entries.proofs.TokenUnits.{LineFits, texts_fit}
-use Rattle.dj_entries.proofs.RightEntries.{IsRight, AllRight, parts_right, Good, head_right, instruction_right, catch_right, stack_map_line_right, frame_right}
+use Rattle.dj_asm_source.specs.trusted.Lines.{Line, IsLine, IsSized}
+use Rattle.dj_asm_source.specs.trusted.Sources.{Source, MethodSource, head_lines, method_lines, lines_of, IsTextOf}
+use Rattle.dj_asm_pool.specs.trusted.Entries.{Entry, Utf8, Integer, Long, Class, Text, NameAndType, Field, Method, InterfaceMethod, Dynamic, with_parts, width, widths, before, index_of, constant_of, pool_of}
+use Rattle.dj_asm_pool.specs.trusted.Needs.{Need, needs_at, needs, method_needs, methods_needs, needs_of, needed_entry, entries_of, index_in, head_entries, instruction_entries, catch_entries, stack_map_entries, frame_entries}
+use Rattle.dj_asm_pool.specs.trusted.Room.{IsShort, HasRoom, IsPastPool, NoLine}
+use Rattle.dj_asm_pool.proofs.Members.{in_here, in_rest, from_map, in_map, each_in, each_from, each_append, each_first, each_last}
+use Rattle.dj_asm_pool.proofs.EntryLaws.{once_has, once_from, once_differ, each_stands_once, parts_of, ComeBefore, Nothing, all_parts_seen, append_seen, parts_stand_before, parts_stand, constant_count, index_is, constant_found, all_fit}
+use Rattle.dj_asm_pool.proofs.TokenUnits.{LineFits, texts_fit}
+use Rattle.dj_asm_pool.proofs.RightEntries.{IsRight, AllRight, parts_right, Good, head_right, instruction_right, catch_right, stack_map_line_right, frame_right}
 
 -- ---- what is needed
 

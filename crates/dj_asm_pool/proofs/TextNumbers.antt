@@ -7,9 +7,9 @@ use Rattle.std.proofs.lemmas.Bool.{cases_Bool, false≢true}
 use Rattle.std.proofs.lemmas.Iterator.Adapters.{position_from-zero}
 use Rattle.indexmap.specs.IndexSet.{insert_key}
 use Rattle.dj_names.specs.trusted.Types.{Name}
-use Rattle.dj_entries.specs.Pooling.{IsFound}
-use Rattle.dj_entries.proofs.Members.{none_in, in_here, in_rest, in_cases}
-use Rattle.dj_entries.proofs.PoolingLaws.{map_seam}
+use Rattle.dj_asm_pool.specs.Pooling.{IsFound}
+use Rattle.dj_asm_pool.proofs.Members.{none_in, in_here, in_rest, in_cases}
+use Rattle.dj_asm_pool.proofs.PoolingLaws.{map_seam}
 
 pub same_length : {A B : Type 0} (f : A → B) (xs : List A) → length (map f xs) ≡ length xs
 same_length f [] = refl

@@ -10,11 +10,11 @@ use Rattle.std.proofs.lemmas.List.{length-take, length-drop}
 use Rattle.std.proofs.Math.Nat.{pow-le-pow_right}
 use Rattle.std.proofs.lemmas.Int.Digits.{digits_value-lt}
 use Rattle.dj_names.specs.trusted.ModifiedUtf8.{IsModifiedUtf8}
-use Rattle.dj_tokens.specs.trusted.Words.{is_blank, is_plain, begins_escape, escaped_unit, word_units, Opened, with_unit, string_units, Token, Word, Quoted, LineEnd, Placed, Piece, bad, word_piece, string_piece, comment_piece, piece_of, placed_at, tokens_after, line_tokens, tokens_of}
-use Rattle.dj_source.specs.trusted.Items.{Item, Exactly, Flags, Number, Called, Text, Ended, Says}
-use Rattle.dj_source.specs.trusted.Lines.{Line, items_of}
-use Rattle.dj_source.specs.trusted.Sources.{Source, line_items, lines_of, sentence, token_of, IsTextOf}
-use Rattle.dj_entries.proofs.Members.{each_append, each_first, each_last}
+use Rattle.dj_asm_tokens.specs.trusted.Words.{is_blank, is_plain, begins_escape, escaped_unit, word_units, Opened, with_unit, string_units, Token, Word, Quoted, LineEnd, Placed, Piece, bad, word_piece, string_piece, comment_piece, piece_of, placed_at, tokens_after, line_tokens, tokens_of}
+use Rattle.dj_asm_source.specs.trusted.Items.{Item, Exactly, Flags, Number, Called, Text, Ended, Says}
+use Rattle.dj_asm_source.specs.trusted.Lines.{Line, items_of}
+use Rattle.dj_asm_source.specs.trusted.Sources.{Source, line_items, lines_of, sentence, token_of, IsTextOf}
+use Rattle.dj_asm_pool.proofs.Members.{each_append, each_first, each_last}
 
 abbrev pub Sixteen : List ℕ → Type 0
 Sixteen units = AllByRecursion (λ u. u < 2 ^ 16) units

@@ -3,25 +3,25 @@ use Rattle.std.proofs.Common.{◌≡◌, ℕ, ◌+◌, ◌<◌, ◌≤◌, ◌�
 use Rattle.std.specs.List.{enumerate_from, AllByRecursion}
 use Rattle.std.proofs.lemmas.List.{length-map, length-take-le, drop_all}
 use Rattle.std.proofs.lemmas.List.Elements.{Contains-append_left, Contains-append_right, Contains-append_cases}
-use Rattle.dj_source.specs.trusted.Lines.{Line, Value, Class, Version, Super, Implements, Field}
-use Rattle.dj_source.specs.trusted.Sources.{Source, MethodSource, version_lines, field_line, method_lines, head_lines, lines_of, FieldSource}
-use Rattle.dj_source.specs.LabelReading.{sections_of, section_size}
-use Rattle.dj_source.specs.declared.syntax.Line as the_line
-use Rattle.dj_source.specs.LineViews.{line_view}
-use Rattle.dj_source.proofs.Sections.{source_sections}
-use Rattle.dj_source.proofs.Labellings.{cut}
+use Rattle.dj_asm_source.specs.trusted.Lines.{Line, Value, Class, Version, Super, Implements, Field}
+use Rattle.dj_asm_source.specs.trusted.Sources.{Source, MethodSource, version_lines, field_line, method_lines, head_lines, lines_of, FieldSource}
+use Rattle.dj_asm_source.specs.LabelReading.{sections_of, section_size}
+use Rattle.dj_asm_source.specs.declared.syntax.Line as the_line
+use Rattle.dj_asm_source.specs.LineViews.{line_view}
+use Rattle.dj_asm_source.proofs.Sections.{source_sections}
+use Rattle.dj_asm_source.proofs.Labellings.{cut}
 use Rattle.dj_names.specs.trusted.Types.{Name}
-use Rattle.dj_entries.specs.trusted.Entries.{Entry, each_once, index_of}
-use Rattle.dj_entries.specs.trusted.Room.{HasRoom, IsPastPool}
-use Rattle.dj_entries.specs.Room.{IsFirst}
-use Rattle.dj_entries.specs.trusted.Needs.{Need, needs_at, needs, method_needs, methods_needs, needs_of, needed_entry, index_in, head_entries, instruction_entries, catch_entries, stack_map_entries, frame_entries}
-use Rattle.dj_entries.specs.Pooling.{EndsIn, all_kept, HasIndex, IsFull}
-use Rattle.dj_entries.specs.PoolNeeds.{HasPlace, LacksPlace, OneLacksPlace, all_parts, PutsNeeds, IsPoolOf}
-use Rattle.dj_entries.specs.Walking.{noted, IsUpTo, OneLacks, IsOfOne, AreWalked, Walks, section_needs}
-use Rattle.dj_entries.proofs.Members.{each_in, in_map, from_map, each_append}
-use Rattle.dj_entries.proofs.PoolChains.{kept_append, all_index, all_full}
-use Rattle.dj_entries.proofs.PoolEntries.{one_more}
-use Rattle.dj_entries.proofs.PoolRoom.{room_in_whole, lacks_in_whole}
+use Rattle.dj_asm_pool.specs.trusted.Entries.{Entry, each_once, index_of}
+use Rattle.dj_asm_pool.specs.trusted.Room.{HasRoom, IsPastPool}
+use Rattle.dj_asm_pool.specs.Room.{IsFirst}
+use Rattle.dj_asm_pool.specs.trusted.Needs.{Need, needs_at, needs, method_needs, methods_needs, needs_of, needed_entry, index_in, head_entries, instruction_entries, catch_entries, stack_map_entries, frame_entries}
+use Rattle.dj_asm_pool.specs.Pooling.{EndsIn, all_kept, HasIndex, IsFull}
+use Rattle.dj_asm_pool.specs.PoolNeeds.{HasPlace, LacksPlace, OneLacksPlace, all_parts, PutsNeeds, IsPoolOf}
+use Rattle.dj_asm_pool.specs.Walking.{noted, IsUpTo, OneLacks, IsOfOne, AreWalked, Walks, section_needs}
+use Rattle.dj_asm_pool.proofs.Members.{each_in, in_map, from_map, each_append}
+use Rattle.dj_asm_pool.proofs.PoolChains.{kept_append, all_index, all_full}
+use Rattle.dj_asm_pool.proofs.PoolEntries.{one_more}
+use Rattle.dj_asm_pool.proofs.PoolRoom.{room_in_whole, lacks_in_whole}
 
 -- ---- lists
 

@@ -1,8 +1,8 @@
 -- Constants by the numbers in them, in the order of their indexes.
 use Rattle.std.specs.Prelude.{◌≡◌, ℕ, ◌+◌, ◌<◌, ◌≤◌, ◌⊎◌, List, [], ◌∷◌, ◌++◌, Contains, Option, Some, None, Result, Ok, Err}
 use Rattle.std.specs.Map.{keys_of}
-use Rattle.dj_entries.specs.declared.key.Key.{Key}
-use Rattle.dj_entries.specs.declared.key.Key.TheVariants as keys
+use Rattle.dj_asm_pool.specs.declared.key.Key.{Key}
+use Rattle.dj_asm_pool.specs.declared.key.Key.TheVariants as keys
 
 -- JVMS 4.4.5: a long takes two indexes
 abbrev pub key_width : Key → ℕ

@@ -1,12 +1,12 @@
 -- What the needs of a line do to the pool: the code's own words.
 use Rattle.std.specs.Prelude.{◌≡◌, ℕ, ◌⊎◌, Bool, true, false, nat_lt, List, [], map, length, Contains, Option}
 use Rattle.std.specs.List.{AllByRecursion, flat_map}
-use Rattle.dj_source.specs.trusted.Sources.{Source}
-use Rattle.dj_entries.specs.trusted.Entries.{Entry, Utf8, with_parts}
-use Rattle.dj_entries.specs.trusted.Needs.{needs_of, needed_entry}
-use Rattle.dj_entries.specs.trusted.Room.{IsShort, IsPastPool}
-use Rattle.dj_entries.specs.Room.{IsFirst}
-use Rattle.dj_entries.specs.Pooling.{EndsIn, all_kept, HasIndex, IsFull}
+use Rattle.dj_asm_source.specs.trusted.Sources.{Source}
+use Rattle.dj_asm_pool.specs.trusted.Entries.{Entry, Utf8, with_parts}
+use Rattle.dj_asm_pool.specs.trusted.Needs.{needs_of, needed_entry}
+use Rattle.dj_asm_pool.specs.trusted.Room.{IsShort, IsPastPool}
+use Rattle.dj_asm_pool.specs.Room.{IsFirst}
+use Rattle.dj_asm_pool.specs.Pooling.{EndsIn, all_kept, HasIndex, IsFull}
 
 -- the test of the code: a text has at most 65,535 bytes
 abbrev pub is_short : List ℕ → Bool

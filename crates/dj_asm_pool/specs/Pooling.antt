@@ -5,10 +5,10 @@ use Rattle.std.specs.Option.{unwrap_or}
 use Rattle.dj_names.specs.trusted.Types.{Name}
 use Rattle.dj_pool.specs.trusted.Pool as pool
 use Rattle.dj_pool.specs.trusted.Pool.{Constant, indexed, text_at, class_name_at, name_and_type_at}
-use Rattle.dj_entries.specs.declared.key.Key.{Key}
-use Rattle.dj_entries.specs.declared.key.Key.TheVariants as keys
-use Rattle.dj_entries.specs.Keys.{most_next}
-use Rattle.dj_entries.specs.trusted.Entries.{Entry, Utf8, Integer, Long, Class, Text, NameAndType, Field, Method, InterfaceMethod, Dynamic, same_entry, class_with_parts, names_with_parts, with_parts, width, widths, index_of, constant_of}
+use Rattle.dj_asm_pool.specs.declared.key.Key.{Key}
+use Rattle.dj_asm_pool.specs.declared.key.Key.TheVariants as keys
+use Rattle.dj_asm_pool.specs.Keys.{most_next}
+use Rattle.dj_asm_pool.specs.trusted.Entries.{Entry, Utf8, Integer, Long, Class, Text, NameAndType, Field, Method, InterfaceMethod, Dynamic, same_entry, class_with_parts, names_with_parts, with_parts, width, widths, index_of, constant_of}
 
 -- ---- texts by their numbers
 

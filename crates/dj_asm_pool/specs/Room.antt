@@ -1,6 +1,6 @@
 -- Beside trusted/Room.antt: what no clause of the call `djvm` reaches.
 use Rattle.std.specs.Prelude.{ℕ, ◌<◌, Option, Some, None}
-use Rattle.dj_entries.specs.trusted.Room.{NoLine}
+use Rattle.dj_asm_pool.specs.trusted.Room.{NoLine}
 
 -- ---- lines
 

@@ -1,13 +1,13 @@
 -- What the pool is after some needs of lines, one after the other: the code's own words. No public clause cites them.
 use Rattle.std.specs.Prelude.{◌≡◌, ℕ, ◌+◌, ◌≤◌, ◌⊎◌, Bool, true, false, nat_lt, if◌then◌else◌, List, [], ◌∷◌, ◌++◌, length, map, Contains, Option, Some, None}
 use Rattle.std.specs.List.{enumerate_from}
-use Rattle.dj_source.specs.trusted.Lines.{Line}
-use Rattle.dj_entries.specs.declared.walk.Kind.{Kind}
-use Rattle.dj_entries.specs.declared.walk.Kind.TheVariants as kinds
-use Rattle.dj_entries.specs.trusted.Entries.{Entry}
-use Rattle.dj_entries.specs.trusted.Needs.{head_entries, instruction_entries, catch_entries, stack_map_entries, frame_entries, Need, needs, method_needs, needed_entry}
-use Rattle.dj_entries.specs.Pooling.{all_kept}
-use Rattle.dj_entries.specs.PoolNeeds.{HasPlace, LacksPlace}
+use Rattle.dj_asm_source.specs.trusted.Lines.{Line}
+use Rattle.dj_asm_pool.specs.declared.walk.Kind.{Kind}
+use Rattle.dj_asm_pool.specs.declared.walk.Kind.TheVariants as kinds
+use Rattle.dj_asm_pool.specs.trusted.Entries.{Entry}
+use Rattle.dj_asm_pool.specs.trusted.Needs.{head_entries, instruction_entries, catch_entries, stack_map_entries, frame_entries, Need, needs, method_needs, needed_entry}
+use Rattle.dj_asm_pool.specs.Pooling.{all_kept}
+use Rattle.dj_asm_pool.specs.PoolNeeds.{HasPlace, LacksPlace}
 
 abbrev pub kind_entries : Kind → Line → List Entry
 kind_entries kinds.Head = head_entries

@@ -2,7 +2,7 @@
 ghost use Rattle.std.specs.Prelude.{◌≡◌, [], ◌∷◌, ◌++◌, map, IfOk, OnOk};
 ghost use Rattle.dj_pool.specs.trusted.Pool.{indexed, takes_two};
 ghost use Rattle.dj_pool.specs.Views.{constant_of};
-ghost use Rattle.dj_entries.specs.Pooling.{constant_of_key, constants_in};
+ghost use Rattle.dj_asm_pool.specs.Pooling.{constant_of_key, constants_in};
 
 use crate::key::Key;
 use crate::texts::Texts;

@@ -1,15 +1,15 @@
 //! Indexes of entries that are in the pool; an index is 0 where the entry isn't in the pool or ends past the greatest index.
 ghost use Rattle.std.specs.Prelude.{◌≡◌, IfOk};
 ghost use Rattle.dj_names.specs.trusted.ModifiedUtf8.{units_text};
-ghost use Rattle.dj_tokens.specs.Views.{string_units_of};
-ghost use Rattle.dj_source.specs.TypeViews.{literal_view, value_view};
-ghost use Rattle.dj_entries.specs.trusted.Entries as entries;
-ghost use Rattle.dj_entries.specs.trusted.Needs.{member_entry, literal_entry, value_entry};
-ghost use Rattle.dj_entries.specs.Pooling.{found_index};
+ghost use Rattle.dj_asm_tokens.specs.Views.{string_units_of};
+ghost use Rattle.dj_asm_source.specs.TypeViews.{literal_view, value_view};
+ghost use Rattle.dj_asm_pool.specs.trusted.Entries as entries;
+ghost use Rattle.dj_asm_pool.specs.trusted.Needs.{member_entry, literal_entry, value_entry};
+ghost use Rattle.dj_asm_pool.specs.Pooling.{found_index};
 
 use crate::key::Key;
 use crate::pool::PoolBuilder;
-use dj_source::{Literal, Quoted, Value};
+use dj_asm_source::{Literal, Quoted, Value};
 use std::alloc::{AllocError, Global};
 
 impl PoolBuilder {

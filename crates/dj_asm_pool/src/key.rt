@@ -1,6 +1,6 @@
 //! Constants by the numbers in them.
 ghost use Rattle.std.specs.Prelude.{◌≡◌, ◌≤◌};
-ghost use Rattle.dj_entries.specs.Keys.{key_width};
+ghost use Rattle.dj_asm_pool.specs.Keys.{key_width};
 
 /// A constant: what it is, and the number of its text or the indexes of its parts.
 #[derive(Clone, Copy, PartialEq, Eq, Hash)]

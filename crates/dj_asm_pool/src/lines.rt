@@ -2,16 +2,16 @@
 ghost use Rattle.std.specs.Prelude.{◌≡◌, [], ◌∷◌, codes, IfOk};
 ghost use Rattle.std.specs.Option.{option_map};
 ghost use Rattle.dj_names.specs.trusted.ModifiedUtf8.{units_text};
-ghost use Rattle.dj_tokens.specs.Views.{string_units_of};
-ghost use Rattle.dj_source.specs.LineViews.{line_view};
-ghost use Rattle.dj_source.specs.TypeViews.{value_view};
-ghost use Rattle.dj_entries.specs.trusted.Entries as entries;
-ghost use Rattle.dj_entries.specs.trusted.Needs.{value_entry, value_entries, code_name, constant_value_name, head_entries, catch_entries};
-ghost use Rattle.dj_entries.specs.PoolNeeds.{PutsNeeds};
+ghost use Rattle.dj_asm_tokens.specs.Views.{string_units_of};
+ghost use Rattle.dj_asm_source.specs.LineViews.{line_view};
+ghost use Rattle.dj_asm_source.specs.TypeViews.{value_view};
+ghost use Rattle.dj_asm_pool.specs.trusted.Entries as entries;
+ghost use Rattle.dj_asm_pool.specs.trusted.Needs.{value_entry, value_entries, code_name, constant_value_name, head_entries, catch_entries};
+ghost use Rattle.dj_asm_pool.specs.PoolNeeds.{PutsNeeds};
 
 use crate::needs::{both, need_class, need_integer, need_long, need_names, need_string, need_text};
 use crate::pool::PoolBuilder;
-use dj_source::{Line, Quoted, Value};
+use dj_asm_source::{Line, Quoted, Value};
 use std::alloc::{AllocError, Global};
 
 /// Puts a string with its text.

@@ -1,9 +1,9 @@
 //! What lines need of the pool.
 ghost use Rattle.std.specs.Prelude.{◌≡◌, ◌&&◌, [], ◌∷◌, is_some, IfOk};
-ghost use Rattle.dj_entries.specs.trusted.Entries as entries;
-ghost use Rattle.dj_entries.specs.trusted.Needs.{member_entry};
-ghost use Rattle.dj_entries.specs.Pooling.{Puts};
-ghost use Rattle.dj_entries.specs.PoolNeeds.{is_short, PutsNeeds};
+ghost use Rattle.dj_asm_pool.specs.trusted.Entries as entries;
+ghost use Rattle.dj_asm_pool.specs.trusted.Needs.{member_entry};
+ghost use Rattle.dj_asm_pool.specs.Pooling.{Puts};
+ghost use Rattle.dj_asm_pool.specs.PoolNeeds.{is_short, PutsNeeds};
 
 use crate::pool::PoolBuilder;
 use std::alloc::{AllocError, Global};

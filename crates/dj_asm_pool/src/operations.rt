@@ -1,16 +1,16 @@
 //! What instructions and frames need of the pool.
 ghost use Rattle.std.specs.Prelude.{◌++◌, map, IfOk};
 ghost use Rattle.std.specs.List.{flat_map};
-ghost use Rattle.dj_source.specs.OperationViews.{operation_view};
-ghost use Rattle.dj_source.specs.LineViews.{frame_view, line_view};
-ghost use Rattle.dj_source.specs.TypeViews.{type_view};
-ghost use Rattle.dj_entries.specs.trusted.Needs.{operation_entries, type_entries, types_entries, instruction_entries, stack_map_entries, frame_entries};
-ghost use Rattle.dj_entries.specs.PoolNeeds.{PutsNeeds};
+ghost use Rattle.dj_asm_source.specs.OperationViews.{operation_view};
+ghost use Rattle.dj_asm_source.specs.LineViews.{frame_view, line_view};
+ghost use Rattle.dj_asm_source.specs.TypeViews.{type_view};
+ghost use Rattle.dj_asm_pool.specs.trusted.Needs.{operation_entries, type_entries, types_entries, instruction_entries, stack_map_entries, frame_entries};
+ghost use Rattle.dj_asm_pool.specs.PoolNeeds.{PutsNeeds};
 
 use crate::needs::{both, need_class, need_dynamic, need_long, need_member};
 use crate::pool::PoolBuilder;
 use crate::types::{need_literal, need_stack_map, need_type, need_types};
-use dj_source::{Frame, FrameType, Line, Operation};
+use dj_asm_source::{Frame, FrameType, Line, Operation};
 use std::alloc::{AllocError, Global};
 
 /// Puts what an instruction needs.

@@ -1,6 +1,6 @@
 //! Constants in the order of their indexes, each once.
 ghost use Rattle.std.specs.Prelude.{◌≡◌, [], nat_lt};
-ghost use Rattle.dj_entries.specs.Keys.{next_index, most_next, AddsKey, IsWithin, FindsKey};
+ghost use Rattle.dj_asm_pool.specs.Keys.{next_index, most_next, AddsKey, IsWithin, FindsKey};
 
 use crate::key::{Key, width};
 use indexmap::IndexMap;
@@ -20,8 +20,8 @@ pub(crate) struct Places {
 impl Model for Places {
     ghost use Rattle.std.specs.Prelude.{List};
     ghost use Rattle.std.specs.Map.{keys_of};
-    ghost use Rattle.dj_entries.specs.Keys.{IsNumbered};
-    ghost use Rattle.dj_entries.specs.declared.key.Key.{Key};
+    ghost use Rattle.dj_asm_pool.specs.Keys.{IsNumbered};
+    ghost use Rattle.dj_asm_pool.specs.declared.key.Key.{Key};
 
     ghost Value = { List Key };
 

@@ -1,8 +1,8 @@
 //! The constant pool as entries are needed.
 ghost use Rattle.std.specs.Prelude.{◌≡◌, [], ◌∷◌, map, IfOk};
-ghost use Rattle.dj_entries.specs.trusted.Entries as entries;
+ghost use Rattle.dj_asm_pool.specs.trusted.Entries as entries;
 ghost use Rattle.dj_pool.specs.Views.{constant_of};
-ghost use Rattle.dj_entries.specs.Pooling.{PutsOne, Puts, PutsPair, IsKeyOf, member_parts, found_index, IsSought};
+ghost use Rattle.dj_asm_pool.specs.Pooling.{PutsOne, Puts, PutsPair, IsKeyOf, member_parts, found_index, IsSought};
 
 use crate::entries::entries_of;
 use crate::key::Key;
@@ -21,8 +21,8 @@ pub struct PoolBuilder {
 
 impl Model for PoolBuilder {
     ghost use Rattle.std.specs.Prelude.{List};
-    ghost use Rattle.dj_entries.specs.trusted.Entries as entries;
-    ghost use Rattle.dj_entries.specs.Pooling.{AreKeysOf, keyed_entries};
+    ghost use Rattle.dj_asm_pool.specs.trusted.Entries as entries;
+    ghost use Rattle.dj_asm_pool.specs.Pooling.{AreKeysOf, keyed_entries};
 
     ghost Value = { List entries.Entry };
 

@@ -1,6 +1,6 @@
 //! Texts, each once, by their numbers.
 ghost use Rattle.std.specs.Prelude.{◌≡◌, [], get_or, Contains};
-ghost use Rattle.dj_entries.specs.Pooling.{IsFound, PutsText};
+ghost use Rattle.dj_asm_pool.specs.Pooling.{IsFound, PutsText};
 
 use indexmap::IndexSet;
 use std::alloc::{AllocError, Global};

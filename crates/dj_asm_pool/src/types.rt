@@ -1,14 +1,14 @@
 //! What literals and the types of frames need of the pool.
 ghost use Rattle.std.specs.Prelude.{◌≡◌, [], ◌∷◌, map, IfOk};
 ghost use Rattle.std.specs.List.{flat_map};
-ghost use Rattle.dj_source.specs.TypeViews.{literal_view, type_view};
-ghost use Rattle.dj_entries.specs.trusted.Needs.{literal_entry, type_entries, stack_map_name};
-ghost use Rattle.dj_entries.specs.PoolNeeds.{PutsNeeds};
+ghost use Rattle.dj_asm_source.specs.TypeViews.{literal_view, type_view};
+ghost use Rattle.dj_asm_pool.specs.trusted.Needs.{literal_entry, type_entries, stack_map_name};
+ghost use Rattle.dj_asm_pool.specs.PoolNeeds.{PutsNeeds};
 
 use crate::lines::need_quoted;
 use crate::needs::{both, need_class, need_integer, need_text};
 use crate::pool::PoolBuilder;
-use dj_source::{FrameType, Literal};
+use dj_asm_source::{FrameType, Literal};
 use std::alloc::{AllocError, Global};
 
 /// Puts what ldc pushes.

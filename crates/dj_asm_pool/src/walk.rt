@@ -1,16 +1,16 @@
 //! The pool of a source's lines.
 ghost use Rattle.std.specs.Prelude.{◌≡◌, ◌+◌, ◌<◌, ◌^◌, length, map, IfOk};
 ghost use Rattle.std.specs.List.{enumerate_from};
-ghost use Rattle.dj_source.specs.LineViews.{line_view};
-ghost use Rattle.dj_source.specs.trusted.Sources.{Source, lines_of};
-ghost use Rattle.dj_entries.specs.trusted.Needs.{needs, needs_at, method_needs};
-ghost use Rattle.dj_entries.specs.PoolNeeds.{PutsNeeds, IsPoolOf};
-ghost use Rattle.dj_entries.specs.Walking.{kind_entries, code_needs, noted, Walks};
+ghost use Rattle.dj_asm_source.specs.LineViews.{line_view};
+ghost use Rattle.dj_asm_source.specs.trusted.Sources.{Source, lines_of};
+ghost use Rattle.dj_asm_pool.specs.trusted.Needs.{needs, needs_at, method_needs};
+ghost use Rattle.dj_asm_pool.specs.PoolNeeds.{PutsNeeds, IsPoolOf};
+ghost use Rattle.dj_asm_pool.specs.Walking.{kind_entries, code_needs, noted, Walks};
 
 use crate::lines::{need_catch, need_head};
 use crate::operations::{need_frame_line, need_instruction, need_stack_map_line};
 use crate::pool::PoolBuilder;
-use dj_source::{Line, section_size};
+use dj_asm_source::{Line, section_size};
 use std::alloc::{AllocError, Global};
 
 /// What is put of a line: each kind of need is put for all lines of a method before the next kind.

@@ -3,15 +3,15 @@ use Rattle.std.proofs.Common.{◌≡◌, ℕ, pos, true, List, [], ◌∷◌, �
 use Rattle.std.specs.List.{flat_map, AllByRecursion, AllZip}
 use Rattle.std.proofs.lemmas.Grind.{flat_map-append}
 use Rattle.dj_names.specs.trusted.Names.{IsClassName}
-use Rattle.dj_tokens.specs.trusted.Words.{Token, Word, LineEnd}
-use Rattle.dj_source.specs.trusted.Items.{Item, Says, SaysFlags, SaysCalled, SaysPlainNumber}
-use Rattle.dj_tokens.specs.trusted.Mnemonics.{mnemonics}
-use Rattle.dj_source.specs.trusted.Lines.{Line, Class, Super, Stack, Locals, Does, End, Plain, IsLine, IsSized}
-use Rattle.dj_source.specs.trusted.Sources.{Source, IsSizedSource, line_items, lines_of}
-use Rattle.dj_source.specs.Order.{State, AtClass, AtVersion, AtSuper, AtInterfaces, AtFields, AtMethods, AtStack, AtLocals, InBody, InFrame, run, is_final}
-use Rattle.dj_source.specs.trusted.Faults.{Begins}
-use Rattle.dj_source.proofs.OrderLaws.{run_append}
-use Rattle.dj_source.proofs.OrderSources.{source_of}
+use Rattle.dj_asm_tokens.specs.trusted.Words.{Token, Word, LineEnd}
+use Rattle.dj_asm_source.specs.trusted.Items.{Item, Says, SaysFlags, SaysCalled, SaysPlainNumber}
+use Rattle.dj_asm_tokens.specs.trusted.Mnemonics.{mnemonics}
+use Rattle.dj_asm_source.specs.trusted.Lines.{Line, Class, Super, Stack, Locals, Does, End, Plain, IsLine, IsSized}
+use Rattle.dj_asm_source.specs.trusted.Sources.{Source, IsSizedSource, line_items, lines_of}
+use Rattle.dj_asm_source.specs.Order.{State, AtClass, AtVersion, AtSuper, AtInterfaces, AtFields, AtMethods, AtStack, AtLocals, InBody, InFrame, run, is_final}
+use Rattle.dj_asm_source.specs.trusted.Faults.{Begins}
+use Rattle.dj_asm_source.proofs.OrderLaws.{run_append}
+use Rattle.dj_asm_source.proofs.OrderSources.{source_of}
 use Rattle.dj_ops.specs.trusted.Forms.{form_of}
 
 -- ---- lists

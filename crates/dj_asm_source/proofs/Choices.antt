@@ -1,10 +1,10 @@
 -- Readers of one token, and of what a first token begins.
 use Rattle.std.proofs.Common.{◌≡◌, ◌↔◌, Bool, true, false, cond, List, [], ◌∷◌, ◌++◌, drop, Option, Some, None, refl, sym, ap, ◌∙◌, subst, true≢false}
-use Rattle.dj_bytes.proofs.Options.{some_is}
-use Rattle.dj_tokens.specs.trusted.Words.{Token, Placed}
-use Rattle.dj_source.specs.trusted.Items.{Item, Says}
-use Rattle.dj_source.specs.Reading.{Read, Got, Wrong, Large, Reader, said_by, one, begun, choose}
-use Rattle.dj_source.proofs.Readers.{Lang, Said, Started, Allowed, GotFrom, and_on, WrongFrom, LargeFrom, ReadFrom, IsReader}
+use Rattle.dj_cursor.proofs.Options.{some_is}
+use Rattle.dj_asm_tokens.specs.trusted.Words.{Token, Placed}
+use Rattle.dj_asm_source.specs.trusted.Items.{Item, Says}
+use Rattle.dj_asm_source.specs.Reading.{Read, Got, Wrong, Large, Reader, said_by, one, begun, choose}
+use Rattle.dj_asm_source.proofs.Readers.{Lang, Said, Started, Allowed, GotFrom, and_on, WrongFrom, LargeFrom, ReadFrom, IsReader}
 
 -- ---- lists
 

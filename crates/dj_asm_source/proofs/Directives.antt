@@ -1,10 +1,10 @@
 -- A table of directives, seen through their views.
 use Rattle.std.proofs.Common.{◌≡◌, ℕ, Bool, true, false, cond, List, [], ◌∷◌, map, Option, Some, option_map, codes, bytes_eq, refl, ap, ◌∙◌}
-use Rattle.dj_source.specs.declared.start.Directive.{Directive}
-use Rattle.dj_source.specs.declared.start.Directive.TheVariants as rows
-use Rattle.dj_tokens.specs.WordReading.{row_of}
-use Rattle.dj_source.specs.LineReading.{directives}
-use Rattle.dj_source.specs.LineStarts.{directive_view}
+use Rattle.dj_asm_source.specs.declared.start.Directive.{Directive}
+use Rattle.dj_asm_source.specs.declared.start.Directive.TheVariants as rows
+use Rattle.dj_asm_tokens.specs.WordReading.{row_of}
+use Rattle.dj_asm_source.specs.LineReading.{directives}
+use Rattle.dj_asm_source.specs.LineStarts.{directive_view}
 
 on_row : {K L : Type 0} (f : K → L) (t : Bool) (k : K) (o : Option K) → option_map f (cond t (Some k) o) ≡ cond t (Some (f k)) (option_map f o)
 on_row f true k o = refl

@@ -1,15 +1,15 @@
 -- Texts with their faults at plain values: what is Syntax at which line and column, and which numbers are Large.
 use Rattle.std.proofs.Common.{◌≡◌, ℕ, ℤ, pos, List, [], ◌∷◌, ◌++◌, Option, Some, None, codes, refl, sym, ap, subst, ◌∙◌, nat_abs, slice_index, inl, inr, arith}
 use Rattle.dj_names.specs.trusted.Names.{IsNameByte, IsClassName}
-use Rattle.dj_source.specs.declared.error.AsmError.{AsmError}
-use Rattle.dj_source.specs.declared.error.AsmError.TheVariants as asm_errors
-use Rattle.dj_tokens.specs.trusted.Words.{Token, Word, Quoted, Bad, LineEnd, Placed, word_units, string_units, tokens_after}
+use Rattle.dj_asm_source.specs.declared.error.AsmError.{AsmError}
+use Rattle.dj_asm_source.specs.declared.error.AsmError.TheVariants as asm_errors
+use Rattle.dj_asm_tokens.specs.trusted.Words.{Token, Word, Quoted, Bad, LineEnd, Placed, word_units, string_units, tokens_after}
 use Rattle.std.specs.Str.Parse.{IsNumeral, digits_value}
-use Rattle.dj_source.specs.trusted.Items.{Number, Says, SaysFlags, SaysCalled, SaysPlainNumber, SaysMinusNumber}
-use Rattle.dj_source.specs.trusted.Lines.{FitsBits}
-use Rattle.dj_source.specs.trusted.Sources.{Source, FieldSource, MethodSource, IsSource, IsSizedSource, Reads, IsTextOf}
-use Rattle.dj_source.specs.trusted.Faults.{Begins, IsMisplaced, IsLargeNumber, IsUnfinished, WordFault}
-use Rattle.dj_source.proofs.FaultLaws.{no_fault_of_text, one_word_fault}
+use Rattle.dj_asm_source.specs.trusted.Items.{Number, Says, SaysFlags, SaysCalled, SaysPlainNumber, SaysMinusNumber}
+use Rattle.dj_asm_source.specs.trusted.Lines.{FitsBits}
+use Rattle.dj_asm_source.specs.trusted.Sources.{Source, FieldSource, MethodSource, IsSource, IsSizedSource, Reads, IsTextOf}
+use Rattle.dj_asm_source.specs.trusted.Faults.{Begins, IsMisplaced, IsLargeNumber, IsUnfinished, WordFault}
+use Rattle.dj_asm_source.proofs.FaultLaws.{no_fault_of_text, one_word_fault}
 
 -- ---- the least text
 

@@ -1,10 +1,10 @@
 -- A text that says a source has no fault in its words, and a text has one such fault at most.
 use Rattle.std.proofs.Common.{◌≡◌, ℕ, ◌⊎◌, List, [], ◌∷◌, ◌++◌, map, refl, sym, ap, ◌∙◌, subst, inl, inr, append_assoc}
-use Rattle.dj_source.specs.declared.error.AsmError.{AsmError}
-use Rattle.dj_source.specs.declared.error.AsmError.TheVariants as asm_errors
-use Rattle.dj_tokens.specs.trusted.Words.{Token, Placed, tokens_of}
-use Rattle.dj_source.specs.trusted.Sources.{Source, IsSource, IsSizedSource, Reads, token_of, IsTextOf}
-use Rattle.dj_source.specs.trusted.Faults.{Begins, IsMisplaced, IsLargeNumber, WordFault}
+use Rattle.dj_asm_source.specs.declared.error.AsmError.{AsmError}
+use Rattle.dj_asm_source.specs.declared.error.AsmError.TheVariants as asm_errors
+use Rattle.dj_asm_tokens.specs.trusted.Words.{Token, Placed, tokens_of}
+use Rattle.dj_asm_source.specs.trusted.Sources.{Source, IsSource, IsSizedSource, Reads, token_of, IsTextOf}
+use Rattle.dj_asm_source.specs.trusted.Faults.{Begins, IsMisplaced, IsLargeNumber, WordFault}
 
 map_append : (xs ys : List Placed) → map token_of (xs ++ ys) ≡ map token_of xs ++ map token_of ys
 map_append [] ys = refl

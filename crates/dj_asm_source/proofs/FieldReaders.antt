@@ -11,17 +11,17 @@ use Rattle.dj_names.specs.trusted.DescReading.{field_read, method_read, type_rea
 use Rattle.dj_names.proofs.TestLaws.{unqualified_name_test-decides, method_name_test-decides, class_name_test-decides, field_descriptor_test-decides, method_descriptor_test-decides, array_descriptor_test-decides}
 use Rattle.dj_ops.specs.trusted.Instructions.{IsArrayType}
 use Rattle.dj_pool.specs.trusted.Pool.{IsClassText}
-use Rattle.dj_tokens.specs.trusted.Words.{Token, Word, Quoted, LineEnd}
-use Rattle.dj_source.specs.trusted.Items.{Item, Exactly, Flags, Number, Text, Ended, SaysFlags, SaysPlainNumber}
-use Rattle.dj_tokens.specs.trusted.Mnemonics.{base_word}
-use Rattle.dj_source.specs.trusted.Lines.{Label, FrameType, Simple, IsFrameType, type_item, catch_item, called}
-use Rattle.dj_tokens.specs.WordReading.{class_text_test}
-use Rattle.dj_source.specs.Reading.{one, any_size, word_of, string_of, end_of, exactly, flags_of, number_of, name_of, caught_of, type_of, base_of}
-use Rattle.dj_source.specs.LineReading.{line_end, flags, number, name, label, string, keyword, frame_type, base, caught}
-use Rattle.dj_source.proofs.Readers.{Lang, IsReader}
-use Rattle.dj_source.proofs.Choices.{single, IsReported, IsInhabited, one_reads}
-use Rattle.dj_source.proofs.WordLaws.{end_reported, string_reported, label_reported, exactly_reported, flags_reported, number_reported, any_decides, name_reported, class_text_decides}
-use Rattle.dj_source.proofs.TypeWords.{base_reported, type_reported, caught_reported, IsCaught}
+use Rattle.dj_asm_tokens.specs.trusted.Words.{Token, Word, Quoted, LineEnd}
+use Rattle.dj_asm_source.specs.trusted.Items.{Item, Exactly, Flags, Number, Text, Ended, SaysFlags, SaysPlainNumber}
+use Rattle.dj_asm_tokens.specs.trusted.Mnemonics.{base_word}
+use Rattle.dj_asm_source.specs.trusted.Lines.{Label, FrameType, Simple, IsFrameType, type_item, catch_item, called}
+use Rattle.dj_asm_tokens.specs.WordReading.{class_text_test}
+use Rattle.dj_asm_source.specs.Reading.{one, any_size, word_of, string_of, end_of, exactly, flags_of, number_of, name_of, caught_of, type_of, base_of}
+use Rattle.dj_asm_source.specs.LineReading.{line_end, flags, number, name, label, string, keyword, frame_type, base, caught}
+use Rattle.dj_asm_source.proofs.Readers.{Lang, IsReader}
+use Rattle.dj_asm_source.proofs.Choices.{single, IsReported, IsInhabited, one_reads}
+use Rattle.dj_asm_source.proofs.WordLaws.{end_reported, string_reported, label_reported, exactly_reported, flags_reported, number_reported, any_decides, name_reported, class_text_decides}
+use Rattle.dj_asm_source.proofs.TypeWords.{base_reported, type_reported, caught_reported, IsCaught}
 
 abbrev pub all : {A : Type 0} → A → Type 0
 all a = ⊤

@@ -1,23 +1,23 @@
 -- What reading answers of a text is one thing, and what it is of some texts.
 use Rattle.std.proofs.Common.{◌≡◌, ◌≢◌, ℕ, ◌⊎◌, List, [], ◌∷◌, ◌++◌, Option, Some, None, codes, refl, sym, ap, ◌∙◌, inl, inr, arith}
-use Rattle.dj_bytes.proofs.Options.{some_is}
+use Rattle.dj_cursor.proofs.Options.{some_is}
 use Rattle.dj_names.specs.trusted.DescReading.{class_read, name_read}
 use Rattle.dj_names.specs.trusted.NameReading.{reads_class_name}
 use Rattle.dj_names.specs.Tests.{class_name_test}
-use Rattle.dj_source.specs.declared.error.AsmError.{AsmError}
-use Rattle.dj_source.specs.declared.error.AsmError.TheVariants as asm_errors
-use Rattle.dj_tokens.specs.trusted.Words.{tokens_after, word_units}
-use Rattle.dj_tokens.specs.trusted.Mnemonics.{mnemonics}
-use Rattle.dj_source.specs.trusted.Lines.{Line, Class, Super}
-use Rattle.dj_source.specs.trusted.Sources.{lines_of}
-use Rattle.dj_source.specs.trusted.Faults.{WordFault}
-use Rattle.dj_source.specs.trusted.Labels.{LabelFault, line_numbers}
-use Rattle.dj_source.specs.LineReading.{lines_read}
-use Rattle.dj_source.specs.LabelReading.{marks_from, mislabelled_from, sections_of, mislabelled_after, read_fault, label_error, text_fault}
-use Rattle.dj_source.specs.SourceLines.{TextLines, AreLinesOf, IsFirstFault}
-use Rattle.dj_source.proofs.TextLaws.{lines_are_read, text_lines}
-use Rattle.dj_source.proofs.LabelTextLaws.{none_reported, word_fault_reported, label_fault_reported}
-use Rattle.dj_source.proofs.ReadingLaws.{lines_of_source}
+use Rattle.dj_asm_source.specs.declared.error.AsmError.{AsmError}
+use Rattle.dj_asm_source.specs.declared.error.AsmError.TheVariants as asm_errors
+use Rattle.dj_asm_tokens.specs.trusted.Words.{tokens_after, word_units}
+use Rattle.dj_asm_tokens.specs.trusted.Mnemonics.{mnemonics}
+use Rattle.dj_asm_source.specs.trusted.Lines.{Line, Class, Super}
+use Rattle.dj_asm_source.specs.trusted.Sources.{lines_of}
+use Rattle.dj_asm_source.specs.trusted.Faults.{WordFault}
+use Rattle.dj_asm_source.specs.trusted.Labels.{LabelFault, line_numbers}
+use Rattle.dj_asm_source.specs.LineReading.{lines_read}
+use Rattle.dj_asm_source.specs.LabelReading.{marks_from, mislabelled_from, sections_of, mislabelled_after, read_fault, label_error, text_fault}
+use Rattle.dj_asm_source.specs.SourceLines.{TextLines, AreLinesOf, IsFirstFault}
+use Rattle.dj_asm_source.proofs.TextLaws.{lines_are_read, text_lines}
+use Rattle.dj_asm_source.proofs.LabelTextLaws.{none_reported, word_fault_reported, label_fault_reported}
+use Rattle.dj_asm_source.proofs.ReadingLaws.{lines_of_source}
 
 -- ---- one answer at most
 

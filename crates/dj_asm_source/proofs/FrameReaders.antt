@@ -2,18 +2,18 @@
 use Rattle.std.proofs.Common.{◌≡◌, ℕ, zero, suc, ◌≤◌, Bool, true, false, cond, ℤ, pos, List, [], ◌∷◌, ◌++◌, length, map, drop, Option, Some, None, is_some, codes, option_map, refl, sym, ap, ◌∙◌, subst, inl, inr, arith, append_assoc}
 use Rattle.std.specs.Prelude.{⊤}
 use Rattle.std.specs.List.{AllByRecursion}
-use Rattle.dj_bytes.proofs.Options.{some_is}
-use Rattle.dj_tokens.specs.trusted.Words.{Token, Word, Quoted, Bad, LineEnd, Placed}
-use Rattle.dj_source.specs.trusted.Items.{Item, Exactly, Ended, Says}
-use Rattle.dj_source.specs.trusted.Lines.{FrameType, Simple, Object, New, IsFrameType, type_item, Frame, Same, Stack1, Chop, Append, Full, frame_items, IsFrame, IsSizedFrame}
-use Rattle.dj_tokens.specs.WordReading.{row_of}
-use Rattle.dj_source.specs.Reading.{Read, Got, Wrong, read_map, exactly, type_of, is_between, ◌&◌}
-use Rattle.dj_source.specs.LineReading.{line_end, number, frame_type, types_from, types_until, types_up_to, is_end, is_slash, FrameStart, SameWord, StackWord, ChopWord, AppendWord, FullWord, frame_start, frame_after, frame}
-use Rattle.dj_source.proofs.Readers.{Lang, Said, Started, ReadFrom, IsReader, GotFrom, both, sequence_reads, IsMade, IsSeenAs, seen_read, mapped_reads}
-use Rattle.dj_source.proofs.Choices.{after_first, HasFirst, IsChoice, IsReported, kind_read, none_begun, nothing_left, choose_reads, place}
-use Rattle.dj_source.proofs.WordLaws.{exactly_reported, chop_decides, rows_reported}
-use Rattle.dj_source.proofs.TypeWords.{type_reported, mapped_some}
-use Rattle.dj_source.proofs.FieldReaders.{all, end_lang, end_reads, type_lang, type_reads, number_lang, number_reads}
+use Rattle.dj_cursor.proofs.Options.{some_is}
+use Rattle.dj_asm_tokens.specs.trusted.Words.{Token, Word, Quoted, Bad, LineEnd, Placed}
+use Rattle.dj_asm_source.specs.trusted.Items.{Item, Exactly, Ended, Says}
+use Rattle.dj_asm_source.specs.trusted.Lines.{FrameType, Simple, Object, New, IsFrameType, type_item, Frame, Same, Stack1, Chop, Append, Full, frame_items, IsFrame, IsSizedFrame}
+use Rattle.dj_asm_tokens.specs.WordReading.{row_of}
+use Rattle.dj_asm_source.specs.Reading.{Read, Got, Wrong, read_map, exactly, type_of, is_between, ◌&◌}
+use Rattle.dj_asm_source.specs.LineReading.{line_end, number, frame_type, types_from, types_until, types_up_to, is_end, is_slash, FrameStart, SameWord, StackWord, ChopWord, AppendWord, FullWord, frame_start, frame_after, frame}
+use Rattle.dj_asm_source.proofs.Readers.{Lang, Said, Started, ReadFrom, IsReader, GotFrom, both, sequence_reads, IsMade, IsSeenAs, seen_read, mapped_reads}
+use Rattle.dj_asm_source.proofs.Choices.{after_first, HasFirst, IsChoice, IsReported, kind_read, none_begun, nothing_left, choose_reads, place}
+use Rattle.dj_asm_source.proofs.WordLaws.{exactly_reported, chop_decides, rows_reported}
+use Rattle.dj_asm_source.proofs.TypeWords.{type_reported, mapped_some}
+use Rattle.dj_asm_source.proofs.FieldReaders.{all, end_lang, end_reads, type_lang, type_reads, number_lang, number_reads}
 
 -- ---- types up to an end
 

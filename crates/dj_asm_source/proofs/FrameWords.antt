@@ -3,11 +3,11 @@ use Rattle.std.proofs.Common.{◌≡◌, ◌||◌, ℕ, Bool, true, false, List,
 use Rattle.std.specs.List.{AllByRecursion}
 use Rattle.std.proofs.lemmas.Bool.{cases_Bool}
 use Rattle.std.proofs.lemmas.Slice.Eq.{bytes_eq-Decides}
-use Rattle.dj_source.specs.declared.syntax.SimpleType.{SimpleType}
-use Rattle.dj_source.specs.declared.syntax.SimpleType.TheVariants as simples
-use Rattle.dj_tokens.specs.WordReading.{row_of}
-use Rattle.dj_source.specs.Reading.{is_simple_type}
-use Rattle.dj_source.specs.TypeViews.{simple_word}
+use Rattle.dj_asm_source.specs.declared.syntax.SimpleType.{SimpleType}
+use Rattle.dj_asm_source.specs.declared.syntax.SimpleType.TheVariants as simples
+use Rattle.dj_asm_tokens.specs.WordReading.{row_of}
+use Rattle.dj_asm_source.specs.Reading.{is_simple_type}
+use Rattle.dj_asm_source.specs.TypeViews.{simple_word}
 
 abbrev Row : Type 0
 Row = List ℕ × SimpleType

@@ -2,10 +2,10 @@
 use Rattle.std.proofs.Common.{◌≡◌, ℤ, Bool, true, false, List, [], ◌∷◌, ◌++◌, map, Some, None, codes, refl, ap, subst, inl, inr}
 use Rattle.std.specs.List.{list_all, flat_map}
 use Rattle.std.proofs.lemmas.Bool.{and_parts, and_from}
-use Rattle.dj_tokens.specs.trusted.Words.{LineEnd, Placed}
-use Rattle.dj_source.specs.trusted.Items.{Item, Exactly, Flags, Number, Called, Text, Ended, Says}
-use Rattle.dj_source.specs.trusted.Lines.{Label, IntValue, LongValue, StringValue, IntLiteral, StringLiteral, ClassLiteral, FrameType, Simple, Object, New, Same, Stack1, Chop, Append, Full, Plain, Push, Local, Increment, Load, LoadLong, Jump, Table, Lookup, Member, Dynamic, ClassOf, Array, Multi, Labelled, Catch, Line, Class, Version, Super, Implements, Field, Abstract, Method, Stack, Locals, Beside, Framed, Does, End, type_item, pair_items, default_items, items_of}
-use Rattle.dj_source.proofs.Readers.{Said}
+use Rattle.dj_asm_tokens.specs.trusted.Words.{LineEnd, Placed}
+use Rattle.dj_asm_source.specs.trusted.Items.{Item, Exactly, Flags, Number, Called, Text, Ended, Says}
+use Rattle.dj_asm_source.specs.trusted.Lines.{Label, IntValue, LongValue, StringValue, IntLiteral, StringLiteral, ClassLiteral, FrameType, Simple, Object, New, Same, Stack1, Chop, Append, Full, Plain, Push, Local, Increment, Load, LoadLong, Jump, Table, Lookup, Member, Dynamic, ClassOf, Array, Multi, Labelled, Catch, Line, Class, Version, Super, Implements, Field, Abstract, Method, Stack, Locals, Beside, Framed, Does, End, type_item, pair_items, default_items, items_of}
+use Rattle.dj_asm_source.proofs.Readers.{Said}
 
 abbrev is_open : Item → Bool
 is_open Ended = false

@@ -5,16 +5,16 @@ use Rattle.dj_names.specs.trusted.DescReading.{field_read, type_read, dims_read,
 use Rattle.dj_names.specs.trusted.NameReading.{reads_class_name}
 use Rattle.dj_names.specs.Tests.{class_name_test, unqualified_name_test, method_name_test, field_descriptor_test, method_descriptor_test, array_descriptor_test}
 use Rattle.dj_ops.specs.trusted.Forms.{form_of}
-use Rattle.dj_source.specs.declared.error.AsmError.{AsmError}
-use Rattle.dj_source.specs.declared.error.AsmError.TheVariants as asm_errors
-use Rattle.dj_tokens.specs.trusted.Words.{tokens_after, word_units, string_units}
-use Rattle.dj_source.specs.trusted.Lines.{Line, Class, Super, Abstract, Method, Stack, Locals, Beside, Does, End, Plain, Jump, Labelled}
-use Rattle.dj_tokens.specs.trusted.Mnemonics.{mnemonics}
-use Rattle.dj_tokens.specs.WordReading.{row_of}
-use Rattle.dj_source.specs.trusted.Labels.{LabelFault}
-use Rattle.dj_source.specs.LineReading.{lines_read, targets, pairs_after, types_until, types_up_to}
-use Rattle.dj_source.specs.LabelReading.{LabelMark, marks_from, marks_of, mislabelled_from, mislabelled_in, sections_of, mislabelled_after, first_mislabelled, text_fault}
-use Rattle.dj_source.proofs.LabelTextLaws.{label_fault_is, one_label_fault}
+use Rattle.dj_asm_source.specs.declared.error.AsmError.{AsmError}
+use Rattle.dj_asm_source.specs.declared.error.AsmError.TheVariants as asm_errors
+use Rattle.dj_asm_tokens.specs.trusted.Words.{tokens_after, word_units, string_units}
+use Rattle.dj_asm_source.specs.trusted.Lines.{Line, Class, Super, Abstract, Method, Stack, Locals, Beside, Does, End, Plain, Jump, Labelled}
+use Rattle.dj_asm_tokens.specs.trusted.Mnemonics.{mnemonics}
+use Rattle.dj_asm_tokens.specs.WordReading.{row_of}
+use Rattle.dj_asm_source.specs.trusted.Labels.{LabelFault}
+use Rattle.dj_asm_source.specs.LineReading.{lines_read, targets, pairs_after, types_until, types_up_to}
+use Rattle.dj_asm_source.specs.LabelReading.{LabelMark, marks_from, marks_of, mislabelled_from, mislabelled_in, sections_of, mislabelled_after, first_mislabelled, text_fault}
+use Rattle.dj_asm_source.proofs.LabelTextLaws.{label_fault_is, one_label_fault}
 
 -- ---- tables of labels
 

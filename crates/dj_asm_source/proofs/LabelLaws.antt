@@ -7,11 +7,11 @@ use Rattle.std.proofs.lemmas.List.{append_assoc, length-append, get_or_at}
 use Rattle.std.proofs.lemmas.List.Elements.{All-contains, All-from_recursion}
 use Rattle.std.proofs.lemmas.List.Sums.{sum_by-cons}
 use Rattle.std.proofs.lemmas.Slice.Eq.{bytes_eq-Decides}
-use Rattle.dj_bytes.proofs.Options.{some_is}
-use Rattle.dj_source.specs.trusted.Lines.{Label, Labelled, Catch, Line, Beside}
-use Rattle.dj_source.specs.trusted.Labels.{Use, AtInstruction, Range, is_instruction, instruction_count, IsLabelAt, IsInstructionLabel, IsRange, IsMet, IsDoubled, uses_of}
-use Rattle.dj_tokens.specs.WordReading.{row_of}
-use Rattle.dj_source.specs.LabelReading.{LabelMark, Marks, defined_by, with_mark, number_after, marks_from, marks_of, is_below, is_in_order, is_met, is_before, is_again, is_mislabelled, mislabelled_from, mislabelled_in}
+use Rattle.dj_cursor.proofs.Options.{some_is}
+use Rattle.dj_asm_source.specs.trusted.Lines.{Label, Labelled, Catch, Line, Beside}
+use Rattle.dj_asm_source.specs.trusted.Labels.{Use, AtInstruction, Range, is_instruction, instruction_count, IsLabelAt, IsInstructionLabel, IsRange, IsMet, IsDoubled, uses_of}
+use Rattle.dj_asm_tokens.specs.WordReading.{row_of}
+use Rattle.dj_asm_source.specs.LabelReading.{LabelMark, Marks, defined_by, with_mark, number_after, marks_from, marks_of, is_below, is_in_order, is_met, is_before, is_again, is_mislabelled, mislabelled_from, mislabelled_in}
 
 -- ---- what the rows of a table say
 

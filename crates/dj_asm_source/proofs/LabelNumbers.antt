@@ -5,15 +5,15 @@ use Rattle.std.specs.Cmp.Lexicographic.{bytes_decides}
 use Rattle.std.proofs.lemmas.Bool.{cases_Bool, false≢true, false_from_ne_true}
 use Rattle.std.proofs.lemmas.List.Sums.{sum_by-cons}
 use Rattle.dj_names.specs.trusted.Types.{same_name}
-use Rattle.dj_source.specs.declared.syntax.Line as the_line
-use Rattle.dj_source.specs.declared.label_table.LabelPlace as the_place
-use Rattle.dj_source.specs.trusted.Lines.{Label, Labelled, Line, Beside}
-use Rattle.dj_source.specs.trusted.Labels.{is_instruction, instruction_count, marks, label_number}
-use Rattle.dj_source.specs.LineViews.{line_view}
-use Rattle.dj_tokens.specs.WordReading.{row_of}
-use Rattle.dj_source.specs.LabelReading.{LabelMark, Marks, number_after, marks_from, marks_of}
-use Rattle.dj_source.specs.LabelViews.{mark_view}
-use Rattle.dj_source.proofs.LabelLaws.{same_line, row_past, row_here, number_more}
+use Rattle.dj_asm_source.specs.declared.syntax.Line as the_line
+use Rattle.dj_asm_source.specs.declared.label_table.LabelPlace as the_place
+use Rattle.dj_asm_source.specs.trusted.Lines.{Label, Labelled, Line, Beside}
+use Rattle.dj_asm_source.specs.trusted.Labels.{is_instruction, instruction_count, marks, label_number}
+use Rattle.dj_asm_source.specs.LineViews.{line_view}
+use Rattle.dj_asm_tokens.specs.WordReading.{row_of}
+use Rattle.dj_asm_source.specs.LabelReading.{LabelMark, Marks, number_after, marks_from, marks_of}
+use Rattle.dj_asm_source.specs.LabelViews.{mark_view}
+use Rattle.dj_asm_source.proofs.LabelLaws.{same_line, row_past, row_here, number_more}
 
 -- ---- the number of a label, line by line
 

@@ -15,15 +15,15 @@ use Rattle.std.proofs.lemmas.Fn.{always_returns_same}
 use Rattle.std.proofs.lemmas.Bool.{cases_Bool, cases_lt}
 use Rattle.std.proofs.lemmas.Slice.Eq.{bytes_eq-Decides}
 use Rattle.std.proofs.lemmas.Option.{slice_get_read, slice_get-get_or, get_or_from_slice_get}
-use Rattle.dj_bytes.proofs.Options.{some_is}
-use Rattle.dj_source.specs.declared.syntax.Line as the_line
-use Rattle.dj_source.specs.declared.label_table.LabelPlace as the_place
-use Rattle.dj_source.specs.trusted.Lines.{Label, Line}
-use Rattle.dj_source.specs.trusted.Labels.{is_instruction}
-use Rattle.dj_source.specs.LineViews.{line_view}
-use Rattle.dj_source.specs.LabelReading.{LabelMark, Marks, defined_by, with_mark, number_after, marks_from}
-use Rattle.dj_tokens.specs.WordReading.{row_of}
-use Rattle.dj_source.specs.LabelViews.{label_of_mark, mark_view, mark_row, is_label_before, marked}
+use Rattle.dj_cursor.proofs.Options.{some_is}
+use Rattle.dj_asm_source.specs.declared.syntax.Line as the_line
+use Rattle.dj_asm_source.specs.declared.label_table.LabelPlace as the_place
+use Rattle.dj_asm_source.specs.trusted.Lines.{Label, Line}
+use Rattle.dj_asm_source.specs.trusted.Labels.{is_instruction}
+use Rattle.dj_asm_source.specs.LineViews.{line_view}
+use Rattle.dj_asm_source.specs.LabelReading.{LabelMark, Marks, defined_by, with_mark, number_after, marks_from}
+use Rattle.dj_asm_tokens.specs.WordReading.{row_of}
+use Rattle.dj_asm_source.specs.LabelViews.{label_of_mark, mark_view, mark_row, is_label_before, marked}
 use denote.Ref.{Bor}
 use denote.Param.Members.{Mut}
 

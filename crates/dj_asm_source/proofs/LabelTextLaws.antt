@@ -3,21 +3,21 @@ use Rattle.std.proofs.Common.{◌≡◌, ◌⊎◌, ℕ, ℤ, zero, suc, ◌+◌
 use Rattle.std.specs.List.{flat_map, AllByRecursion}
 use Rattle.std.proofs.lemmas.Bool.{cases_order}
 use Rattle.std.proofs.lemmas.List.{length-append}
-use Rattle.dj_bytes.proofs.Options.{some_is}
-use Rattle.dj_source.specs.declared.error.AsmError.{AsmError}
-use Rattle.dj_source.specs.declared.error.AsmError.TheVariants as asm_errors
-use Rattle.dj_source.specs.trusted.Lines.{Line, Labelled, Catch, Super, Implements, Beside}
-use Rattle.dj_source.specs.trusted.Sources.{Source, FieldSource, MethodSource, version_lines, field_line, method_lines, head_lines, lines_of, IsTextOf}
-use Rattle.dj_source.specs.trusted.Faults.{WordFault}
-use Rattle.dj_source.specs.trusted.Labels.{IsMet, IsDoubled, IsMislabelled, LabelFault, uses_of, line_numbers}
-use Rattle.dj_source.specs.LineReading.{AreRead, or_else, text_read}
-use Rattle.dj_source.specs.LabelReading.{defined_by, mislabelled_in, mislabelled_after, first_mislabelled, label_error, labels_fault, read_fault, text_fault}
-use Rattle.dj_source.proofs.FaultLaws.{no_fault_of_text, one_word_fault}
-use Rattle.dj_source.proofs.TextLaws.{IsReadRightly, text_read_rightly, lines_are_read}
-use Rattle.dj_source.proofs.OneSource.{one_source}
-use Rattle.dj_source.proofs.NumberLaws.{as_many_lines}
-use Rattle.dj_source.proofs.LabelLaws.{IsWrong, IsWrongAt, mislabelled_is, none_before, none_mislabelled, wrong_within}
-use Rattle.dj_source.proofs.Sections.{source_sections}
+use Rattle.dj_cursor.proofs.Options.{some_is}
+use Rattle.dj_asm_source.specs.declared.error.AsmError.{AsmError}
+use Rattle.dj_asm_source.specs.declared.error.AsmError.TheVariants as asm_errors
+use Rattle.dj_asm_source.specs.trusted.Lines.{Line, Labelled, Catch, Super, Implements, Beside}
+use Rattle.dj_asm_source.specs.trusted.Sources.{Source, FieldSource, MethodSource, version_lines, field_line, method_lines, head_lines, lines_of, IsTextOf}
+use Rattle.dj_asm_source.specs.trusted.Faults.{WordFault}
+use Rattle.dj_asm_source.specs.trusted.Labels.{IsMet, IsDoubled, IsMislabelled, LabelFault, uses_of, line_numbers}
+use Rattle.dj_asm_source.specs.LineReading.{AreRead, or_else, text_read}
+use Rattle.dj_asm_source.specs.LabelReading.{defined_by, mislabelled_in, mislabelled_after, first_mislabelled, label_error, labels_fault, read_fault, text_fault}
+use Rattle.dj_asm_source.proofs.FaultLaws.{no_fault_of_text, one_word_fault}
+use Rattle.dj_asm_source.proofs.TextLaws.{IsReadRightly, text_read_rightly, lines_are_read}
+use Rattle.dj_asm_source.proofs.OneSource.{one_source}
+use Rattle.dj_asm_source.proofs.NumberLaws.{as_many_lines}
+use Rattle.dj_asm_source.proofs.LabelLaws.{IsWrong, IsWrongAt, mislabelled_is, none_before, none_mislabelled, wrong_within}
+use Rattle.dj_asm_source.proofs.Sections.{source_sections}
 
 -- ---- sections
 

@@ -2,14 +2,14 @@
 use Rattle.std.proofs.Common.{◌≡◌, ℕ, suc, ◌+◌, ◌<◌, ◌≤◌, Bool, true, false, cond, not, ◌&&◌, ◌||◌, List, [], ◌∷◌, ◌++◌, length, map, get_or, take, drop, Option, Some, None, option_map, refl, sym, ap, ◌∙◌, arith}
 use Rattle.std.specs.List.{list_all}
 use Rattle.std.proofs.lemmas.List.{drop-drop, drop-map, take-map, length-map, length-drop, length-take-le, drop_all, drop_more}
-use Rattle.dj_source.specs.declared.syntax.Line as the_line
-use Rattle.dj_source.specs.trusted.Lines.{Label, Line}
-use Rattle.dj_source.specs.trusted.Labels.{Use, AtInstruction, Range, instruction_count, uses_of}
-use Rattle.dj_source.specs.LineViews.{line_view}
-use Rattle.dj_tokens.specs.WordReading.{row_of}
-use Rattle.dj_source.specs.LineReading.{or_else}
-use Rattle.dj_source.specs.LabelReading.{Marks, defined_by, marks_of, is_below, is_in_order, is_before, is_met, is_again, is_mislabelled, mislabelled_from, mislabelled_in, sections_of, section_size, mislabelled_after}
-use Rattle.dj_source.proofs.Sections.{section_step}
+use Rattle.dj_asm_source.specs.declared.syntax.Line as the_line
+use Rattle.dj_asm_source.specs.trusted.Lines.{Label, Line}
+use Rattle.dj_asm_source.specs.trusted.Labels.{Use, AtInstruction, Range, instruction_count, uses_of}
+use Rattle.dj_asm_source.specs.LineViews.{line_view}
+use Rattle.dj_asm_tokens.specs.WordReading.{row_of}
+use Rattle.dj_asm_source.specs.LineReading.{or_else}
+use Rattle.dj_asm_source.specs.LabelReading.{Marks, defined_by, marks_of, is_below, is_in_order, is_before, is_met, is_again, is_mislabelled, mislabelled_from, mislabelled_in, sections_of, section_size, mislabelled_after}
+use Rattle.dj_asm_source.proofs.Sections.{section_step}
 
 -- ---- tables that answer alike
 

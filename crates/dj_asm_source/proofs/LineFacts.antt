@@ -2,11 +2,11 @@
 use Rattle.std.proofs.Common.{◌≡◌, ℕ, ℤ, pos, negsuc, true, false, List, [], ◌∷◌, ◌++◌, map, Some, None, codes, refl, sym, ap, subst, length, ◌≤◌, inl, inr, arith}
 use Rattle.std.specs.List.{AllZip}
 use Rattle.dj_names.specs.trusted.ModifiedUtf8.{units_text}
-use Rattle.dj_tokens.specs.trusted.Words.{Token, Word, Quoted, word_units, string_units, tokens_after, line_tokens}
-use Rattle.dj_source.specs.trusted.Items.{Exactly, Number, Text, Ended, Says, SaysFlags, SaysCalled}
-use Rattle.dj_tokens.specs.trusted.Mnemonics.{mnemonics, mnemonic, base_word}
-use Rattle.dj_source.specs.trusted.Lines.{Line, Class, Version, Super, Implements, Field, Abstract, Method, Stack, Locals, Beside, Framed, Does, End, IntValue, LongValue, StringValue, IntLiteral, StringLiteral, ClassLiteral, Simple, Object, New, Same, Stack1, Chop, Append, Full, Plain, Push, Local, Increment, Load, LoadLong, Jump, Table, Lookup, Member, Dynamic, ClassOf, Array, Multi, Labelled, Catch, items_of}
-use Rattle.dj_source.specs.trusted.Sources.{token_of}
+use Rattle.dj_asm_tokens.specs.trusted.Words.{Token, Word, Quoted, word_units, string_units, tokens_after, line_tokens}
+use Rattle.dj_asm_source.specs.trusted.Items.{Exactly, Number, Text, Ended, Says, SaysFlags, SaysCalled}
+use Rattle.dj_asm_tokens.specs.trusted.Mnemonics.{mnemonics, mnemonic, base_word}
+use Rattle.dj_asm_source.specs.trusted.Lines.{Line, Class, Version, Super, Implements, Field, Abstract, Method, Stack, Locals, Beside, Framed, Does, End, IntValue, LongValue, StringValue, IntLiteral, StringLiteral, ClassLiteral, Simple, Object, New, Same, Stack1, Chop, Append, Full, Plain, Push, Local, Increment, Load, LoadLong, Jump, Table, Lookup, Member, Dynamic, ClassOf, Array, Multi, Labelled, Catch, items_of}
+use Rattle.dj_asm_source.specs.trusted.Sources.{token_of}
 
 -- ---- the line that the bytes are
 

@@ -1,9 +1,9 @@
 -- Which lines a state lets begin: those whose first words it lets begin.
 use Rattle.std.proofs.Common.{◌≡◌, ℕ, ℤ, Option, is_some, refl}
 use Rattle.dj_names.specs.trusted.Types.{Name}
-use Rattle.dj_source.specs.trusted.Lines.{Label, Value, Frame, Operation, Catch, Labelled, Class, Version, Super, Implements, Field, Abstract, Method, Stack, Locals, Beside, Framed, Does, End}
-use Rattle.dj_source.specs.Order.{State, AtClass, AtVersion, AtSuper, AtInterfaces, AtFields, AtMethods, AtStack, AtLocals, InBody, InFrame, after}
-use Rattle.dj_source.specs.LineReading.{ClassLine, VersionLine, SuperLine, ImplementsLine, FieldLine, AbstractLine, MethodLine, StackLine, LocalsLine, CatchLine, FrameLine, EndLine, LabelLine, OperationLine, may_begin}
+use Rattle.dj_asm_source.specs.trusted.Lines.{Label, Value, Frame, Operation, Catch, Labelled, Class, Version, Super, Implements, Field, Abstract, Method, Stack, Locals, Beside, Framed, Does, End}
+use Rattle.dj_asm_source.specs.Order.{State, AtClass, AtVersion, AtSuper, AtInterfaces, AtFields, AtMethods, AtStack, AtLocals, InBody, InFrame, after}
+use Rattle.dj_asm_source.specs.LineReading.{ClassLine, VersionLine, SuperLine, ImplementsLine, FieldLine, AbstractLine, MethodLine, StackLine, LocalsLine, CatchLine, FrameLine, EndLine, LabelLine, OperationLine, may_begin}
 
 pub after_class : (state : State) (flags : ℕ) (name : Name) → is_some (after state (Class flags name)) ≡ may_begin state ClassLine
 after_class AtClass flags name = refl

@@ -1,31 +1,31 @@
 -- Lines are read by their first words.
 use Rattle.std.proofs.Common.{◌≡◌, ℕ, true, cond, ℤ, [], ◌∷◌, drop, Option, Some, None, is_some, refl, sym, ap, ◌∙◌, subst, arith}
 use Rattle.std.specs.Prelude.{⊤}
-use Rattle.dj_bytes.proofs.Options.{bind_some, chose_some}
-use Rattle.dj_bytes.specs.trusted.Options.{◌>>=◌}
+use Rattle.dj_cursor.proofs.Options.{bind_some, chose_some}
+use Rattle.dj_cursor.specs.trusted.Options.{◌>>=◌}
 use Rattle.dj_names.specs.trusted.Types.{Name}
 use Rattle.dj_names.specs.trusted.Names.{IsUnqualifiedName, IsMethodName, IsClassName}
 use Rattle.dj_names.specs.trusted.Descriptors.{IsFieldDescriptor, IsMethodDescriptor}
 use Rattle.dj_names.specs.Tests.{unqualified_name_test, method_name_test, field_descriptor_test, method_descriptor_test}
 use Rattle.dj_ops.specs.trusted.Forms.{form_of}
-use Rattle.dj_tokens.specs.trusted.Words.{Token, Word}
-use Rattle.dj_source.specs.trusted.Items.{Says}
-use Rattle.dj_source.specs.trusted.Lines.{Label, Value, Frame, Operation, Labelled, Catch, Line, Class, Version, Super, Implements, Field, Abstract, Method, Stack, Locals, Beside, Framed, Does, End, IsLine, IsSized, FitsBits}
-use Rattle.dj_source.specs.trusted.Sources.{line_items}
-use Rattle.dj_source.specs.Order.{State, AtClass, AtVersion, AtSuper, AtInterfaces, AtFields, AtMethods, AtStack, AtLocals, InBody, InFrame, after}
-use Rattle.dj_tokens.specs.WordReading.{tested}
-use Rattle.dj_source.specs.Reading.{◌&◌, word_of}
-use Rattle.dj_source.specs.LineReading.{LineStart, ClassLine, VersionLine, SuperLine, ImplementsLine, FieldLine, AbstractLine, MethodLine, StackLine, LocalsLine, CatchLine, FrameLine, EndLine, LabelLine, OperationLine, start_in, may_begin, line_start, line_after, line, line_end, flags, number, name, label, caught, value, frame, class_name, fits_16, operation}
-use Rattle.dj_source.proofs.Readers.{Lang, Started, IsReader, both, sequence_reads, IsMade, mapped_reads}
-use Rattle.dj_source.proofs.Choices.{after_first, IsChoice, IsReported, choose_reads, kind_started, place}
-use Rattle.dj_source.proofs.WordLaws.{word_reported, bits_decide}
-use Rattle.dj_source.proofs.Starts.{start_item, start_word, IsStart, start_word_reported}
-use Rattle.dj_source.proofs.FieldReaders.{all, end_lang, end_reads, flags_lang, flags_reads, label_lang, label_reads, number_lang, number_reads, name_lang, class_name_reads, field_name_reads, method_name_reads, field_desc_reads, method_desc_reads, caught_lang, caught_reads}
-use Rattle.dj_source.proofs.ValueReaders.{value_lang, value_reads}
-use Rattle.dj_source.proofs.FrameReaders.{frames_lang, frame_reads}
-use Rattle.dj_source.proofs.OperationReaders.{IsOperationBy, Operands}
-use Rattle.dj_source.proofs.Operations.{operation_reads, operation_whole, operation_kind}
-use Rattle.dj_source.proofs.LineOrder.{after_class, after_version, after_super, after_implements, after_field, after_abstract, after_method, after_stack, after_locals, after_catch, after_frame, after_end, after_label, after_operation}
+use Rattle.dj_asm_tokens.specs.trusted.Words.{Token, Word}
+use Rattle.dj_asm_source.specs.trusted.Items.{Says}
+use Rattle.dj_asm_source.specs.trusted.Lines.{Label, Value, Frame, Operation, Labelled, Catch, Line, Class, Version, Super, Implements, Field, Abstract, Method, Stack, Locals, Beside, Framed, Does, End, IsLine, IsSized, FitsBits}
+use Rattle.dj_asm_source.specs.trusted.Sources.{line_items}
+use Rattle.dj_asm_source.specs.Order.{State, AtClass, AtVersion, AtSuper, AtInterfaces, AtFields, AtMethods, AtStack, AtLocals, InBody, InFrame, after}
+use Rattle.dj_asm_tokens.specs.WordReading.{tested}
+use Rattle.dj_asm_source.specs.Reading.{◌&◌, word_of}
+use Rattle.dj_asm_source.specs.LineReading.{LineStart, ClassLine, VersionLine, SuperLine, ImplementsLine, FieldLine, AbstractLine, MethodLine, StackLine, LocalsLine, CatchLine, FrameLine, EndLine, LabelLine, OperationLine, start_in, may_begin, line_start, line_after, line, line_end, flags, number, name, label, caught, value, frame, class_name, fits_16, operation}
+use Rattle.dj_asm_source.proofs.Readers.{Lang, Started, IsReader, both, sequence_reads, IsMade, mapped_reads}
+use Rattle.dj_asm_source.proofs.Choices.{after_first, IsChoice, IsReported, choose_reads, kind_started, place}
+use Rattle.dj_asm_source.proofs.WordLaws.{word_reported, bits_decide}
+use Rattle.dj_asm_source.proofs.Starts.{start_item, start_word, IsStart, start_word_reported}
+use Rattle.dj_asm_source.proofs.FieldReaders.{all, end_lang, end_reads, flags_lang, flags_reads, label_lang, label_reads, number_lang, number_reads, name_lang, class_name_reads, field_name_reads, method_name_reads, field_desc_reads, method_desc_reads, caught_lang, caught_reads}
+use Rattle.dj_asm_source.proofs.ValueReaders.{value_lang, value_reads}
+use Rattle.dj_asm_source.proofs.FrameReaders.{frames_lang, frame_reads}
+use Rattle.dj_asm_source.proofs.OperationReaders.{IsOperationBy, Operands}
+use Rattle.dj_asm_source.proofs.Operations.{operation_reads, operation_whole, operation_kind}
+use Rattle.dj_asm_source.proofs.LineOrder.{after_class, after_version, after_super, after_implements, after_field, after_abstract, after_method, after_stack, after_locals, after_catch, after_frame, after_end, after_label, after_operation}
 
 -- ---- what is made
 

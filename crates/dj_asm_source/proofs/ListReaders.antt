@@ -4,18 +4,18 @@ use Rattle.std.specs.Prelude.{⊤}
 use Rattle.std.specs.List.{flat_map, AllByRecursion}
 use Rattle.std.specs.Int.{w32}
 use Rattle.std.proofs.lemmas.Slice.Eq.{bytes_eq-Decides}
-use Rattle.dj_bytes.proofs.Options.{some_is}
-use Rattle.dj_tokens.specs.trusted.Words.{Token, Word, Quoted, Bad, LineEnd, Placed}
-use Rattle.dj_source.specs.trusted.Items.{Item, Exactly, Number, Ended, Says}
-use Rattle.dj_source.specs.trusted.Lines.{Label, IsTarget, pair_items, default_items}
-use Rattle.dj_tokens.specs.WordReading.{number_in}
-use Rattle.dj_source.specs.Reading.{Read, Large, read_map, word_of, is_signed, ◌&◌}
-use Rattle.dj_source.specs.LineReading.{label, line_end, TargetStart, DefaultWord, Target, target_start, default_after, targets_from, targets, MatchStart, DefaultMatch, MatchOf, match_in, match_start, LabelPairs, matches_from, target_from, pairs_after}
-use Rattle.dj_source.proofs.Readers.{Lang, Started, LargeFrom, ReadFrom, IsReader, both, sequence_reads, IsMade, IsSeenAs, seen_read, mapped_reads}
-use Rattle.dj_source.proofs.Choices.{after_first, HasFirst, IsChoice, IsReported, of_kind, kind_read, none_begun, nothing_left, place}
-use Rattle.dj_source.proofs.WordLaws.{word_reported, number_word_reported, signed_32}
-use Rattle.dj_source.proofs.TypeWords.{mapped_some}
-use Rattle.dj_source.proofs.FieldReaders.{all, label_lang, label_reads, end_lang, end_reads}
+use Rattle.dj_cursor.proofs.Options.{some_is}
+use Rattle.dj_asm_tokens.specs.trusted.Words.{Token, Word, Quoted, Bad, LineEnd, Placed}
+use Rattle.dj_asm_source.specs.trusted.Items.{Item, Exactly, Number, Ended, Says}
+use Rattle.dj_asm_source.specs.trusted.Lines.{Label, IsTarget, pair_items, default_items}
+use Rattle.dj_asm_tokens.specs.WordReading.{number_in}
+use Rattle.dj_asm_source.specs.Reading.{Read, Large, read_map, word_of, is_signed, ◌&◌}
+use Rattle.dj_asm_source.specs.LineReading.{label, line_end, TargetStart, DefaultWord, Target, target_start, default_after, targets_from, targets, MatchStart, DefaultMatch, MatchOf, match_in, match_start, LabelPairs, matches_from, target_from, pairs_after}
+use Rattle.dj_asm_source.proofs.Readers.{Lang, Started, LargeFrom, ReadFrom, IsReader, both, sequence_reads, IsMade, IsSeenAs, seen_read, mapped_reads}
+use Rattle.dj_asm_source.proofs.Choices.{after_first, HasFirst, IsChoice, IsReported, of_kind, kind_read, none_begun, nothing_left, place}
+use Rattle.dj_asm_source.proofs.WordLaws.{word_reported, number_word_reported, signed_32}
+use Rattle.dj_asm_source.proofs.TypeWords.{mapped_some}
+use Rattle.dj_asm_source.proofs.FieldReaders.{all, label_lang, label_reads, end_lang, end_reads}
 
 -- ---- the default
 

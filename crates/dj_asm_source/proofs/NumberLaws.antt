@@ -2,16 +2,16 @@
 use Rattle.std.proofs.Common.{◌≡◌, ℕ, suc, ◌+◌, Bool, true, false, cond, List, [], ◌∷◌, ◌++◌, length, map, Option, Some, None, Ok, Err, filter, refl, sym, ap, ◌∙◌, arith}
 use Rattle.std.specs.List.{flat_map, AllByRecursion, enumerate_from}
 use Rattle.std.specs.Str.Lines.{lines}
-use Rattle.dj_tokens.specs.trusted.Words.{Token, LineEnd, Placed, tokens_after, line_tokens, end_line}
-use Rattle.dj_source.specs.trusted.Lines.{Line}
-use Rattle.dj_source.specs.trusted.Sources.{Source, lines_of, IsTextOf}
-use Rattle.dj_source.specs.trusted.Labels.{ends_line, line_numbers}
-use Rattle.dj_source.specs.Order.{State, AtClass, is_final, after}
-use Rattle.dj_source.specs.Reading.{Read, Got, Wrong, Large}
-use Rattle.dj_source.specs.LineReading.{AreRead, missing, line, with_line, lines_from, lines_read}
-use Rattle.dj_source.specs.Unread.{number_if, numbers_with_words}
-use Rattle.dj_tokens.proofs.TokenLaws.{NoEnd, ended_at, tokens_plain}
-use Rattle.dj_source.proofs.TextLaws.{lines_are_read}
+use Rattle.dj_asm_tokens.specs.trusted.Words.{Token, LineEnd, Placed, tokens_after, line_tokens, end_line}
+use Rattle.dj_asm_source.specs.trusted.Lines.{Line}
+use Rattle.dj_asm_source.specs.trusted.Sources.{Source, lines_of, IsTextOf}
+use Rattle.dj_asm_source.specs.trusted.Labels.{ends_line, line_numbers}
+use Rattle.dj_asm_source.specs.Order.{State, AtClass, is_final, after}
+use Rattle.dj_asm_source.specs.Reading.{Read, Got, Wrong, Large}
+use Rattle.dj_asm_source.specs.LineReading.{AreRead, missing, line, with_line, lines_from, lines_read}
+use Rattle.dj_asm_source.specs.Unread.{number_if, numbers_with_words}
+use Rattle.dj_asm_tokens.proofs.TokenLaws.{NoEnd, ended_at, tokens_plain}
+use Rattle.dj_asm_source.proofs.TextLaws.{lines_are_read}
 
 -- ---- the numbers of lines with words
 

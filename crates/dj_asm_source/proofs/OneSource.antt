@@ -1,9 +1,9 @@
 -- A text is one source's at most: a source has one list of lines, and a list of lines is one source's.
 use Rattle.std.proofs.Common.{◌≡◌, ℕ, ℤ, Bool, true, false, List, [], ◌∷◌, ◌++◌, map, Option, Some, None, refl, sym, ap, ◌∙◌, append_assoc, true≢false}
 use Rattle.std.specs.List.{flat_map}
-use Rattle.dj_source.specs.trusted.Lines.{Line, Frame, Operation, Aside, Class, Version, Super, Implements, Field, Abstract, Method, Stack, Locals, Beside, Framed, Does, End}
-use Rattle.dj_source.specs.trusted.Sources.{Source, FieldSource, BodyPart, Mark, Step, FrameStep, MethodSource, Bodiless, Coded, version_lines, field_line, part_lines, body_lines, method_lines, lines_of, IsTextOf}
-use Rattle.dj_source.proofs.TextLaws.{text_lines}
+use Rattle.dj_asm_source.specs.trusted.Lines.{Line, Frame, Operation, Aside, Class, Version, Super, Implements, Field, Abstract, Method, Stack, Locals, Beside, Framed, Does, End}
+use Rattle.dj_asm_source.specs.trusted.Sources.{Source, FieldSource, BodyPart, Mark, Step, FrameStep, MethodSource, Bodiless, Coded, version_lines, field_line, part_lines, body_lines, method_lines, lines_of, IsTextOf}
+use Rattle.dj_asm_source.proofs.TextLaws.{text_lines}
 
 -- ---- lists of lines of one kind
 

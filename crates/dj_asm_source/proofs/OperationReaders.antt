@@ -9,16 +9,16 @@ use Rattle.dj_names.specs.Tests.{unqualified_name_test, method_name_test, field_
 use Rattle.dj_ops.specs.trusted.Forms.{OperandForm, Bare, SignedByte, SignedShort, ShortLiteral, LongLiteral, Slot, SlotAndByte, ShortOffset, LongOffset, MemberIndex, InterfaceIndex, DynamicIndex, ClassIndex, ArrayType, MultiIndex, TableSwitch, LookupSwitch, WidePrefix, Reserved, form_of}
 use Rattle.dj_ops.specs.trusted.Instructions.{IsPushed}
 use Rattle.dj_pool.specs.trusted.Pool.{IsClassText}
-use Rattle.dj_source.specs.trusted.Items.{Item, Ended}
-use Rattle.dj_source.specs.trusted.Lines.{Label, Literal, IsLiteralName, Operation, Plain, Push, Local, Increment, Load, LoadLong, Jump, Table, Lookup, Member, Dynamic, ClassOf, Array, Multi, operation_items, IsSizedOperation, FitsBits, slot_bits, FitsIncrement}
-use Rattle.dj_tokens.specs.WordReading.{class_text_test}
-use Rattle.dj_source.specs.Reading.{◌&◌, is_signed, is_between}
-use Rattle.dj_source.specs.LineReading.{line_end, number, name, label, keyword, base, fits_16, slot_fits, increment_fits, literal, targets, LabelPairs, pairs_after, interface_end, plain, push, slot, increment, load, load_long, jump, table, lookup, field_use, open_method_use, method_use, dynamic, class_of, array, multi}
-use Rattle.dj_source.proofs.Readers.{Lang, IsReader, both, sequence_reads, IsMade, mapped_reads}
-use Rattle.dj_source.proofs.WordLaws.{bits_decide, signed_8, signed_16, signed_32}
-use Rattle.dj_source.proofs.FieldReaders.{all, end_lang, end_reads, label_lang, label_reads, keyword_lang, keyword_reads, base_lang, base_reads, number_lang, number_reads, name_lang, class_text_reads, field_name_reads, method_name_reads, field_desc_reads, method_desc_reads, array_desc_reads}
-use Rattle.dj_source.proofs.ListReaders.{targets_lang, targets_reads, pairs_lang, pairs_reads}
-use Rattle.dj_source.proofs.ValueReaders.{literal_lang, literal_reads, interface_lang, interface_reads, long_lang, long_reads}
+use Rattle.dj_asm_source.specs.trusted.Items.{Item, Ended}
+use Rattle.dj_asm_source.specs.trusted.Lines.{Label, Literal, IsLiteralName, Operation, Plain, Push, Local, Increment, Load, LoadLong, Jump, Table, Lookup, Member, Dynamic, ClassOf, Array, Multi, operation_items, IsSizedOperation, FitsBits, slot_bits, FitsIncrement}
+use Rattle.dj_asm_tokens.specs.WordReading.{class_text_test}
+use Rattle.dj_asm_source.specs.Reading.{◌&◌, is_signed, is_between}
+use Rattle.dj_asm_source.specs.LineReading.{line_end, number, name, label, keyword, base, fits_16, slot_fits, increment_fits, literal, targets, LabelPairs, pairs_after, interface_end, plain, push, slot, increment, load, load_long, jump, table, lookup, field_use, open_method_use, method_use, dynamic, class_of, array, multi}
+use Rattle.dj_asm_source.proofs.Readers.{Lang, IsReader, both, sequence_reads, IsMade, mapped_reads}
+use Rattle.dj_asm_source.proofs.WordLaws.{bits_decide, signed_8, signed_16, signed_32}
+use Rattle.dj_asm_source.proofs.FieldReaders.{all, end_lang, end_reads, label_lang, label_reads, keyword_lang, keyword_reads, base_lang, base_reads, number_lang, number_reads, name_lang, class_text_reads, field_name_reads, method_name_reads, field_desc_reads, method_desc_reads, array_desc_reads}
+use Rattle.dj_asm_source.proofs.ListReaders.{targets_lang, targets_reads, pairs_lang, pairs_reads}
+use Rattle.dj_asm_source.proofs.ValueReaders.{literal_lang, literal_reads, interface_lang, interface_reads, long_lang, long_reads}
 
 -- ---- what is made
 

@@ -1,24 +1,24 @@
 -- Instructions are read by the forms of their opcodes: those after `wide`, and then all.
 use Rattle.std.proofs.Common.{◌≡◌, ◌≢◌, ◌⊎◌, ℕ, ◌≤◌, ◌<◌, Bool, true, false, cond, eqb, leb, pos, [], ◌∷◌, drop, Some, None, codes, refl, sym, ap, ◌∙◌, subst, inl, inr, arith, true≢false}
 use Rattle.std.proofs.lemmas.Bool.{and_parts, leb-true, leb-false, le-leb, lt-leb, eqb-true, ne_eqb, eq-eqb, or_cases, or_left, or_right, cases_lt}
-use Rattle.dj_bytes.proofs.Options.{bind_some, chose_some}
-use Rattle.dj_bytes.specs.trusted.Options.{◌>>=◌}
+use Rattle.dj_cursor.proofs.Options.{bind_some, chose_some}
+use Rattle.dj_cursor.specs.trusted.Options.{◌>>=◌}
 use Rattle.dj_names.specs.trusted.Types.{Name}
 use Rattle.dj_ops.specs.trusted.Forms.{OperandForm, Bare, SignedByte, SignedShort, ShortLiteral, LongLiteral, Slot, SlotAndByte, ShortOffset, LongOffset, MemberIndex, InterfaceIndex, DynamicIndex, ClassIndex, ArrayType, MultiIndex, TableSwitch, LookupSwitch, WidePrefix, Reserved, form_of}
 use Rattle.dj_pool.specs.trusted.Pool.{IsClassText}
-use Rattle.dj_tokens.specs.trusted.Words.{Token, Word, LineEnd}
-use Rattle.dj_source.specs.trusted.Items.{Says}
-use Rattle.dj_tokens.specs.trusted.Mnemonics.{mnemonics}
-use Rattle.dj_source.specs.trusted.Lines.{Operation, Plain, Push, Local, Increment, Load, LoadLong, Jump, Table, Lookup, Member, Dynamic, ClassOf, Array, Multi, op_item, IsOperation, IsMethodUse, IsLiteralName}
-use Rattle.dj_tokens.specs.WordReading.{tested}
-use Rattle.dj_source.specs.Reading.{◌&◌, opcode_of}
-use Rattle.dj_source.specs.LineReading.{line_end, number, slot_fits, increment_fits, slot, increment, may_be_wide, wide_start, wide_after, wide, operation_by, operation}
-use Rattle.dj_source.proofs.Readers.{Lang, Started, IsReader, IsMade, mapped_reads}
-use Rattle.dj_source.proofs.Choices.{after_first, HasFirst, IsChoice, choose_reads, place}
-use Rattle.dj_source.proofs.Starts.{opcode_reported}
-use Rattle.dj_source.proofs.Opcodes.{below, agree, member_form}
-use Rattle.dj_source.proofs.FieldReaders.{one_number}
-use Rattle.dj_source.proofs.OperationReaders.{slot_of, increment_of, member_of, open_member_of, load_of, load_long_of, slot_lang, increment_lang, field_use_lang, open_use_lang, method_use_lang, load_long_lang, IsLoadBy, IsMemberBy, may_mark, IsWide, IsOperationBy, done_items, operand_lang, Operands, plain_reads, byte_reads, short_reads, load_reads, long_literal_reads, local_reads, increments_reads, jump_reads, member_reads, dynamic_reads, class_reads, array_reads, multi_reads, table_reads, lookup_reads, slot_reads, increment_number_reads}
+use Rattle.dj_asm_tokens.specs.trusted.Words.{Token, Word, LineEnd}
+use Rattle.dj_asm_source.specs.trusted.Items.{Says}
+use Rattle.dj_asm_tokens.specs.trusted.Mnemonics.{mnemonics}
+use Rattle.dj_asm_source.specs.trusted.Lines.{Operation, Plain, Push, Local, Increment, Load, LoadLong, Jump, Table, Lookup, Member, Dynamic, ClassOf, Array, Multi, op_item, IsOperation, IsMethodUse, IsLiteralName}
+use Rattle.dj_asm_tokens.specs.WordReading.{tested}
+use Rattle.dj_asm_source.specs.Reading.{◌&◌, opcode_of}
+use Rattle.dj_asm_source.specs.LineReading.{line_end, number, slot_fits, increment_fits, slot, increment, may_be_wide, wide_start, wide_after, wide, operation_by, operation}
+use Rattle.dj_asm_source.proofs.Readers.{Lang, Started, IsReader, IsMade, mapped_reads}
+use Rattle.dj_asm_source.proofs.Choices.{after_first, HasFirst, IsChoice, choose_reads, place}
+use Rattle.dj_asm_source.proofs.Starts.{opcode_reported}
+use Rattle.dj_asm_source.proofs.Opcodes.{below, agree, member_form}
+use Rattle.dj_asm_source.proofs.FieldReaders.{one_number}
+use Rattle.dj_asm_source.proofs.OperationReaders.{slot_of, increment_of, member_of, open_member_of, load_of, load_long_of, slot_lang, increment_lang, field_use_lang, open_use_lang, method_use_lang, load_long_lang, IsLoadBy, IsMemberBy, may_mark, IsWide, IsOperationBy, done_items, operand_lang, Operands, plain_reads, byte_reads, short_reads, load_reads, long_literal_reads, local_reads, increments_reads, jump_reads, member_reads, dynamic_reads, class_reads, array_reads, multi_reads, table_reads, lookup_reads, slot_reads, increment_number_reads}
 
 -- ---- after `wide`
 

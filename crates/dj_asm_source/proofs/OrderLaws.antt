@@ -1,9 +1,9 @@
 -- The lines of a source follow their order to its end.
 use Rattle.std.proofs.Common.{◌≡◌, ℕ, ℤ, append_assoc, true, List, [], ◌∷◌, ◌++◌, map, Option, Some, None, refl, sym, ap, ◌∙◌, subst}
 use Rattle.std.specs.List.{flat_map}
-use Rattle.dj_source.specs.trusted.Lines.{Line, Aside, Implements, Beside, Does, End}
-use Rattle.dj_source.specs.trusted.Sources.{Source, FieldSource, BodyPart, Mark, Step, FrameStep, MethodSource, Bodiless, Coded, field_line, body_lines, part_lines, method_lines, lines_of}
-use Rattle.dj_source.specs.Order.{State, AtClass, AtInterfaces, AtFields, AtMethods, InBody, InFrame, after, run, is_final}
+use Rattle.dj_asm_source.specs.trusted.Lines.{Line, Aside, Implements, Beside, Does, End}
+use Rattle.dj_asm_source.specs.trusted.Sources.{Source, FieldSource, BodyPart, Mark, Step, FrameStep, MethodSource, Bodiless, Coded, field_line, body_lines, part_lines, method_lines, lines_of}
+use Rattle.dj_asm_source.specs.Order.{State, AtClass, AtInterfaces, AtFields, AtMethods, InBody, InFrame, after, run, is_final}
 
 pub run_append : (state : Option State) (xs ys : List Line) → run state (xs ++ ys) ≡ run (run state xs) ys
 unfolding run

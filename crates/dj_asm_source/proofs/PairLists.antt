@@ -2,17 +2,17 @@
 use Rattle.std.proofs.Common.{◌≡◌, ℕ, ◌<◌, ◌++◌, Bool, true, false, cond, length, ℤ, List, [], ◌∷◌, Option, Some, None, codes, bytes_eq, option_map, refl, sym, ap, subst, ◌∙◌, append_assoc, inl, inr, arith}
 use Rattle.std.proofs.lemmas.List.{append-nil}
 use Rattle.std.proofs.lemmas.Bool.{cases_Bool}
-use Rattle.dj_bytes.specs.trusted.Options.{◌>>=◌}
-use Rattle.dj_source.specs.declared.reader.Stop.{Stop}
-use Rattle.dj_source.specs.declared.reader.Stop.TheVariants as stops
-use Rattle.dj_tokens.specs.trusted.Words.{Word, Placed}
-use Rattle.dj_source.specs.trusted.Lines.{Label}
-use Rattle.dj_tokens.specs.WordReading.{number_in}
-use Rattle.dj_source.specs.Reading.{Read, Got, Wrong, Large, read_map, said_by, any_size, word_of, number_of, is_signed}
-use Rattle.dj_source.specs.LineReading.{LabelPairs, DefaultMatch, MatchOf, default_after, number, label, pairs_after, matches_from, match_in, target_from}
-use Rattle.dj_source.specs.Stops.{Stops, IsNoWord}
-use Rattle.dj_source.proofs.TypeLists.{stop_map, wrong_any, got_never}
-use Rattle.dj_source.proofs.SwitchLists.{no_word_wrong}
+use Rattle.dj_cursor.specs.trusted.Options.{◌>>=◌}
+use Rattle.dj_asm_source.specs.declared.reader.Stop.{Stop}
+use Rattle.dj_asm_source.specs.declared.reader.Stop.TheVariants as stops
+use Rattle.dj_asm_tokens.specs.trusted.Words.{Word, Placed}
+use Rattle.dj_asm_source.specs.trusted.Lines.{Label}
+use Rattle.dj_asm_tokens.specs.WordReading.{number_in}
+use Rattle.dj_asm_source.specs.Reading.{Read, Got, Wrong, Large, read_map, said_by, any_size, word_of, number_of, is_signed}
+use Rattle.dj_asm_source.specs.LineReading.{LabelPairs, DefaultMatch, MatchOf, default_after, number, label, pairs_after, matches_from, match_in, target_from}
+use Rattle.dj_asm_source.specs.Stops.{Stops, IsNoWord}
+use Rattle.dj_asm_source.proofs.TypeLists.{stop_map, wrong_any, got_never}
+use Rattle.dj_asm_source.proofs.SwitchLists.{no_word_wrong}
 
 abbrev onto : List (ℤ × Label) → LabelPairs → LabelPairs
 onto prefix x = (prefix ++ x.0, x.1)

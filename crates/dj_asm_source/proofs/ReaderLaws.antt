@@ -3,15 +3,15 @@ use Rattle.std.proofs.Common.{◌≡◌, ℕ, ◌&&◌, Bool, true, cond, ℤ, p
 use Rattle.std.specs.Prelude.{int_le}
 use Rattle.std.proofs.lemmas.Bool.Decides.{nat_tests}
 use Rattle.std.proofs.lemmas.Int.{ints}
-use Rattle.dj_source.specs.declared.reader.NumberField.{NumberField}
-use Rattle.dj_source.specs.declared.reader.NumberField.TheVariants as fields
+use Rattle.dj_asm_source.specs.declared.reader.NumberField.{NumberField}
+use Rattle.dj_asm_source.specs.declared.reader.NumberField.TheVariants as fields
 use Rattle.std.proofs.lemmas.Bool.{cases_Bool, and_parts, and_from}
-use Rattle.dj_tokens.specs.trusted.Words.{Word, Placed}
-use Rattle.dj_tokens.specs.Numbers.{Value, Outside, number_within}
-use Rattle.dj_tokens.specs.WordReading.{number_in}
-use Rattle.dj_source.specs.Reading.{Got, Large, said_by}
-use Rattle.dj_source.specs.LineReading.{number}
-use Rattle.dj_source.specs.Stops.{field_fits, lowest, highest}
+use Rattle.dj_asm_tokens.specs.trusted.Words.{Word, Placed}
+use Rattle.dj_asm_tokens.specs.Numbers.{Value, Outside, number_within}
+use Rattle.dj_asm_tokens.specs.WordReading.{number_in}
+use Rattle.dj_asm_source.specs.Reading.{Got, Large, said_by}
+use Rattle.dj_asm_source.specs.LineReading.{number}
+use Rattle.dj_asm_source.specs.Stops.{field_fits, lowest, highest}
 
 pub in_bounds : (field : NumberField) (n : ℤ) → (int_le (lowest field) n && int_le n (highest field)) ≡ field_fits field n
 in_bounds fields.U8 (pos n) = grind (arith, ints, nat_tests)

@@ -1,9 +1,9 @@
 -- What a reader must do to read a language, and how readers in sequence, by choice and by meaning do it.
 use Rattle.std.proofs.Common.{◌≡◌, List, [], ◌∷◌, ◌++◌, refl, sym, ap, ◌∙◌, subst, append_assoc}
 use Rattle.std.specs.List.{AllZip}
-use Rattle.dj_tokens.specs.trusted.Words.{Placed}
-use Rattle.dj_source.specs.trusted.Items.{Item, Says}
-use Rattle.dj_source.specs.Reading.{Read, Got, Wrong, Large, Reader, read_map, read_then, mapped, ◌&◌, got}
+use Rattle.dj_asm_tokens.specs.trusted.Words.{Placed}
+use Rattle.dj_asm_source.specs.trusted.Items.{Item, Says}
+use Rattle.dj_asm_source.specs.Reading.{Read, Got, Wrong, Large, Reader, read_map, read_then, mapped, ◌&◌, got}
 
 -- ---- languages
 

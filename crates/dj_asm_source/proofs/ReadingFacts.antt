@@ -1,9 +1,9 @@
 -- What is read of a few texts, at plain values.
 use Rattle.std.proofs.Common.{◌≡◌, ℕ, List, [], ◌∷◌, ◌++◌, Ok, Err, codes, refl}
-use Rattle.dj_source.specs.declared.error.AsmError.TheVariants as asm_errors
-use Rattle.dj_tokens.specs.trusted.Words.{tokens_after, word_units}
-use Rattle.dj_source.specs.trusted.Lines.{Class, Super}
-use Rattle.dj_source.specs.LineReading.{text_read, lines_read}
+use Rattle.dj_asm_source.specs.declared.error.AsmError.TheVariants as asm_errors
+use Rattle.dj_asm_tokens.specs.trusted.Words.{tokens_after, word_units}
+use Rattle.dj_asm_source.specs.trusted.Lines.{Class, Super}
+use Rattle.dj_asm_source.specs.LineReading.{text_read, lines_read}
 use Rattle.dj_names.specs.Tests.{class_name_test, unqualified_name_test, field_descriptor_test}
 use Rattle.dj_names.specs.trusted.NameReading.{reads_class_name}
 use Rattle.dj_names.specs.trusted.DescReading.{field_read, type_read, dims_read, of_read}

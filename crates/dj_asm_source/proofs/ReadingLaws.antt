@@ -1,22 +1,22 @@
 -- A text is read row by row, and then its labels are looked at.
 use Rattle.std.proofs.Common.{◌≡◌, ℕ, ◌+◌, ◌<◌, ◌≤◌, ◌^◌, true, false, List, [], ◌∷◌, ◌++◌, length, Option, Some, None, Ok, Err, refl, sym, ap, ◌∙◌, subst, inl, inr, arith}
 use Rattle.std.proofs.lemmas.List.{append_assoc, append-nil, length-append}
-use Rattle.dj_source.specs.declared.error.AsmError.{AsmError}
-use Rattle.dj_source.specs.declared.error.AsmError.TheVariants as asm_errors
-use Rattle.dj_source.specs.declared.syntax.Line.{Line as TheLine}
-use Rattle.dj_source.specs.declared.unread.Row.TheVariants as rows
-use Rattle.dj_source.specs.LineViews.{line_view}
-use Rattle.dj_source.specs.trusted.Lines.{Line}
-use Rattle.dj_source.specs.trusted.Faults.{WordFault}
-use Rattle.dj_source.specs.trusted.Labels.{LabelFault}
-use Rattle.dj_source.specs.LineReading.{AreRead, with_line, text_read}
-use Rattle.dj_source.specs.LabelReading.{first_mislabelled, label_error, labels_fault}
-use Rattle.dj_source.specs.Unread.{UnreadLines, all_left, read_left, numbers_left, GivesRow, LeavesRow}
-use Rattle.dj_source.specs.SourceLines.{TextLines, AreLinesOf, IsFirstFault}
-use Rattle.dj_source.specs.Readings.{no_lines, with_last, with_lines, IsReading, AreAllRead, IsReadFault, GoesOn}
-use Rattle.dj_source.proofs.TextLaws.{IsReadRightly, text_read_rightly}
-use Rattle.dj_source.proofs.NumberLaws.{line_numbers_are}
-use Rattle.dj_source.proofs.LabelTextLaws.{label_fault_is, no_label_fault}
+use Rattle.dj_asm_source.specs.declared.error.AsmError.{AsmError}
+use Rattle.dj_asm_source.specs.declared.error.AsmError.TheVariants as asm_errors
+use Rattle.dj_asm_source.specs.declared.syntax.Line.{Line as TheLine}
+use Rattle.dj_asm_source.specs.declared.unread.Row.TheVariants as rows
+use Rattle.dj_asm_source.specs.LineViews.{line_view}
+use Rattle.dj_asm_source.specs.trusted.Lines.{Line}
+use Rattle.dj_asm_source.specs.trusted.Faults.{WordFault}
+use Rattle.dj_asm_source.specs.trusted.Labels.{LabelFault}
+use Rattle.dj_asm_source.specs.LineReading.{AreRead, with_line, text_read}
+use Rattle.dj_asm_source.specs.LabelReading.{first_mislabelled, label_error, labels_fault}
+use Rattle.dj_asm_source.specs.Unread.{UnreadLines, all_left, read_left, numbers_left, GivesRow, LeavesRow}
+use Rattle.dj_asm_source.specs.SourceLines.{TextLines, AreLinesOf, IsFirstFault}
+use Rattle.dj_asm_source.specs.Readings.{no_lines, with_last, with_lines, IsReading, AreAllRead, IsReadFault, GoesOn}
+use Rattle.dj_asm_source.proofs.TextLaws.{IsReadRightly, text_read_rightly}
+use Rattle.dj_asm_source.proofs.NumberLaws.{line_numbers_are}
+use Rattle.dj_asm_source.proofs.LabelTextLaws.{label_fault_is, no_label_fault}
 
 -- ---- row by row
 

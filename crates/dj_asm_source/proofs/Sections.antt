@@ -3,9 +3,9 @@ use Rattle.std.proofs.Common.{◌≡◌, ℕ, ℤ, suc, ◌+◌, Bool, true, fal
 use Rattle.std.specs.List.{flat_map, list_all, prefix_len}
 use Rattle.std.proofs.lemmas.Bool.{and_parts, and_from, not-false}
 use Rattle.std.proofs.lemmas.List.{append_assoc, take-append-drop}
-use Rattle.dj_source.specs.trusted.Lines.{Line, Aside, Class, Super, Implements, Abstract, Method, Stack, Locals, Beside, Does, End}
-use Rattle.dj_source.specs.trusted.Sources.{Source, FieldSource, BodyPart, Mark, Step, FrameStep, MethodSource, Bodiless, Coded, version_lines, field_line, body_lines, method_lines, head_lines, lines_of}
-use Rattle.dj_source.specs.LabelReading.{begins_method, is_cut, with_line_first, sections_of, is_inside, section_size}
+use Rattle.dj_asm_source.specs.trusted.Lines.{Line, Aside, Class, Super, Implements, Abstract, Method, Stack, Locals, Beside, Does, End}
+use Rattle.dj_asm_source.specs.trusted.Sources.{Source, FieldSource, BodyPart, Mark, Step, FrameStep, MethodSource, Bodiless, Coded, version_lines, field_line, body_lines, method_lines, head_lines, lines_of}
+use Rattle.dj_asm_source.specs.LabelReading.{begins_method, is_cut, with_line_first, sections_of, is_inside, section_size}
 
 -- ---- one section, and those after it
 

@@ -1,8 +1,8 @@
 -- The order of a source's lines, and what labels stand for, at plain values.
 use Rattle.std.proofs.Common.{◌≡◌, pos, List, [], ◌∷◌, ◌++◌, map, Some, None, codes, refl, subst, arith}
-use Rattle.dj_source.specs.trusted.Lines.{Line, Class, Version, Super, Implements, Field, Abstract, Method, Stack, Locals, Beside, Framed, Does, End, Same, Plain, Jump, Labelled, Catch}
-use Rattle.dj_source.specs.trusted.Sources.{Source, BodyPart, Mark, Step, FrameStep, Bodiless, Coded, lines_of, method_lines}
-use Rattle.dj_source.specs.trusted.Labels.{AtInstruction, Range, IsLabelAt, IsMet, instruction_count, uses_of}
+use Rattle.dj_asm_source.specs.trusted.Lines.{Line, Class, Version, Super, Implements, Field, Abstract, Method, Stack, Locals, Beside, Framed, Does, End, Same, Plain, Jump, Labelled, Catch}
+use Rattle.dj_asm_source.specs.trusted.Sources.{Source, BodyPart, Mark, Step, FrameStep, Bodiless, Coded, lines_of, method_lines}
+use Rattle.dj_asm_source.specs.trusted.Labels.{AtInstruction, Range, IsLabelAt, IsMet, instruction_count, uses_of}
 
 -- ---- lines in their order
 

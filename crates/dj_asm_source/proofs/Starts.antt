@@ -3,17 +3,17 @@ use Rattle.std.proofs.Common.{◌≡◌, ◌≢◌, ℕ, zero, suc, ◌+◌, ◌
 use Rattle.std.specs.Prelude.{⊤}
 use Rattle.std.specs.List.{AllByRecursion, list_all}
 use Rattle.std.proofs.lemmas.Bool.{and_parts, eqb-true}
-use Rattle.dj_bytes.proofs.Options.{some_is, chose_some, bind_some}
-use Rattle.dj_bytes.specs.trusted.Options.{◌>>=◌}
-use Rattle.dj_tokens.specs.trusted.Words.{Word}
-use Rattle.dj_source.specs.trusted.Items.{Item, Exactly}
-use Rattle.dj_tokens.specs.trusted.Mnemonics.{mnemonics, mnemonic}
-use Rattle.dj_tokens.specs.WordReading.{tested, row_of, place_from, before_colon, is_some_label, label_in}
-use Rattle.dj_source.specs.Reading.{opcode_of}
-use Rattle.dj_source.specs.LineReading.{LineStart, ClassLine, VersionLine, SuperLine, ImplementsLine, FieldLine, AbstractLine, MethodLine, StackLine, LocalsLine, CatchLine, FrameLine, EndLine, LabelLine, OperationLine, directives, or_else, start_in}
-use Rattle.dj_source.proofs.WordLaws.{IsWordReported, word_reported, row_sound, row_value, apart}
-use Rattle.dj_source.proofs.TypeWords.{mapped_some, some_label_decides, places_reported, there}
-use Rattle.dj_source.proofs.Choices.{IsReported}
+use Rattle.dj_cursor.proofs.Options.{some_is, chose_some, bind_some}
+use Rattle.dj_cursor.specs.trusted.Options.{◌>>=◌}
+use Rattle.dj_asm_tokens.specs.trusted.Words.{Word}
+use Rattle.dj_asm_source.specs.trusted.Items.{Item, Exactly}
+use Rattle.dj_asm_tokens.specs.trusted.Mnemonics.{mnemonics, mnemonic}
+use Rattle.dj_asm_tokens.specs.WordReading.{tested, row_of, place_from, before_colon, is_some_label, label_in}
+use Rattle.dj_asm_source.specs.Reading.{opcode_of}
+use Rattle.dj_asm_source.specs.LineReading.{LineStart, ClassLine, VersionLine, SuperLine, ImplementsLine, FieldLine, AbstractLine, MethodLine, StackLine, LocalsLine, CatchLine, FrameLine, EndLine, LabelLine, OperationLine, directives, or_else, start_in}
+use Rattle.dj_asm_source.proofs.WordLaws.{IsWordReported, word_reported, row_sound, row_value, apart}
+use Rattle.dj_asm_source.proofs.TypeWords.{mapped_some, some_label_decides, places_reported, there}
+use Rattle.dj_asm_source.proofs.Choices.{IsReported}
 
 -- ---- labels
 

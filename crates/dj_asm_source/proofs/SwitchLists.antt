@@ -1,13 +1,13 @@
 -- Targets and pairs of switches, read one after the other.
 use Rattle.std.proofs.Common.{◌≡◌, ℕ, ◌++◌, Bool, true, false, cond, List, [], ◌∷◌, Option, Some, codes, bytes_eq, option_map, refl, sym, ap, subst, ◌∙◌, append_assoc}
 use Rattle.std.proofs.lemmas.List.{append-nil}
-use Rattle.dj_source.specs.declared.reader.Stop.{Stop}
-use Rattle.dj_tokens.specs.trusted.Words.{Word, Placed}
-use Rattle.dj_source.specs.trusted.Lines.{Label}
-use Rattle.dj_source.specs.Reading.{Read, Got, Wrong, Large, read_map}
-use Rattle.dj_source.specs.LineReading.{Target, DefaultWord, default_after, targets, targets_from, target_named}
-use Rattle.dj_source.specs.Stops.{Stops, IsNoWord}
-use Rattle.dj_source.proofs.TypeLists.{stop_map}
+use Rattle.dj_asm_source.specs.declared.reader.Stop.{Stop}
+use Rattle.dj_asm_tokens.specs.trusted.Words.{Word, Placed}
+use Rattle.dj_asm_source.specs.trusted.Lines.{Label}
+use Rattle.dj_asm_source.specs.Reading.{Read, Got, Wrong, Large, read_map}
+use Rattle.dj_asm_source.specs.LineReading.{Target, DefaultWord, default_after, targets, targets_from, target_named}
+use Rattle.dj_asm_source.specs.Stops.{Stops, IsNoWord}
+use Rattle.dj_asm_source.proofs.TypeLists.{stop_map}
 
 abbrev Targets : Type 0
 Targets = List Label × Label

@@ -5,11 +5,11 @@ use Rattle.dj_names.specs.trusted.DescReading.{field_read, type_read, dims_read,
 use Rattle.dj_names.specs.trusted.NameReading.{reads_class_name}
 use Rattle.dj_names.specs.Tests.{class_name_test, unqualified_name_test, method_name_test, field_descriptor_test, method_descriptor_test, array_descriptor_test}
 use Rattle.dj_ops.specs.trusted.Forms.{form_of}
-use Rattle.dj_source.specs.declared.error.AsmError.{AsmError}
-use Rattle.dj_source.specs.declared.error.AsmError.TheVariants as asm_errors
-use Rattle.dj_tokens.specs.trusted.Words.{tokens_after, word_units, string_units}
-use Rattle.dj_tokens.specs.trusted.Mnemonics.{mnemonics}
-use Rattle.dj_source.specs.LineReading.{AreRead, text_read, lines_read, targets, pairs_after, types_until, types_up_to}
+use Rattle.dj_asm_source.specs.declared.error.AsmError.{AsmError}
+use Rattle.dj_asm_source.specs.declared.error.AsmError.TheVariants as asm_errors
+use Rattle.dj_asm_tokens.specs.trusted.Words.{tokens_after, word_units, string_units}
+use Rattle.dj_asm_tokens.specs.trusted.Mnemonics.{mnemonics}
+use Rattle.dj_asm_source.specs.LineReading.{AreRead, text_read, lines_read, targets, pairs_after, types_until, types_up_to}
 
 -- | is a line feed, ' a quote and ` a backslash
 abbrev byte_of : ℕ → ℕ

@@ -2,21 +2,21 @@
 use Rattle.std.proofs.Common.{◌≡◌, ◌⊎◌, ℕ, List, [], ◌∷◌, ◌++◌, map, Ok, Err, refl, sym, ap, ◌∙◌, subst, inl, inr, append_assoc}
 use Rattle.std.specs.List.{flat_map, AllByRecursion, AllZip, enumerate_from}
 use Rattle.std.specs.Str.Lines.{lines}
-use Rattle.dj_source.specs.declared.error.AsmError.{AsmError}
-use Rattle.dj_tokens.specs.trusted.Words.{Token, Placed, line_tokens, tokens_of, end_line}
-use Rattle.dj_source.specs.trusted.Items.{Item, Says}
-use Rattle.dj_source.specs.trusted.Lines.{Line, IsLine, IsSized}
-use Rattle.dj_source.specs.trusted.Sources.{Source, IsSource, IsSizedSource, Reads, line_items, lines_of, token_of, IsTextOf}
-use Rattle.dj_source.specs.Order.{AtClass}
-use Rattle.dj_source.specs.trusted.Faults.{Begins, IsAt, IsMisplaced, IsLargeNumber, IsUnfinished, WordFault}
-use Rattle.dj_source.specs.LineReading.{AreRead, text_read}
-use Rattle.dj_source.proofs.FaultLaws.{no_fault_of_text}
-use Rattle.dj_source.proofs.OrderLaws.{lines_follow}
-use Rattle.dj_source.proofs.OrderSources.{source_of}
-use Rattle.dj_source.proofs.Readers.{Said, Started, Allowed}
-use Rattle.dj_source.proofs.Choices.{place}
-use Rattle.dj_tokens.proofs.TokenLaws.{IsRowOrNone, line_row}
-use Rattle.dj_source.proofs.TextReading.{rest_lang, Stops, IsWrong, IsLarge, IsShort, AreLines, IsRead, joined, rows_read}
+use Rattle.dj_asm_source.specs.declared.error.AsmError.{AsmError}
+use Rattle.dj_asm_tokens.specs.trusted.Words.{Token, Placed, line_tokens, tokens_of, end_line}
+use Rattle.dj_asm_source.specs.trusted.Items.{Item, Says}
+use Rattle.dj_asm_source.specs.trusted.Lines.{Line, IsLine, IsSized}
+use Rattle.dj_asm_source.specs.trusted.Sources.{Source, IsSource, IsSizedSource, Reads, line_items, lines_of, token_of, IsTextOf}
+use Rattle.dj_asm_source.specs.Order.{AtClass}
+use Rattle.dj_asm_source.specs.trusted.Faults.{Begins, IsAt, IsMisplaced, IsLargeNumber, IsUnfinished, WordFault}
+use Rattle.dj_asm_source.specs.LineReading.{AreRead, text_read}
+use Rattle.dj_asm_source.proofs.FaultLaws.{no_fault_of_text}
+use Rattle.dj_asm_source.proofs.OrderLaws.{lines_follow}
+use Rattle.dj_asm_source.proofs.OrderSources.{source_of}
+use Rattle.dj_asm_source.proofs.Readers.{Said, Started, Allowed}
+use Rattle.dj_asm_source.proofs.Choices.{place}
+use Rattle.dj_asm_tokens.proofs.TokenLaws.{IsRowOrNone, line_row}
+use Rattle.dj_asm_source.proofs.TextReading.{rest_lang, Stops, IsWrong, IsLarge, IsShort, AreLines, IsRead, joined, rows_read}
 
 -- ---- tokens with their places, and without
 

@@ -2,21 +2,21 @@
 use Rattle.std.proofs.Common.{◌≡◌, ◌⊎◌, ℕ, Bool, true, false, cond, List, [], ◌∷◌, ◌++◌, map, Option, Some, None, Ok, Err, is_some, refl, sym, ap, ◌∙◌, subst, inl, inr, true≢false, append_assoc}
 use Rattle.std.specs.List.{flat_map, AllByRecursion, AllZip}
 use Rattle.std.proofs.lemmas.List.{append-nil}
-use Rattle.dj_source.specs.declared.error.AsmError.{AsmError}
-use Rattle.dj_source.specs.declared.error.AsmError.TheVariants as asm_errors
-use Rattle.dj_tokens.specs.trusted.Words.{Token, Placed}
-use Rattle.dj_source.specs.trusted.Items.{Item, Says}
-use Rattle.dj_source.specs.trusted.Lines.{Line, items_of, IsLine, IsSized}
-use Rattle.dj_source.specs.trusted.Sources.{line_items}
-use Rattle.dj_source.specs.Order.{State, after, run, is_final}
-use Rattle.dj_source.specs.Reading.{Read, Got, Wrong, Large}
-use Rattle.dj_source.specs.LineReading.{line, AreRead, missing, wrong_at, large_at, with_line, lines_from, lines_read}
-use Rattle.dj_source.proofs.Beginnings.{closing, closing_final, closing_lines, closing_sizes, closing_tokens, closing_said}
-use Rattle.dj_source.proofs.Readers.{Lang, Said, Started, Allowed, GotFrom, WrongFrom, LargeFrom, ReadFrom, split, said_append}
-use Rattle.dj_source.proofs.Choices.{place}
-use Rattle.dj_source.proofs.LineReaders.{lines_lang, line_reads}
-use Rattle.dj_tokens.proofs.TokenLaws.{IsRow, IsRowOrNone, at_end}
-use Rattle.dj_source.proofs.ItemLaws.{line_is_over, no_line_said, last_said}
+use Rattle.dj_asm_source.specs.declared.error.AsmError.{AsmError}
+use Rattle.dj_asm_source.specs.declared.error.AsmError.TheVariants as asm_errors
+use Rattle.dj_asm_tokens.specs.trusted.Words.{Token, Placed}
+use Rattle.dj_asm_source.specs.trusted.Items.{Item, Says}
+use Rattle.dj_asm_source.specs.trusted.Lines.{Line, items_of, IsLine, IsSized}
+use Rattle.dj_asm_source.specs.trusted.Sources.{line_items}
+use Rattle.dj_asm_source.specs.Order.{State, after, run, is_final}
+use Rattle.dj_asm_source.specs.Reading.{Read, Got, Wrong, Large}
+use Rattle.dj_asm_source.specs.LineReading.{line, AreRead, missing, wrong_at, large_at, with_line, lines_from, lines_read}
+use Rattle.dj_asm_source.proofs.Beginnings.{closing, closing_final, closing_lines, closing_sizes, closing_tokens, closing_said}
+use Rattle.dj_asm_source.proofs.Readers.{Lang, Said, Started, Allowed, GotFrom, WrongFrom, LargeFrom, ReadFrom, split, said_append}
+use Rattle.dj_asm_source.proofs.Choices.{place}
+use Rattle.dj_asm_source.proofs.LineReaders.{lines_lang, line_reads}
+use Rattle.dj_asm_tokens.proofs.TokenLaws.{IsRow, IsRowOrNone, at_end}
+use Rattle.dj_asm_source.proofs.ItemLaws.{line_is_over, no_line_said, last_said}
 
 -- ---- the lines from a state on
 

@@ -3,14 +3,14 @@ use Rattle.std.proofs.Common.{◌≡◌, ℕ, suc, ◌++◌, Bool, true, false, 
 use Rattle.std.specs.Bool.{⊤}
 use Rattle.std.proofs.lemmas.Bool.{cases_Bool}
 use Rattle.std.proofs.lemmas.List.{append-nil}
-use Rattle.dj_source.specs.declared.reader.Stop.{Stop}
-use Rattle.dj_source.specs.declared.reader.Stop.TheVariants as stops
-use Rattle.dj_tokens.specs.trusted.Words.{Token, Placed}
-use Rattle.dj_source.specs.trusted.Lines.{FrameType}
-use Rattle.dj_source.specs.Reading.{Read, Reader, Got, Wrong, Large, read_map, read_then, said_by, any_size, type_of}
-use Rattle.dj_source.specs.LineReading.{line_end, frame_type, types_from, types_until, types_up_to, is_end}
-use Rattle.dj_source.specs.StartViews.{AfterEnd}
-use Rattle.dj_source.specs.Stops.{Stops}
+use Rattle.dj_asm_source.specs.declared.reader.Stop.{Stop}
+use Rattle.dj_asm_source.specs.declared.reader.Stop.TheVariants as stops
+use Rattle.dj_asm_tokens.specs.trusted.Words.{Token, Placed}
+use Rattle.dj_asm_source.specs.trusted.Lines.{FrameType}
+use Rattle.dj_asm_source.specs.Reading.{Read, Reader, Got, Wrong, Large, read_map, read_then, said_by, any_size, type_of}
+use Rattle.dj_asm_source.specs.LineReading.{line_end, frame_type, types_from, types_until, types_up_to, is_end}
+use Rattle.dj_asm_source.specs.StartViews.{AfterEnd}
+use Rattle.dj_asm_source.specs.Stops.{Stops}
 
 pub prefix_more : {A : Type 0} (prefix : List A) (a : A) (read : Read (List A)) → read_map (λ more. (prefix ++ a ∷ []) ++ more) read ≡ read_map (λ more. prefix ++ more) (read_map (λ more. a ∷ more) read)
 prefix_more prefix a (Got more rest) = ap (λ (xs : List _). Got xs rest) (append_assoc prefix (a ∷ []) more)

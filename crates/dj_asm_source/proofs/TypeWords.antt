@@ -4,19 +4,19 @@ use Rattle.std.proofs.lemmas.Bool.{le-leb}
 use Rattle.std.proofs.lemmas.Bool.Decides.{Decides-or}
 use Rattle.std.proofs.lemmas.Slice.Eq.{bytes_eq-Decides}
 use Rattle.std.proofs.lemmas.List.{take-append-drop}
-use Rattle.dj_bytes.proofs.Options.{some_is, chose_some}
+use Rattle.dj_cursor.proofs.Options.{some_is, chose_some}
 use Rattle.dj_names.specs.trusted.Types.{Name}
 use Rattle.dj_names.specs.trusted.ModifiedUtf8.{units_text}
 use Rattle.dj_ops.specs.trusted.Instructions.{IsArrayType}
 use Rattle.dj_pool.specs.trusted.Pool.{IsClassText}
-use Rattle.dj_tokens.specs.trusted.Words.{Token, Word}
-use Rattle.dj_source.specs.trusted.Items.{Exactly, Says}
-use Rattle.dj_tokens.specs.trusted.Mnemonics.{base_words, base_word}
-use Rattle.dj_source.specs.trusted.Lines.{FrameType, Simple, Object, New, IsFrameType, IsSimpleType, type_item, catch_item}
-use Rattle.dj_tokens.specs.WordReading.{tested, place_from, is_some_label, class_text_test}
-use Rattle.dj_source.specs.Reading.{is_simple_type, long_type, type_in, type_of, caught_in, caught_of, base_of}
-use Rattle.dj_source.proofs.Choices.{IsReported}
-use Rattle.dj_source.proofs.WordLaws.{IsWordReported, word_reported, place_sound, place_whole, apart, class_text_decides}
+use Rattle.dj_asm_tokens.specs.trusted.Words.{Token, Word}
+use Rattle.dj_asm_source.specs.trusted.Items.{Exactly, Says}
+use Rattle.dj_asm_tokens.specs.trusted.Mnemonics.{base_words, base_word}
+use Rattle.dj_asm_source.specs.trusted.Lines.{FrameType, Simple, Object, New, IsFrameType, IsSimpleType, type_item, catch_item}
+use Rattle.dj_asm_tokens.specs.WordReading.{tested, place_from, is_some_label, class_text_test}
+use Rattle.dj_asm_source.specs.Reading.{is_simple_type, long_type, type_in, type_of, caught_in, caught_of, base_of}
+use Rattle.dj_asm_source.proofs.Choices.{IsReported}
+use Rattle.dj_asm_source.proofs.WordLaws.{IsWordReported, word_reported, place_sound, place_whole, apart, class_text_decides}
 
 -- ---- options
 

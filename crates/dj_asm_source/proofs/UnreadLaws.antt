@@ -2,17 +2,17 @@
 use Rattle.std.proofs.Common.{◌≡◌, ◌≢◌, ℕ, ◌+◌, ◌<◌, List, [], ◌∷◌, ◌++◌, length, map, Some, None, Ok, Err, refl, sym, ap, ◌∙◌, subst, arith, if◌then◌else◌}
 use Rattle.std.specs.List.{enumerate_from}
 use Rattle.std.specs.Str.Lines.{lines}
-use Rattle.dj_source.specs.declared.reader.Stop.{Stop}
-use Rattle.dj_source.specs.declared.reader.Stop.TheVariants as stops
-use Rattle.dj_source.specs.declared.unread.Row.TheVariants as rows
-use Rattle.dj_source.specs.declared.syntax.Line.{Line as TheLine}
-use Rattle.dj_tokens.specs.trusted.Words.{Placed, line_tokens}
-use Rattle.dj_source.specs.Order.{State, after, is_final}
-use Rattle.dj_source.specs.trusted.Lines.{Line}
-use Rattle.dj_source.specs.Reading.{Read, Got, Wrong, Large}
-use Rattle.dj_source.specs.LineReading.{AreRead, missing, line, with_line, lines_from, lines_read}
-use Rattle.dj_source.specs.Stops.{Stops}
-use Rattle.dj_source.specs.Unread.{UnreadLines, end_number, read_left, number_if, numbers_with_words, numbers_left, read_after, stop_fault, GivesLine, LeavesRow}
+use Rattle.dj_asm_source.specs.declared.reader.Stop.{Stop}
+use Rattle.dj_asm_source.specs.declared.reader.Stop.TheVariants as stops
+use Rattle.dj_asm_source.specs.declared.unread.Row.TheVariants as rows
+use Rattle.dj_asm_source.specs.declared.syntax.Line.{Line as TheLine}
+use Rattle.dj_asm_tokens.specs.trusted.Words.{Placed, line_tokens}
+use Rattle.dj_asm_source.specs.Order.{State, after, is_final}
+use Rattle.dj_asm_source.specs.trusted.Lines.{Line}
+use Rattle.dj_asm_source.specs.Reading.{Read, Got, Wrong, Large}
+use Rattle.dj_asm_source.specs.LineReading.{AreRead, missing, line, with_line, lines_from, lines_read}
+use Rattle.dj_asm_source.specs.Stops.{Stops}
+use Rattle.dj_asm_source.specs.Unread.{UnreadLines, end_number, read_left, number_if, numbers_with_words, numbers_left, read_after, stop_fault, GivesLine, LeavesRow}
 
 abbrev unread : State → ℕ → List ℕ → UnreadLines
 unread state number rest = record { state = state; number = number; rest = rest }

@@ -2,19 +2,19 @@
 use Rattle.std.proofs.Common.{◌≡◌, ℕ, Bool, true, false, ℤ, FitsSigned, List, [], ◌∷◌, ◌++◌, Option, Some, None, IfSome, codes, refl, sym, ap, subst, true≢false}
 use Rattle.std.specs.Prelude.{⊤}
 use Rattle.std.specs.Int.{w32, w64}
-use Rattle.dj_bytes.proofs.Options.{some_is}
+use Rattle.dj_cursor.proofs.Options.{some_is}
 use Rattle.dj_names.specs.trusted.Types.{Name}
 use Rattle.dj_pool.specs.trusted.Pool.{IsClassText}
-use Rattle.dj_tokens.specs.trusted.Words.{Token, Word, Quoted, Bad, LineEnd}
-use Rattle.dj_source.specs.trusted.Items.{Item, Exactly, Ended, Says}
-use Rattle.dj_source.specs.trusted.Lines.{Value, IntValue, LongValue, StringValue, value_items, IsSizedValue, Literal, IntLiteral, StringLiteral, ClassLiteral, literal_items, IsLiteralName, IsSizedLiteral, interface_items}
-use Rattle.dj_tokens.specs.WordReading.{row_of, class_text_test}
-use Rattle.dj_source.specs.Reading.{is_signed, ◌&◌}
-use Rattle.dj_source.specs.LineReading.{line_end, number, string, name, ValueStart, NoValue, IntWord, LongWord, StringWord, value_start, value_after, value, LiteralStart, IntLiteralWord, StringLiteralWord, ClassLiteralWord, literal_start, literal_after, literal, interface_start, interface_after, interface_end}
-use Rattle.dj_source.proofs.Readers.{Lang, Started, IsReader, both, sequence_reads, IsMade, mapped_reads, got_reads}
-use Rattle.dj_source.proofs.Choices.{after_first, HasFirst, IsChoice, IsReported, choose_reads, place}
-use Rattle.dj_source.proofs.WordLaws.{row_sound, row_value, rows_reported, signed_32, signed_64}
-use Rattle.dj_source.proofs.FieldReaders.{all, end_lang, end_reads, number_lang, number_reads, string_lang, string_reads, name_lang, class_text_reads}
+use Rattle.dj_asm_tokens.specs.trusted.Words.{Token, Word, Quoted, Bad, LineEnd}
+use Rattle.dj_asm_source.specs.trusted.Items.{Item, Exactly, Ended, Says}
+use Rattle.dj_asm_source.specs.trusted.Lines.{Value, IntValue, LongValue, StringValue, value_items, IsSizedValue, Literal, IntLiteral, StringLiteral, ClassLiteral, literal_items, IsLiteralName, IsSizedLiteral, interface_items}
+use Rattle.dj_asm_tokens.specs.WordReading.{row_of, class_text_test}
+use Rattle.dj_asm_source.specs.Reading.{is_signed, ◌&◌}
+use Rattle.dj_asm_source.specs.LineReading.{line_end, number, string, name, ValueStart, NoValue, IntWord, LongWord, StringWord, value_start, value_after, value, LiteralStart, IntLiteralWord, StringLiteralWord, ClassLiteralWord, literal_start, literal_after, literal, interface_start, interface_after, interface_end}
+use Rattle.dj_asm_source.proofs.Readers.{Lang, Started, IsReader, both, sequence_reads, IsMade, mapped_reads, got_reads}
+use Rattle.dj_asm_source.proofs.Choices.{after_first, HasFirst, IsChoice, IsReported, choose_reads, place}
+use Rattle.dj_asm_source.proofs.WordLaws.{row_sound, row_value, rows_reported, signed_32, signed_64}
+use Rattle.dj_asm_source.proofs.FieldReaders.{all, end_lang, end_reads, number_lang, number_reads, string_lang, string_reads, name_lang, class_text_reads}
 
 -- what a value's start has that has a word
 abbrev IsWorded : ValueStart → Type 0

@@ -8,18 +8,18 @@ use Rattle.std.specs.Int.{w8, w16, w32, w64}
 use Rattle.std.proofs.lemmas.Bool.{leb-true, le-leb, ltb-true, lt-ltb, eqb-true, ne_eqb, cases_Bool, and_parts, and_from}
 use Rattle.std.proofs.lemmas.Bool.Decides.{Decides-and, Decides-or, Decides-ltb}
 use Rattle.std.proofs.lemmas.Slice.Eq.{bytes_eq-Decides}
-use Rattle.dj_bytes.specs.trusted.Options.{◌>>=◌}
-use Rattle.dj_bytes.proofs.Options.{some_is, chose_some}
+use Rattle.dj_cursor.specs.trusted.Options.{◌>>=◌}
+use Rattle.dj_cursor.proofs.Options.{some_is, chose_some}
 use Rattle.dj_names.specs.trusted.ModifiedUtf8.{units_text}
 use Rattle.dj_names.specs.Tests.{class_name_test, array_descriptor_test}
 use Rattle.dj_names.proofs.TestLaws.{class_name_test-decides, array_descriptor_test-decides}
 use Rattle.dj_pool.specs.trusted.Pool.{IsClassText}
-use Rattle.dj_tokens.specs.trusted.Words.{Token, Word, Quoted, Bad, LineEnd}
-use Rattle.dj_source.specs.trusted.Items.{Item, Exactly, Flags, Number, Text, Ended, Says, SaysFlags, SaysPlainNumber, SaysMinusNumber, SaysCalled}
-use Rattle.dj_source.specs.trusted.Lines.{FitsBits, called}
-use Rattle.dj_tokens.specs.WordReading.{tested, row_of, place_from, is_numeral, number_in, class_text_test}
-use Rattle.dj_source.specs.Reading.{word_of, string_of, end_of, exactly, flags_of, number_of, is_between, is_signed, name_of}
-use Rattle.dj_source.proofs.Choices.{IsReported}
+use Rattle.dj_asm_tokens.specs.trusted.Words.{Token, Word, Quoted, Bad, LineEnd}
+use Rattle.dj_asm_source.specs.trusted.Items.{Item, Exactly, Flags, Number, Text, Ended, Says, SaysFlags, SaysPlainNumber, SaysMinusNumber, SaysCalled}
+use Rattle.dj_asm_source.specs.trusted.Lines.{FitsBits, called}
+use Rattle.dj_asm_tokens.specs.WordReading.{tested, row_of, place_from, is_numeral, number_in, class_text_test}
+use Rattle.dj_asm_source.specs.Reading.{word_of, string_of, end_of, exactly, flags_of, number_of, is_between, is_signed, name_of}
+use Rattle.dj_asm_source.proofs.Choices.{IsReported}
 
 -- ---- words
 

@@ -1,7 +1,7 @@
 -- What the code's forms show.
 use Rattle.dj_ops.specs.trusted.Forms.{OperandForm, Bare, SignedByte, SignedShort, ShortLiteral, LongLiteral, Slot, SlotAndByte, ShortOffset, LongOffset, MemberIndex, InterfaceIndex, DynamicIndex, ClassIndex, ArrayType, MultiIndex, TableSwitch, LookupSwitch, WidePrefix, Reserved}
-use Rattle.dj_source.specs.declared.form.Form as the_form
-use Rattle.dj_source.specs.declared.form.Form.TheVariants as forms
+use Rattle.dj_asm_source.specs.declared.form.Form as the_form
+use Rattle.dj_asm_source.specs.declared.form.Form.TheVariants as forms
 
 abbrev pub form_view : the_form.Form → OperandForm
 form_view forms.Bare = Bare

@@ -3,12 +3,12 @@
 use Rattle.std.specs.Prelude.{ℕ, suc, ◌+◌, ◌||◌, Bool, true, false, not, List, [], ◌∷◌, length, Option, Some, None, Ok, Err, slice_get, nat_lt, if◌then◌else◌}
 use Rattle.std.specs.List.{list_all, prefix_len}
 use Rattle.std.specs.Option.{option_map}
-use Rattle.dj_source.specs.declared.error.AsmError.{AsmError}
-use Rattle.dj_source.specs.declared.error.AsmError.TheVariants as asm_errors
-use Rattle.dj_source.specs.trusted.Lines.{Label, Labelled, Line, Abstract, Method, Beside}
-use Rattle.dj_source.specs.trusted.Labels.{Use, AtInstruction, Range, is_instruction, instruction_count, uses_of, line_numbers}
-use Rattle.dj_tokens.specs.WordReading.{row_of}
-use Rattle.dj_source.specs.LineReading.{AreRead, or_else, text_read}
+use Rattle.dj_asm_source.specs.declared.error.AsmError.{AsmError}
+use Rattle.dj_asm_source.specs.declared.error.AsmError.TheVariants as asm_errors
+use Rattle.dj_asm_source.specs.trusted.Lines.{Label, Labelled, Line, Abstract, Method, Beside}
+use Rattle.dj_asm_source.specs.trusted.Labels.{Use, AtInstruction, Range, is_instruction, instruction_count, uses_of, line_numbers}
+use Rattle.dj_asm_tokens.specs.WordReading.{row_of}
+use Rattle.dj_asm_source.specs.LineReading.{AreRead, or_else, text_read}
 
 -- ---- the first pass: the labels of a method
 

@@ -1,8 +1,8 @@
 -- Laws of texts: what their words say, and where they say nothing.
 use Rattle.std.specs.Prelude.{◌≡◌, ℕ, ◌⊎◌, List}
-use Rattle.dj_source.specs.declared.error.AsmError.{AsmError}
-use Rattle.dj_source.specs.trusted.Sources.{Source, IsTextOf}
-use Rattle.dj_source.specs.trusted.Faults.{WordFault}
+use Rattle.dj_asm_source.specs.declared.error.AsmError.{AsmError}
+use Rattle.dj_asm_source.specs.trusted.Sources.{Source, IsTextOf}
+use Rattle.dj_asm_source.specs.trusted.Faults.{WordFault}
 
 -- the words of a text mean one source at most
 abbrev pub OneSource : Type 0

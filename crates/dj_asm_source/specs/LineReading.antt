@@ -3,18 +3,18 @@ use Rattle.std.specs.Prelude.{ℕ, zero, suc, ◌==◌, ◌||◌, Bool, true, fa
 use Rattle.std.specs.Option.{option_map}
 use Rattle.std.specs.List.{enumerate_from}
 use Rattle.std.specs.Str.Lines.{lines}
-use Rattle.dj_bytes.specs.trusted.Options.{◌>>=◌}
+use Rattle.dj_cursor.specs.trusted.Options.{◌>>=◌}
 use Rattle.dj_names.specs.trusted.Types.{Name}
 use Rattle.dj_names.specs.Tests.{unqualified_name_test, method_name_test, class_name_test, field_descriptor_test, method_descriptor_test, array_descriptor_test}
 use Rattle.dj_ops.specs.trusted.Forms.{OperandForm, Bare, SignedByte, SignedShort, ShortLiteral, LongLiteral, Slot, SlotAndByte, ShortOffset, LongOffset, MemberIndex, InterfaceIndex, DynamicIndex, ClassIndex, ArrayType, MultiIndex, TableSwitch, LookupSwitch, WidePrefix, Reserved, form_of}
-use Rattle.dj_source.specs.declared.error.AsmError.{AsmError}
-use Rattle.dj_source.specs.declared.error.AsmError.TheVariants as asm_errors
-use Rattle.dj_tokens.specs.trusted.Words.{Token, LineEnd, Placed, line_tokens, end_line}
-use Rattle.dj_source.specs.trusted.Lines.{Label, Value, IntValue, LongValue, StringValue, Literal, IntLiteral, StringLiteral, ClassLiteral, FrameType, Frame, Same, Stack1, Chop, Append, Full, Operation, Plain, Push, Local, Increment, Load, LoadLong, Jump, Table, Lookup, Member, Dynamic, ClassOf, Array, Multi, Labelled, Catch, Line, Class, Version, Super, Implements, Field, Abstract, Method, Stack, Locals, Beside, Framed, Does, End}
-use Rattle.dj_tokens.specs.trusted.Mnemonics.{mnemonics}
-use Rattle.dj_source.specs.Order.{State, AtClass, AtVersion, AtSuper, AtInterfaces, AtFields, AtMethods, AtStack, AtLocals, InBody, InFrame, after, is_final}
-use Rattle.dj_tokens.specs.WordReading.{tested, row_of, place_from, label_in, number_in, class_text_test}
-use Rattle.dj_source.specs.Reading.{Read, Got, Wrong, Large, Reader, read_map, mapped, ◌&◌, got, one, any_size, choose, word_of, string_of, end_of, exactly, opcode_of, base_of, flags_of, number_of, is_between, is_signed, name_of, caught_of, type_of}
+use Rattle.dj_asm_source.specs.declared.error.AsmError.{AsmError}
+use Rattle.dj_asm_source.specs.declared.error.AsmError.TheVariants as asm_errors
+use Rattle.dj_asm_tokens.specs.trusted.Words.{Token, LineEnd, Placed, line_tokens, end_line}
+use Rattle.dj_asm_source.specs.trusted.Lines.{Label, Value, IntValue, LongValue, StringValue, Literal, IntLiteral, StringLiteral, ClassLiteral, FrameType, Frame, Same, Stack1, Chop, Append, Full, Operation, Plain, Push, Local, Increment, Load, LoadLong, Jump, Table, Lookup, Member, Dynamic, ClassOf, Array, Multi, Labelled, Catch, Line, Class, Version, Super, Implements, Field, Abstract, Method, Stack, Locals, Beside, Framed, Does, End}
+use Rattle.dj_asm_tokens.specs.trusted.Mnemonics.{mnemonics}
+use Rattle.dj_asm_source.specs.Order.{State, AtClass, AtVersion, AtSuper, AtInterfaces, AtFields, AtMethods, AtStack, AtLocals, InBody, InFrame, after, is_final}
+use Rattle.dj_asm_tokens.specs.WordReading.{tested, row_of, place_from, label_in, number_in, class_text_test}
+use Rattle.dj_asm_source.specs.Reading.{Read, Got, Wrong, Large, Reader, read_map, mapped, ◌&◌, got, one, any_size, choose, word_of, string_of, end_of, exactly, opcode_of, base_of, flags_of, number_of, is_between, is_signed, name_of, caught_of, type_of}
 
 -- ---- fields of a line
 

@@ -1,10 +1,10 @@
 -- What the code's beginnings of lines show.
-use Rattle.dj_source.specs.declared.start.Directive as the_directive
-use Rattle.dj_source.specs.declared.start.Directive.TheVariants as directives
-use Rattle.dj_source.specs.declared.start.LineStart as the_start
-use Rattle.dj_source.specs.declared.start.LineStart.TheVariants as starts
-use Rattle.dj_source.specs.LineReading.{LineStart, ClassLine, VersionLine, SuperLine, ImplementsLine, FieldLine, AbstractLine, MethodLine, StackLine, LocalsLine, CatchLine, FrameLine, EndLine, LabelLine, OperationLine}
-use Rattle.dj_tokens.specs.Views.{units_of}
+use Rattle.dj_asm_source.specs.declared.start.Directive as the_directive
+use Rattle.dj_asm_source.specs.declared.start.Directive.TheVariants as directives
+use Rattle.dj_asm_source.specs.declared.start.LineStart as the_start
+use Rattle.dj_asm_source.specs.declared.start.LineStart.TheVariants as starts
+use Rattle.dj_asm_source.specs.LineReading.{LineStart, ClassLine, VersionLine, SuperLine, ImplementsLine, FieldLine, AbstractLine, MethodLine, StackLine, LocalsLine, CatchLine, FrameLine, EndLine, LabelLine, OperationLine}
+use Rattle.dj_asm_tokens.specs.Views.{units_of}
 
 abbrev pub directive_view : the_directive.Directive → LineStart
 directive_view directives.Class = ClassLine

@@ -1,15 +1,15 @@
 -- What the code's lines show, in the terms of Lines.
 use Rattle.std.specs.Prelude.{pos}
 use Rattle.std.specs.Option.{option_map}
-use Rattle.dj_source.specs.declared.syntax.Frame as the_frame
-use Rattle.dj_source.specs.declared.syntax.Frame.TheVariants as frames
-use Rattle.dj_source.specs.declared.syntax.Line as the_line
-use Rattle.dj_source.specs.declared.syntax.Line.TheVariants as lines
-use Rattle.dj_source.specs.trusted.Lines.{Frame, Same, Stack1, Chop, Append, Full, Line, Class, Version, Super, Implements, Field, Abstract, Method, Stack, Locals, Beside, Labelled, Catch, Framed, Does, End}
-use Rattle.dj_tokens.specs.Views.{units_of}
-use Rattle.dj_tokens.specs.Texts.{text_view}
-use Rattle.dj_source.specs.TypeViews.{value_view, type_view}
-use Rattle.dj_source.specs.OperationViews.{operation_view}
+use Rattle.dj_asm_source.specs.declared.syntax.Frame as the_frame
+use Rattle.dj_asm_source.specs.declared.syntax.Frame.TheVariants as frames
+use Rattle.dj_asm_source.specs.declared.syntax.Line as the_line
+use Rattle.dj_asm_source.specs.declared.syntax.Line.TheVariants as lines
+use Rattle.dj_asm_source.specs.trusted.Lines.{Frame, Same, Stack1, Chop, Append, Full, Line, Class, Version, Super, Implements, Field, Abstract, Method, Stack, Locals, Beside, Labelled, Catch, Framed, Does, End}
+use Rattle.dj_asm_tokens.specs.Views.{units_of}
+use Rattle.dj_asm_tokens.specs.Texts.{text_view}
+use Rattle.dj_asm_source.specs.TypeViews.{value_view, type_view}
+use Rattle.dj_asm_source.specs.OperationViews.{operation_view}
 
 abbrev pub frame_view : the_frame.Frame → Frame
 frame_view frames.Same = Same

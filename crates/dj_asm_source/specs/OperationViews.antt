@@ -1,11 +1,11 @@
 -- What the code's instructions show, in the terms of Lines.
 use Rattle.std.specs.Prelude.{pos}
-use Rattle.dj_source.specs.declared.syntax.Operation as the_operation
-use Rattle.dj_source.specs.declared.syntax.Operation.TheVariants as operations
-use Rattle.dj_source.specs.trusted.Lines.{Operation, Plain, Push, Local, Increment, Load, LoadLong, Jump, Table, Lookup, Member, Dynamic, ClassOf, Array, Multi}
-use Rattle.dj_tokens.specs.Views.{units_of}
-use Rattle.dj_tokens.specs.Texts.{text_view}
-use Rattle.dj_source.specs.TypeViews.{literal_view}
+use Rattle.dj_asm_source.specs.declared.syntax.Operation as the_operation
+use Rattle.dj_asm_source.specs.declared.syntax.Operation.TheVariants as operations
+use Rattle.dj_asm_source.specs.trusted.Lines.{Operation, Plain, Push, Local, Increment, Load, LoadLong, Jump, Table, Lookup, Member, Dynamic, ClassOf, Array, Multi}
+use Rattle.dj_asm_tokens.specs.Views.{units_of}
+use Rattle.dj_asm_tokens.specs.Texts.{text_view}
+use Rattle.dj_asm_source.specs.TypeViews.{literal_view}
 
 abbrev pub operation_view : the_operation.Operation → Operation
 operation_view (operations.Plain op) = Plain op

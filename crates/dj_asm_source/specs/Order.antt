@@ -1,6 +1,6 @@
 -- The order of lines as states: what the lines before leave to come.
 use Rattle.std.specs.Prelude.{Bool, true, false, List, [], ◌∷◌, Option, Some, None}
-use Rattle.dj_source.specs.trusted.Lines.{Line, Class, Version, Super, Implements, Field, Abstract, Method, Stack, Locals, Beside, Framed, Does, End}
+use Rattle.dj_asm_source.specs.trusted.Lines.{Line, Class, Version, Super, Implements, Field, Abstract, Method, Stack, Locals, Beside, Framed, Does, End}
 
 -- what may come next
 pub data State : Type 0 where

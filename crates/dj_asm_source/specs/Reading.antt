@@ -3,13 +3,13 @@
 use Rattle.std.specs.Prelude.{ℕ, ◌^◌, ◌&&◌, ◌||◌, Bool, true, false, ⊤, ℤ, pos, negsuc, List, [], ◌∷◌, length, take, drop, Option, Some, None, nat_lt, nat_le, if◌then◌else◌, bytes_eq, codes}
 use Rattle.std.specs.Option.{option_map}
 use Rattle.std.specs.Str.Parse.{digits_value}
-use Rattle.dj_bytes.specs.trusted.Options.{◌>>=◌}
+use Rattle.dj_cursor.specs.trusted.Options.{◌>>=◌}
 use Rattle.dj_names.specs.trusted.Types.{Name}
 use Rattle.dj_names.specs.trusted.ModifiedUtf8.{units_text}
-use Rattle.dj_tokens.specs.trusted.Words.{Token, Word, Quoted, LineEnd, Placed}
-use Rattle.dj_tokens.specs.trusted.Mnemonics.{mnemonics, base_words}
-use Rattle.dj_tokens.specs.WordReading.{tested, row_of, place_from, is_some_label, is_numeral, number_in, class_text_test}
-use Rattle.dj_source.specs.trusted.Lines.{FrameType, Simple, Object, New}
+use Rattle.dj_asm_tokens.specs.trusted.Words.{Token, Word, Quoted, LineEnd, Placed}
+use Rattle.dj_asm_tokens.specs.trusted.Mnemonics.{mnemonics, base_words}
+use Rattle.dj_asm_tokens.specs.WordReading.{tested, row_of, place_from, is_some_label, is_numeral, number_in, class_text_test}
+use Rattle.dj_asm_source.specs.trusted.Lines.{FrameType, Simple, Object, New}
 
 -- ---- steps
 

@@ -1,12 +1,12 @@
 -- How far the reading of a text has come: the lines that were read, and those that are left.
 use Rattle.std.specs.Prelude.{◌≡◌, ℕ, ◌+◌, ◌<◌, ◌≤◌, ⊤, Bool, true, false, List, [], ◌∷◌, ◌++◌, length, Result, Ok, Err}
-use Rattle.dj_source.specs.declared.error.AsmError.{AsmError}
-use Rattle.dj_source.specs.declared.error.AsmError.TheVariants as asm_errors
-use Rattle.dj_source.specs.trusted.Lines.{Line}
-use Rattle.dj_source.specs.trusted.Labels.{line_numbers}
-use Rattle.dj_source.specs.LineReading.{AreRead, text_read}
-use Rattle.dj_source.specs.Unread.{UnreadLines, read_left, numbers_left}
-use Rattle.dj_source.specs.SourceLines.{TextLines}
+use Rattle.dj_asm_source.specs.declared.error.AsmError.{AsmError}
+use Rattle.dj_asm_source.specs.declared.error.AsmError.TheVariants as asm_errors
+use Rattle.dj_asm_source.specs.trusted.Lines.{Line}
+use Rattle.dj_asm_source.specs.trusted.Labels.{line_numbers}
+use Rattle.dj_asm_source.specs.LineReading.{AreRead, text_read}
+use Rattle.dj_asm_source.specs.Unread.{UnreadLines, read_left, numbers_left}
+use Rattle.dj_asm_source.specs.SourceLines.{TextLines}
 
 -- no line yet
 abbrev pub no_lines : TextLines

@@ -1,15 +1,15 @@
 -- What the code's first words show.
 use Rattle.std.specs.Prelude.{◌≡◌, Bool, List, [], ◌∷◌, Option, Some, None, if◌then◌else◌}
-use Rattle.dj_source.specs.declared.constant.ValueWord.{ValueWord}
-use Rattle.dj_source.specs.declared.constant.ValueWord.TheVariants as value_words
-use Rattle.dj_source.specs.declared.constant.LiteralWord.{LiteralWord}
-use Rattle.dj_source.specs.declared.constant.LiteralWord.TheVariants as literal_words
-use Rattle.dj_source.specs.declared.frame.FrameWord.{FrameWord}
-use Rattle.dj_source.specs.declared.frame.FrameWord.TheVariants as frame_words
-use Rattle.dj_source.specs.declared.frame.TypesEnd.{TypesEnd}
-use Rattle.dj_source.specs.declared.frame.TypesEnd.TheVariants as type_ends
-use Rattle.dj_tokens.specs.trusted.Words.{Token, Placed}
-use Rattle.dj_source.specs.LineReading.{FrameStart, SameWord, StackWord, ChopWord, AppendWord, FullWord, is_slash, is_end, ValueStart, IntWord, LongWord, StringWord, LiteralStart, IntLiteralWord, StringLiteralWord, ClassLiteralWord}
+use Rattle.dj_asm_source.specs.declared.constant.ValueWord.{ValueWord}
+use Rattle.dj_asm_source.specs.declared.constant.ValueWord.TheVariants as value_words
+use Rattle.dj_asm_source.specs.declared.constant.LiteralWord.{LiteralWord}
+use Rattle.dj_asm_source.specs.declared.constant.LiteralWord.TheVariants as literal_words
+use Rattle.dj_asm_source.specs.declared.frame.FrameWord.{FrameWord}
+use Rattle.dj_asm_source.specs.declared.frame.FrameWord.TheVariants as frame_words
+use Rattle.dj_asm_source.specs.declared.frame.TypesEnd.{TypesEnd}
+use Rattle.dj_asm_source.specs.declared.frame.TypesEnd.TheVariants as type_ends
+use Rattle.dj_asm_tokens.specs.trusted.Words.{Token, Placed}
+use Rattle.dj_asm_source.specs.LineReading.{FrameStart, SameWord, StackWord, ChopWord, AppendWord, FullWord, is_slash, is_end, ValueStart, IntWord, LongWord, StringWord, LiteralStart, IntLiteralWord, StringLiteralWord, ClassLiteralWord}
 
 abbrev pub value_word_view : ValueWord → ValueStart
 value_word_view value_words.Int = IntWord

@@ -1,7 +1,7 @@
 -- What the code's states show.
-use Rattle.dj_source.specs.declared.state.State as the_state
-use Rattle.dj_source.specs.declared.state.State.TheVariants as states
-use Rattle.dj_source.specs.Order.{State, AtClass, AtVersion, AtSuper, AtInterfaces, AtFields, AtMethods, AtStack, AtLocals, InBody, InFrame}
+use Rattle.dj_asm_source.specs.declared.state.State as the_state
+use Rattle.dj_asm_source.specs.declared.state.State.TheVariants as states
+use Rattle.dj_asm_source.specs.Order.{State, AtClass, AtVersion, AtSuper, AtInterfaces, AtFields, AtMethods, AtStack, AtLocals, InBody, InFrame}
 
 abbrev pub state_view : the_state.State → State
 state_view states.Class = AtClass

@@ -1,13 +1,13 @@
 -- What the code's readers answer, against the readers of Reading.
 use Rattle.std.specs.Prelude.{◌≡◌, ◌-◌, ◌^◌, ⊤, ℤ, pos, neg_ℤ, Bool, List, [], ◌∷◌, None, Result, Ok, Err}
-use Rattle.dj_source.specs.declared.reader.Stop.{Stop}
-use Rattle.dj_source.specs.declared.reader.Stop.TheVariants as stops
-use Rattle.dj_source.specs.declared.reader.NumberField.{NumberField}
-use Rattle.dj_source.specs.declared.reader.NumberField.TheVariants as fields
-use Rattle.dj_source.specs.declared.reader.Spot as the_spot
-use Rattle.dj_tokens.specs.trusted.Words.{Word, Placed}
-use Rattle.dj_source.specs.Reading.{Read, Got, Wrong, Large, word_of, is_between, is_signed}
-use Rattle.dj_tokens.specs.Views.{units_of, left_of}
+use Rattle.dj_asm_source.specs.declared.reader.Stop.{Stop}
+use Rattle.dj_asm_source.specs.declared.reader.Stop.TheVariants as stops
+use Rattle.dj_asm_source.specs.declared.reader.NumberField.{NumberField}
+use Rattle.dj_asm_source.specs.declared.reader.NumberField.TheVariants as fields
+use Rattle.dj_asm_source.specs.declared.reader.Spot as the_spot
+use Rattle.dj_asm_tokens.specs.trusted.Words.{Word, Placed}
+use Rattle.dj_asm_source.specs.Reading.{Read, Got, Wrong, Large, word_of, is_between, is_signed}
+use Rattle.dj_asm_tokens.specs.Views.{units_of, left_of}
 
 abbrev pub wrong_stop : List Placed → Stop
 wrong_stop [] = stops.Missing

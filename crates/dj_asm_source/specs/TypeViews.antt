@@ -1,16 +1,16 @@
 -- What the code's values, literals and types of frames show, in the terms of Lines.
 use Rattle.std.specs.Prelude.{ℕ, List, codes}
-use Rattle.dj_source.specs.declared.syntax.Value as the_value
-use Rattle.dj_source.specs.declared.syntax.Value.TheVariants as values
-use Rattle.dj_source.specs.declared.syntax.Literal as the_literal
-use Rattle.dj_source.specs.declared.syntax.Literal.TheVariants as literals
-use Rattle.dj_source.specs.declared.syntax.SimpleType.{SimpleType}
-use Rattle.dj_source.specs.declared.syntax.SimpleType.TheVariants as simples
-use Rattle.dj_source.specs.declared.syntax.FrameType as the_type
-use Rattle.dj_source.specs.declared.syntax.FrameType.TheVariants as types
-use Rattle.dj_source.specs.trusted.Lines.{Value, IntValue, LongValue, StringValue, Literal, IntLiteral, StringLiteral, ClassLiteral, FrameType, Simple, Object, New}
-use Rattle.dj_tokens.specs.Views.{units_of, string_units_of}
-use Rattle.dj_tokens.specs.Texts.{text_view}
+use Rattle.dj_asm_source.specs.declared.syntax.Value as the_value
+use Rattle.dj_asm_source.specs.declared.syntax.Value.TheVariants as values
+use Rattle.dj_asm_source.specs.declared.syntax.Literal as the_literal
+use Rattle.dj_asm_source.specs.declared.syntax.Literal.TheVariants as literals
+use Rattle.dj_asm_source.specs.declared.syntax.SimpleType.{SimpleType}
+use Rattle.dj_asm_source.specs.declared.syntax.SimpleType.TheVariants as simples
+use Rattle.dj_asm_source.specs.declared.syntax.FrameType as the_type
+use Rattle.dj_asm_source.specs.declared.syntax.FrameType.TheVariants as types
+use Rattle.dj_asm_source.specs.trusted.Lines.{Value, IntValue, LongValue, StringValue, Literal, IntLiteral, StringLiteral, ClassLiteral, FrameType, Simple, Object, New}
+use Rattle.dj_asm_tokens.specs.Views.{units_of, string_units_of}
+use Rattle.dj_asm_tokens.specs.Texts.{text_view}
 
 abbrev pub value_view : the_value.Value → Value
 value_view (values.Int n) = IntValue n

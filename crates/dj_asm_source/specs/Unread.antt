@@ -2,19 +2,19 @@
 use Rattle.std.specs.Prelude.{◌≡◌, ℕ, ◌+◌, ◌<◌, ⊤, List, [], ◌∷◌, length, map, Some, Result, Ok, Err}
 use Rattle.std.specs.List.{flat_map, enumerate_from}
 use Rattle.std.specs.Str.Lines.{lines}
-use Rattle.dj_source.specs.declared.error.AsmError.{AsmError}
-use Rattle.dj_source.specs.declared.error.AsmError.TheVariants as asm_errors
-use Rattle.dj_source.specs.declared.unread.Row.{Row}
-use Rattle.dj_source.specs.declared.unread.Row.TheVariants as rows
-use Rattle.dj_tokens.specs.trusted.Words.{Placed, line_tokens}
-use Rattle.dj_source.specs.Order.{State, AtClass}
-use Rattle.dj_source.specs.declared.reader.Stop.{Stop}
-use Rattle.dj_source.specs.declared.reader.Stop.TheVariants as stops
-use Rattle.dj_source.specs.declared.syntax.Line.{Line as TheLine}
-use Rattle.dj_source.specs.trusted.Lines.{Line}
-use Rattle.dj_source.specs.Reading.{Read}
-use Rattle.dj_source.specs.LineReading.{AreRead, missing, with_line, lines_from, lines_read}
-use Rattle.dj_source.specs.LineViews.{line_view}
+use Rattle.dj_asm_source.specs.declared.error.AsmError.{AsmError}
+use Rattle.dj_asm_source.specs.declared.error.AsmError.TheVariants as asm_errors
+use Rattle.dj_asm_source.specs.declared.unread.Row.{Row}
+use Rattle.dj_asm_source.specs.declared.unread.Row.TheVariants as rows
+use Rattle.dj_asm_tokens.specs.trusted.Words.{Placed, line_tokens}
+use Rattle.dj_asm_source.specs.Order.{State, AtClass}
+use Rattle.dj_asm_source.specs.declared.reader.Stop.{Stop}
+use Rattle.dj_asm_source.specs.declared.reader.Stop.TheVariants as stops
+use Rattle.dj_asm_source.specs.declared.syntax.Line.{Line as TheLine}
+use Rattle.dj_asm_source.specs.trusted.Lines.{Line}
+use Rattle.dj_asm_source.specs.Reading.{Read}
+use Rattle.dj_asm_source.specs.LineReading.{AreRead, missing, with_line, lines_from, lines_read}
+use Rattle.dj_asm_source.specs.LineViews.{line_view}
 
 -- what may come, the number of the first of them, and their bytes
 pub record UnreadLines : Type 0 where

@@ -1,15 +1,15 @@
 ghost use Rattle.std.specs.Prelude.{◌≡◌};
-ghost use Rattle.dj_source.specs.LineReading.{line_after, CatchLine, FrameLine, LabelLine, OperationLine};
-ghost use Rattle.dj_tokens.specs.Views.{units_of, left_of};
-ghost use Rattle.dj_source.specs.Stops.{GivesRead};
-ghost use Rattle.dj_source.specs.LineViews.{line_view};
+ghost use Rattle.dj_asm_source.specs.LineReading.{line_after, CatchLine, FrameLine, LabelLine, OperationLine};
+ghost use Rattle.dj_asm_tokens.specs.Views.{units_of, left_of};
+ghost use Rattle.dj_asm_source.specs.Stops.{GivesRead};
+ghost use Rattle.dj_asm_source.specs.LineViews.{line_view};
 
 use crate::frame::frame;
 use crate::frame_type::caught;
 use crate::operation::operation;
 use crate::reader::{Stop, label, line_end};
 use crate::syntax::Line;
-use dj_tokens::{LineTokens, Word};
+use dj_asm_tokens::{LineTokens, Word};
 use std::alloc::Global;
 
 /// After `.catch`.

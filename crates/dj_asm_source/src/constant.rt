@@ -1,17 +1,17 @@
 ghost use Rattle.std.specs.Prelude.{◌≡◌, ◌∷◌, [], codes};
 ghost use Rattle.std.specs.Option.{option_map};
-ghost use Rattle.dj_tokens.specs.trusted.Words.{word_units};
-ghost use Rattle.dj_tokens.specs.WordReading.{row_of};
-ghost use Rattle.dj_source.specs.LineReading.{value, value_after, literal, literal_after, IntWord, LongWord, StringWord, IntLiteralWord, StringLiteralWord, ClassLiteralWord};
-ghost use Rattle.dj_tokens.specs.Views.{left_of};
-ghost use Rattle.dj_source.specs.StartViews.{value_word_view, literal_word_view};
-ghost use Rattle.dj_source.specs.TypeViews.{value_view, literal_view};
-ghost use Rattle.dj_source.specs.Stops.{GivesRead};
+ghost use Rattle.dj_asm_tokens.specs.trusted.Words.{word_units};
+ghost use Rattle.dj_asm_tokens.specs.WordReading.{row_of};
+ghost use Rattle.dj_asm_source.specs.LineReading.{value, value_after, literal, literal_after, IntWord, LongWord, StringWord, IntLiteralWord, StringLiteralWord, ClassLiteralWord};
+ghost use Rattle.dj_asm_tokens.specs.Views.{left_of};
+ghost use Rattle.dj_asm_source.specs.StartViews.{value_word_view, literal_word_view};
+ghost use Rattle.dj_asm_source.specs.TypeViews.{value_view, literal_view};
+ghost use Rattle.dj_asm_source.specs.Stops.{GivesRead};
 
 use crate::fields::{number_i32, number_i64};
 use crate::reader::{Stop, line_end, name, string, word_at};
 use crate::syntax::{Literal, Value};
-use dj_tokens::{LineTokens, NameKind, Token, spells};
+use dj_asm_tokens::{LineTokens, NameKind, Token, spells};
 use std::alloc::Global;
 
 /// The word before a field's constant.

@@ -32,7 +32,7 @@ pub enum AsmError {
 }
 
 impl From<AllocError> for AsmError {
-    ghost use Rattle.dj_source.specs.declared.error.AsmError.TheVariants.{Memory};
+    ghost use Rattle.dj_asm_source.specs.declared.error.AsmError.TheVariants.{Memory};
 
     ghost from_gives = { λ _ e. e ≡ Memory };
 

@@ -1,12 +1,12 @@
 ghost use Rattle.std.specs.Prelude.{◌≡◌, pos};
-ghost use Rattle.dj_source.specs.LineReading.{number};
-ghost use Rattle.dj_source.specs.Reading.{is_between, is_signed};
-ghost use Rattle.dj_source.specs.LineReading.{slot_fits, increment_fits};
-ghost use Rattle.dj_tokens.specs.Views.{left_of};
-ghost use Rattle.dj_source.specs.Stops.{GivesRead};
+ghost use Rattle.dj_asm_source.specs.LineReading.{number};
+ghost use Rattle.dj_asm_source.specs.Reading.{is_between, is_signed};
+ghost use Rattle.dj_asm_source.specs.LineReading.{slot_fits, increment_fits};
+ghost use Rattle.dj_asm_tokens.specs.Views.{left_of};
+ghost use Rattle.dj_asm_source.specs.Stops.{GivesRead};
 
 use crate::reader::{NumberField, Stop, number};
-use dj_tokens::LineTokens;
+use dj_asm_tokens::LineTokens;
 
 /// A number of 8 bits without sign.
 pub(crate) fn number_u8<'t>(at: LineTokens<'t>) -> Result<(u8, LineTokens<'t>), Stop>

@@ -1,6 +1,6 @@
 ghost use Rattle.std.specs.Prelude.{◌≡◌};
 ghost use Rattle.dj_ops.specs.trusted.Forms.{form_of};
-ghost use Rattle.dj_source.specs.FormViews.{form_view};
+ghost use Rattle.dj_asm_source.specs.FormViews.{form_view};
 
 /// What follows an opcode.
 #[derive(Clone, Copy)]

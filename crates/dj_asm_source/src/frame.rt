@@ -1,20 +1,20 @@
 ghost use Rattle.std.specs.Prelude.{◌≡◌, ◌∷◌, ◌++◌, [], codes};
 ghost use Rattle.std.specs.Option.{option_map};
-ghost use Rattle.dj_tokens.specs.trusted.Words.{word_units};
-ghost use Rattle.dj_tokens.specs.WordReading.{row_of};
-ghost use Rattle.dj_source.specs.Reading.{read_map};
-ghost use Rattle.dj_source.specs.LineReading.{SameWord, StackWord, ChopWord, AppendWord, FullWord, types_up_to, types_until, frame_after, frame};
-ghost use Rattle.dj_tokens.specs.Views.{token_view, left_of};
-ghost use Rattle.dj_source.specs.LineViews.{frame_view};
-ghost use Rattle.dj_source.specs.StartViews.{frame_word_view, ends_types, AfterEnd};
-ghost use Rattle.dj_source.specs.Stops.{GivesRead};
+ghost use Rattle.dj_asm_tokens.specs.trusted.Words.{word_units};
+ghost use Rattle.dj_asm_tokens.specs.WordReading.{row_of};
+ghost use Rattle.dj_asm_source.specs.Reading.{read_map};
+ghost use Rattle.dj_asm_source.specs.LineReading.{SameWord, StackWord, ChopWord, AppendWord, FullWord, types_up_to, types_until, frame_after, frame};
+ghost use Rattle.dj_asm_tokens.specs.Views.{token_view, left_of};
+ghost use Rattle.dj_asm_source.specs.LineViews.{frame_view};
+ghost use Rattle.dj_asm_source.specs.StartViews.{frame_word_view, ends_types, AfterEnd};
+ghost use Rattle.dj_asm_source.specs.Stops.{GivesRead};
 
 use crate::fields::chopped;
 use crate::frame_type::frame_type;
 use crate::frame_types::FrameTypes;
 use crate::reader::{Stop, line_end, word_at};
 use crate::syntax::Frame;
-use dj_tokens::{LineTokens, Token, spells};
+use dj_asm_tokens::{LineTokens, Token, spells};
 use std::alloc::Global;
 
 /// The word that a frame begins with.

@@ -1,19 +1,19 @@
 ghost use Rattle.std.specs.Prelude.{◌≡◌, ◌++◌, true, false, MatchOption, IfOk, codes};
 ghost use Rattle.std.specs.Option.{option_map};
 ghost use Rattle.dj_names.specs.trusted.ModifiedUtf8.{units_text};
-ghost use Rattle.dj_tokens.specs.trusted.Words.{word_units};
-ghost use Rattle.dj_source.specs.trusted.Lines.{Object, New};
-ghost use Rattle.dj_tokens.specs.WordReading.{tested, class_text_test, is_some_label};
-ghost use Rattle.dj_source.specs.Reading.{is_simple_type, type_in};
-ghost use Rattle.dj_source.specs.LineReading.{frame_type, caught};
-ghost use Rattle.dj_tokens.specs.Views.{left_of};
-ghost use Rattle.dj_tokens.specs.Texts.{text_view};
-ghost use Rattle.dj_source.specs.TypeViews.{simple_word, type_view};
-ghost use Rattle.dj_source.specs.Stops.{GivesRead};
+ghost use Rattle.dj_asm_tokens.specs.trusted.Words.{word_units};
+ghost use Rattle.dj_asm_source.specs.trusted.Lines.{Object, New};
+ghost use Rattle.dj_asm_tokens.specs.WordReading.{tested, class_text_test, is_some_label};
+ghost use Rattle.dj_asm_source.specs.Reading.{is_simple_type, type_in};
+ghost use Rattle.dj_asm_source.specs.LineReading.{frame_type, caught};
+ghost use Rattle.dj_asm_tokens.specs.Views.{left_of};
+ghost use Rattle.dj_asm_tokens.specs.Texts.{text_view};
+ghost use Rattle.dj_asm_source.specs.TypeViews.{simple_word, type_view};
+ghost use Rattle.dj_asm_source.specs.Stops.{GivesRead};
 
 use crate::reader::{Stop, word_at};
 use crate::syntax::{FrameType, SimpleType};
-use dj_tokens::{
+use dj_asm_tokens::{
     LineTokens, NameKind, Text, Word, after_prefix, is_of_kind, row_at, spells, text_of, unit_at,
 };
 use std::alloc::{AllocError, Global};

@@ -12,8 +12,8 @@ pub struct FrameTypes<'t> {
 
 impl<'t> Model for FrameTypes<'t> {
     ghost use Rattle.std.specs.Prelude.{List, map};
-    ghost use Rattle.dj_source.specs.trusted.Lines.{FrameType};
-    ghost use Rattle.dj_source.specs.TypeViews.{type_view};
+    ghost use Rattle.dj_asm_source.specs.trusted.Lines.{FrameType};
+    ghost use Rattle.dj_asm_source.specs.TypeViews.{type_view};
 
     ghost Value = { List FrameType };
 
@@ -21,7 +21,7 @@ impl<'t> Model for FrameTypes<'t> {
 }
 
 impl<'t> FrameTypes<'t> {
-    ghost use Rattle.dj_source.specs.TypeViews.{type_view};
+    ghost use Rattle.dj_asm_source.specs.TypeViews.{type_view};
 
     /// No types.
     pub(crate) fn new(alloc: Global) -> FrameTypes<'t>

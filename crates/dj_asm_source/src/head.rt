@@ -1,14 +1,14 @@
 ghost use Rattle.std.specs.Prelude.{◌≡◌};
-ghost use Rattle.dj_source.specs.LineReading.{line_after, ClassLine, VersionLine, SuperLine, ImplementsLine, FieldLine, AbstractLine, MethodLine, StackLine, LocalsLine, EndLine};
-ghost use Rattle.dj_tokens.specs.Views.{left_of};
-ghost use Rattle.dj_source.specs.Stops.{GivesRead};
-ghost use Rattle.dj_source.specs.LineViews.{line_view};
+ghost use Rattle.dj_asm_source.specs.LineReading.{line_after, ClassLine, VersionLine, SuperLine, ImplementsLine, FieldLine, AbstractLine, MethodLine, StackLine, LocalsLine, EndLine};
+ghost use Rattle.dj_asm_tokens.specs.Views.{left_of};
+ghost use Rattle.dj_asm_source.specs.Stops.{GivesRead};
+ghost use Rattle.dj_asm_source.specs.LineViews.{line_view};
 
 use crate::constant::value;
 use crate::fields::number_u16;
 use crate::reader::{Stop, flags, line_end, name};
 use crate::syntax::Line;
-use dj_tokens::{LineTokens, NameKind};
+use dj_asm_tokens::{LineTokens, NameKind};
 use std::alloc::Global;
 
 /// After `.class`.

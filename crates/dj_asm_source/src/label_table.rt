@@ -2,16 +2,16 @@ ghost use Rattle.std.specs.Prelude.{◌≡◌, ◌+◌, ◌<◌, ◌≤◌, ◌^
 ghost use Rattle.std.specs.Cmp.Lexicographic.{slice_cmp};
 ghost use Rattle.std.specs.Ordering.{nat_cmp, is_lt};
 ghost use Rattle.std.specs.List.Sorted.{IsSortedBy, IsStableBy, IsPartitionPoint};
-ghost use Rattle.dj_tokens.specs.trusted.Words.{word_units};
-ghost use Rattle.dj_tokens.specs.Views.{units_of};
-ghost use Rattle.dj_source.specs.trusted.Labels.{is_instruction};
-ghost use Rattle.dj_tokens.specs.WordReading.{row_of};
-ghost use Rattle.dj_source.specs.LabelReading.{defined_by, number_after, marks_of};
-ghost use Rattle.dj_source.specs.LabelViews.{label_of_mark, mark_view, mark_row, is_label_before, marked};
-ghost use Rattle.dj_source.specs.LineViews.{line_view};
+ghost use Rattle.dj_asm_tokens.specs.trusted.Words.{word_units};
+ghost use Rattle.dj_asm_tokens.specs.Views.{units_of};
+ghost use Rattle.dj_asm_source.specs.trusted.Labels.{is_instruction};
+ghost use Rattle.dj_asm_tokens.specs.WordReading.{row_of};
+ghost use Rattle.dj_asm_source.specs.LabelReading.{defined_by, number_after, marks_of};
+ghost use Rattle.dj_asm_source.specs.LabelViews.{label_of_mark, mark_view, mark_row, is_label_before, marked};
+ghost use Rattle.dj_asm_source.specs.LineViews.{line_view};
 
 use crate::syntax::Line;
-use dj_tokens::{Word, unit_at};
+use dj_asm_tokens::{Word, unit_at};
 use std::alloc::{AllocError, Global};
 use std::cmp::Ordering;
 use std::marker::Model;
@@ -34,8 +34,8 @@ pub(crate) struct LabelTable<'l, 't> {
 
 impl<'l, 't> Model for LabelTable<'l, 't> {
     ghost use Rattle.std.specs.Prelude.{map};
-    ghost use Rattle.dj_source.specs.LabelReading.{Marks};
-    ghost use Rattle.dj_source.specs.LabelViews.{mark_row};
+    ghost use Rattle.dj_asm_source.specs.LabelReading.{Marks};
+    ghost use Rattle.dj_asm_source.specs.LabelViews.{mark_row};
 
     ghost Value = { Marks };
 
@@ -44,7 +44,7 @@ impl<'l, 't> Model for LabelTable<'l, 't> {
 
 impl<'l, 't> LabelTable<'l, 't> {
     ghost use Rattle.std.specs.Prelude.{ℕ};
-    ghost use Rattle.dj_source.specs.trusted.Lines.{Label};
+    ghost use Rattle.dj_asm_source.specs.trusted.Lines.{Label};
 
     /// The labels of these lines.
     #[tactic(auto, using(crate::proofs::LabelTables::stable_rows))]
@@ -206,7 +206,7 @@ fn sort_by_label(marks: &mut Vec<LabelPlace>, lines: &[Line<'_>]) -> Result<(), 
 }
 
 /// The word of the label that the line at a mark defines.
-#[tactic(auto, unfolding(dj_tokens::specs::trusted::Words::word_units))]
+#[tactic(auto, unfolding(dj_asm_tokens::specs::trusted::Words::word_units))]
 fn label_at<'t>(lines: &[Line<'t>], mark: LabelPlace) -> &'t [u8]
     ensures { word_units 0 result.now ≡ label_of_mark lines.now mark }
 {

@@ -1,17 +1,17 @@
 ghost use Rattle.std.specs.Prelude.{◌≡◌, ◌<◌, ◌≤◌, ◌^◌, length, map, IfOk, IfSome};
 ghost use Rattle.std.specs.List.{list_all, flat_map};
-ghost use Rattle.dj_tokens.specs.Views.{units_of};
-ghost use Rattle.dj_source.specs.TypeViews.{type_view};
-ghost use Rattle.dj_source.specs.PairViews.{pair_view};
-ghost use Rattle.dj_source.specs.OperationViews.{operation_view};
-ghost use Rattle.dj_source.specs.LineViews.{frame_view, line_view};
-ghost use Rattle.dj_source.specs.trusted.Labels.{AtInstruction, Range, instruction_count, type_uses, frame_uses, operation_uses, uses_of};
-ghost use Rattle.dj_source.specs.LabelReading.{defined_by, is_met, is_again, is_mislabelled, mislabelled_from, mislabelled_in, begins_method, section_size, first_mislabelled};
+ghost use Rattle.dj_asm_tokens.specs.Views.{units_of};
+ghost use Rattle.dj_asm_source.specs.TypeViews.{type_view};
+ghost use Rattle.dj_asm_source.specs.PairViews.{pair_view};
+ghost use Rattle.dj_asm_source.specs.OperationViews.{operation_view};
+ghost use Rattle.dj_asm_source.specs.LineViews.{frame_view, line_view};
+ghost use Rattle.dj_asm_source.specs.trusted.Labels.{AtInstruction, Range, instruction_count, type_uses, frame_uses, operation_uses, uses_of};
+ghost use Rattle.dj_asm_source.specs.LabelReading.{defined_by, is_met, is_again, is_mislabelled, mislabelled_from, mislabelled_in, begins_method, section_size, first_mislabelled};
 
 use crate::label_table::{LabelTable, defined_label, is_instruction};
 use crate::syntax::{Frame, FrameType, Line, Operation};
 use crate::targets::Pair;
-use dj_tokens::Word;
+use dj_asm_tokens::Word;
 use std::alloc::{AllocError, Global};
 
 /// How many lines come before the first that uses a label wrongly.

@@ -1,4 +1,4 @@
-ghost use Rattle.dj_source.specs.Laws.{OneSource, OneWordFault, NoFaultOfSource, SourceOrFault};
+ghost use Rattle.dj_asm_source.specs.Laws.{OneSource, OneWordFault, NoFaultOfSource, SourceOrFault};
 
 /// The words of a text mean one source at most.
 pub fn one_source()

@@ -27,7 +27,7 @@ mod targets;
 mod unread;
 mod whole_text;
 
-pub use dj_tokens::{LineTokens, Placed, Quoted, Text, Token, Word};
+pub use dj_asm_tokens::{LineTokens, Placed, Quoted, Text, Token, Word};
 pub use error::AsmError;
 pub use frame_types::FrameTypes;
 pub use label_table::is_instruction;

@@ -1,14 +1,14 @@
 ghost use Rattle.std.specs.Prelude.{◌≡◌, ◌<◌, ◌^◌, length, map, IfOk};
-ghost use Rattle.dj_source.specs.trusted.Lines.{Label};
-ghost use Rattle.dj_source.specs.trusted.Labels.{instruction_count};
-ghost use Rattle.dj_source.specs.LineViews.{line_view};
-ghost use Rattle.dj_tokens.specs.WordReading.{row_of};
-ghost use Rattle.dj_source.specs.LabelReading.{marks_of};
+ghost use Rattle.dj_asm_source.specs.trusted.Lines.{Label};
+ghost use Rattle.dj_asm_source.specs.trusted.Labels.{instruction_count};
+ghost use Rattle.dj_asm_source.specs.LineViews.{line_view};
+ghost use Rattle.dj_asm_tokens.specs.WordReading.{row_of};
+ghost use Rattle.dj_asm_source.specs.LabelReading.{marks_of};
 
 use crate::label_table::LabelTable;
 use crate::labelling::instruction_count;
 use crate::syntax::Line;
-use dj_tokens::Word;
+use dj_asm_tokens::Word;
 use std::alloc::{AllocError, Global};
 use std::marker::Model;
 
@@ -24,8 +24,8 @@ pub struct MethodLabels<'l, 't> {
 
 impl<'l, 't> Model for MethodLabels<'l, 't> {
     ghost use Rattle.std.specs.Prelude.{List, map};
-    ghost use Rattle.dj_source.specs.trusted.Lines.{Line};
-    ghost use Rattle.dj_source.specs.LineViews.{line_view};
+    ghost use Rattle.dj_asm_source.specs.trusted.Lines.{Line};
+    ghost use Rattle.dj_asm_source.specs.LineViews.{line_view};
 
     ghost Value = { List Line };
 
@@ -33,8 +33,8 @@ impl<'l, 't> Model for MethodLabels<'l, 't> {
 }
 
 impl<'l, 't> MethodLabels<'l, 't> {
-    ghost use Rattle.dj_tokens.specs.Views.{units_of};
-    ghost use Rattle.dj_source.specs.trusted.Labels.{label_number};
+    ghost use Rattle.dj_asm_tokens.specs.Views.{units_of};
+    ghost use Rattle.dj_asm_source.specs.trusted.Labels.{label_number};
 
     /// The labels of these lines.
     pub fn of(alloc: Global, lines: &'l [Line<'t>]) -> Result<MethodLabels<'l, 't>, AllocError>

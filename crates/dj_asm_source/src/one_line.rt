@@ -1,15 +1,15 @@
 ghost use Rattle.std.specs.Prelude.{◌≡◌, ◌∷◌};
-ghost use Rattle.dj_source.specs.LineReading.{line};
-ghost use Rattle.dj_tokens.specs.Views.{placed_view, left_of};
-ghost use Rattle.dj_source.specs.LineViews.{line_view};
-ghost use Rattle.dj_source.specs.StateViews.{state_view};
-ghost use Rattle.dj_source.specs.Stops.{GivesRead};
+ghost use Rattle.dj_asm_source.specs.LineReading.{line};
+ghost use Rattle.dj_asm_tokens.specs.Views.{placed_view, left_of};
+ghost use Rattle.dj_asm_source.specs.LineViews.{line_view};
+ghost use Rattle.dj_asm_source.specs.StateViews.{state_view};
+ghost use Rattle.dj_asm_source.specs.Stops.{GivesRead};
 
 use crate::reader::Stop;
 use crate::start::{line_after, start_of};
 use crate::state::{State, may_begin};
 use crate::syntax::Line;
-use dj_tokens::{LineTokens, Placed, Token};
+use dj_asm_tokens::{LineTokens, Placed, Token};
 use std::alloc::Global;
 
 /// The line of a first token and those after it, where the lines before it have come to this state.

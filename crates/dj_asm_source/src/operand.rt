@@ -1,16 +1,16 @@
 ghost use Rattle.std.specs.Prelude.{◌≡◌, ℤ, pos};
-ghost use Rattle.dj_source.specs.LineReading.{plain, slot, increment, load, load_long, jump, field_use, method_use, open_method_use, member, dynamic, class_of, array, multi, interface_end};
-ghost use Rattle.dj_source.specs.LineReading.{push};
-ghost use Rattle.dj_source.specs.Reading.{is_signed};
-ghost use Rattle.dj_tokens.specs.Views.{left_of};
-ghost use Rattle.dj_source.specs.OperationViews.{operation_view};
-ghost use Rattle.dj_source.specs.Stops.{GivesRead};
+ghost use Rattle.dj_asm_source.specs.LineReading.{plain, slot, increment, load, load_long, jump, field_use, method_use, open_method_use, member, dynamic, class_of, array, multi, interface_end};
+ghost use Rattle.dj_asm_source.specs.LineReading.{push};
+ghost use Rattle.dj_asm_source.specs.Reading.{is_signed};
+ghost use Rattle.dj_asm_tokens.specs.Views.{left_of};
+ghost use Rattle.dj_asm_source.specs.OperationViews.{operation_view};
+ghost use Rattle.dj_asm_source.specs.Stops.{GivesRead};
 
 use crate::constant::literal;
 use crate::fields::{increment, number_i8, number_i16, number_i64, number_u8, number_u16, slot};
 use crate::reader::{Stop, base, keyword, label, line_end, name};
 use crate::syntax::Operation;
-use dj_tokens::{LineTokens, NameKind, Token, spells};
+use dj_asm_tokens::{LineTokens, NameKind, Token, spells};
 use std::alloc::Global;
 
 /// An instruction without operands.

@@ -1,11 +1,11 @@
 ghost use Rattle.std.specs.Prelude.{◌≡◌};
 ghost use Rattle.dj_ops.specs.trusted.Forms.{form_of};
-ghost use Rattle.dj_source.specs.LineReading.{may_be_wide, wide, wide_after, operation, operation_by, wrong};
-ghost use Rattle.dj_source.specs.trusted.Lines.{Operation as LineOperation};
-ghost use Rattle.dj_tokens.specs.Views.{left_of};
-ghost use Rattle.dj_source.specs.OperationViews.{operation_view};
-ghost use Rattle.dj_source.specs.FormViews.{form_view};
-ghost use Rattle.dj_source.specs.Stops.{GivesRead, Stops};
+ghost use Rattle.dj_asm_source.specs.LineReading.{may_be_wide, wide, wide_after, operation, operation_by, wrong};
+ghost use Rattle.dj_asm_source.specs.trusted.Lines.{Operation as LineOperation};
+ghost use Rattle.dj_asm_tokens.specs.Views.{left_of};
+ghost use Rattle.dj_asm_source.specs.OperationViews.{operation_view};
+ghost use Rattle.dj_asm_source.specs.FormViews.{form_view};
+ghost use Rattle.dj_asm_source.specs.Stops.{GivesRead, Stops};
 
 use crate::form::{Form, form_of};
 use crate::operand::{
@@ -15,7 +15,7 @@ use crate::operand::{
 use crate::reader::{Stop, word_at};
 use crate::switch::{lookup, table};
 use crate::syntax::Operation;
-use dj_tokens::{LineTokens, opcode_of};
+use dj_asm_tokens::{LineTokens, opcode_of};
 use std::alloc::Global;
 
 /// An instruction after its word, to the line's end.

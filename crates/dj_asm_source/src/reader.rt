@@ -1,11 +1,11 @@
 ghost use Rattle.std.specs.Prelude.{◌≡◌, ◌≤ℤ◌, ⊤, pos, IfOk};
-ghost use Rattle.dj_source.specs.Reading.{one, any_size};
-ghost use Rattle.dj_source.specs.LineReading.{line_end, flags, number, label, string, keyword, name, base};
-ghost use Rattle.dj_tokens.specs.Views.{units_of, string_units_of, left_of};
-ghost use Rattle.dj_tokens.specs.Texts.{text_view, test_of};
-ghost use Rattle.dj_source.specs.Stops.{GivesRead, IsSpot, field_fits, lowest, highest};
+ghost use Rattle.dj_asm_source.specs.Reading.{one, any_size};
+ghost use Rattle.dj_asm_source.specs.LineReading.{line_end, flags, number, label, string, keyword, name, base};
+ghost use Rattle.dj_asm_tokens.specs.Views.{units_of, string_units_of, left_of};
+ghost use Rattle.dj_asm_tokens.specs.Texts.{text_view, test_of};
+ghost use Rattle.dj_asm_source.specs.Stops.{GivesRead, IsSpot, field_fits, lowest, highest};
 
-use dj_tokens::{
+use dj_asm_tokens::{
     LineTokens, NameKind, Number, Placed, Quoted, Text, Token, Word, base_of, flags_of, is_of_kind,
     number_of, spells, text_of,
 };
@@ -128,7 +128,7 @@ pub(crate) fn flags<'t>(at: LineTokens<'t>) -> Result<(u16, LineTokens<'t>), Sto
 }
 
 impl From<AllocError> for Stop {
-    ghost use Rattle.dj_source.specs.declared.reader.Stop.TheVariants.{Memory};
+    ghost use Rattle.dj_asm_source.specs.declared.reader.Stop.TheVariants.{Memory};
 
     ghost from_gives = { λ _ e. e ≡ Memory };
 

@@ -1,7 +1,7 @@
 ghost use Rattle.std.specs.Prelude.{◌≡◌, ◌^◌, ◌<◌, map, length, slice_get, Some, IfOk};
-ghost use Rattle.dj_source.specs.LineViews.{line_view};
-ghost use Rattle.dj_source.specs.LabelReading.{first_mislabelled, label_error};
-ghost use Rattle.dj_source.specs.Readings.{no_lines, with_last};
+ghost use Rattle.dj_asm_source.specs.LineViews.{line_view};
+ghost use Rattle.dj_asm_source.specs.LabelReading.{first_mislabelled, label_error};
+ghost use Rattle.dj_asm_source.specs.Readings.{no_lines, with_last};
 
 use crate::error::AsmError;
 use crate::labelling::first_mislabelled;
@@ -18,8 +18,8 @@ pub struct SourceLines<'t> {
 
 impl<'t> Model for SourceLines<'t> {
     ghost use Rattle.std.specs.Prelude.{map};
-    ghost use Rattle.dj_source.specs.LineViews.{line_view};
-    ghost use Rattle.dj_source.specs.SourceLines.{TextLines};
+    ghost use Rattle.dj_asm_source.specs.LineViews.{line_view};
+    ghost use Rattle.dj_asm_source.specs.SourceLines.{TextLines};
 
     ghost Value = { TextLines };
 

@@ -1,12 +1,12 @@
 ghost use Rattle.std.specs.Prelude.{◌≡◌};
 ghost use Rattle.std.specs.Option.{option_map};
-ghost use Rattle.dj_tokens.specs.trusted.Words.{word_units};
-ghost use Rattle.dj_tokens.specs.WordReading.{row_of};
-ghost use Rattle.dj_source.specs.LineReading.{directives, start_in, line_after};
-ghost use Rattle.dj_tokens.specs.Views.{left_of};
-ghost use Rattle.dj_source.specs.LineViews.{line_view};
-ghost use Rattle.dj_source.specs.LineStarts.{directive_view, start_view};
-ghost use Rattle.dj_source.specs.Stops.{GivesRead};
+ghost use Rattle.dj_asm_tokens.specs.trusted.Words.{word_units};
+ghost use Rattle.dj_asm_tokens.specs.WordReading.{row_of};
+ghost use Rattle.dj_asm_source.specs.LineReading.{directives, start_in, line_after};
+ghost use Rattle.dj_asm_tokens.specs.Views.{left_of};
+ghost use Rattle.dj_asm_source.specs.LineViews.{line_view};
+ghost use Rattle.dj_asm_source.specs.LineStarts.{directive_view, start_view};
+ghost use Rattle.dj_asm_source.specs.Stops.{GivesRead};
 
 use crate::body::{catch_line, frame_line, label_line, operation_line};
 use crate::head::{
@@ -15,7 +15,7 @@ use crate::head::{
 };
 use crate::reader::Stop;
 use crate::syntax::Line;
-use dj_tokens::{LineTokens, Word, label_of, opcode_of, row_at};
+use dj_asm_tokens::{LineTokens, Word, label_of, opcode_of, row_at};
 use std::alloc::Global;
 
 /// A line that begins with a word with a dot before it.

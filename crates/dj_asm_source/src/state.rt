@@ -1,10 +1,10 @@
 ghost use Rattle.std.specs.Prelude.{◌≡◌, Some, None, if◌then◌else◌};
 ghost use Rattle.std.specs.Option.{option_map};
-ghost use Rattle.dj_source.specs.Order.{after, is_final};
-ghost use Rattle.dj_source.specs.LineViews.{line_view};
-ghost use Rattle.dj_source.specs.LineReading.{may_begin, MethodLine};
-ghost use Rattle.dj_source.specs.LineStarts.{directive_view, start_view};
-ghost use Rattle.dj_source.specs.StateViews.{state_view};
+ghost use Rattle.dj_asm_source.specs.Order.{after, is_final};
+ghost use Rattle.dj_asm_source.specs.LineViews.{line_view};
+ghost use Rattle.dj_asm_source.specs.LineReading.{may_begin, MethodLine};
+ghost use Rattle.dj_asm_source.specs.LineStarts.{directive_view, start_view};
+ghost use Rattle.dj_asm_source.specs.StateViews.{state_view};
 
 use crate::start::{Directive, LineStart};
 use crate::syntax::Line;

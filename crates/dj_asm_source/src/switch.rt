@@ -1,14 +1,14 @@
 ghost use Rattle.std.specs.Prelude.{◌≡◌, None};
-ghost use Rattle.dj_source.specs.LineReading.{default_after, targets, pairs_after, table, lookup};
-ghost use Rattle.dj_tokens.specs.Views.{units_of, left_of};
-ghost use Rattle.dj_source.specs.OperationViews.{operation_view};
-ghost use Rattle.dj_source.specs.Stops.{GivesRead};
+ghost use Rattle.dj_asm_source.specs.LineReading.{default_after, targets, pairs_after, table, lookup};
+ghost use Rattle.dj_asm_tokens.specs.Views.{units_of, left_of};
+ghost use Rattle.dj_asm_source.specs.OperationViews.{operation_view};
+ghost use Rattle.dj_asm_source.specs.Stops.{GivesRead};
 
 use crate::fields::number_i32;
 use crate::reader::{Stop, label, line_end, word_at};
 use crate::syntax::Operation;
 use crate::targets::{Labels, Pairs};
-use dj_tokens::{LineTokens, Word, spells};
+use dj_asm_tokens::{LineTokens, Word, spells};
 use std::alloc::Global;
 
 /// The lowest match, the targets and the default.

@@ -1,7 +1,7 @@
 //! What lines mean.
 use crate::frame_types::FrameTypes;
 use crate::targets::{Labels, Pairs};
-use dj_tokens::{Quoted, Text, Word};
+use dj_asm_tokens::{Quoted, Text, Word};
 
 /// The constant of a field.
 #[derive(Clone, Copy)]

@@ -1,6 +1,6 @@
 ghost use Rattle.std.specs.Prelude.{◌≡◌, [], ◌∷◌, ◌++◌, map, OnOk};
 
-use dj_tokens::Word;
+use dj_asm_tokens::Word;
 use std::alloc::{AllocError, Global};
 use std::marker::Model;
 
@@ -12,8 +12,8 @@ pub struct Labels<'t> {
 
 impl<'t> Model for Labels<'t> {
     ghost use Rattle.std.specs.Prelude.{List, map};
-    ghost use Rattle.dj_source.specs.trusted.Lines.{Label};
-    ghost use Rattle.dj_tokens.specs.Views.{units_of};
+    ghost use Rattle.dj_asm_source.specs.trusted.Lines.{Label};
+    ghost use Rattle.dj_asm_tokens.specs.Views.{units_of};
 
     ghost Value = { List Label };
 
@@ -21,7 +21,7 @@ impl<'t> Model for Labels<'t> {
 }
 
 impl<'t> Labels<'t> {
-    ghost use Rattle.dj_tokens.specs.Views.{units_of};
+    ghost use Rattle.dj_asm_tokens.specs.Views.{units_of};
 
     /// No labels.
     pub(crate) fn new(alloc: Global) -> Labels<'t>
@@ -62,8 +62,8 @@ pub struct Pairs<'t> {
 
 impl<'t> Model for Pairs<'t> {
     ghost use Rattle.std.specs.Prelude.{List, ℤ, map};
-    ghost use Rattle.dj_source.specs.trusted.Lines.{Label};
-    ghost use Rattle.dj_source.specs.PairViews.{pair_view};
+    ghost use Rattle.dj_asm_source.specs.trusted.Lines.{Label};
+    ghost use Rattle.dj_asm_source.specs.PairViews.{pair_view};
 
     ghost Value = { List (ℤ × Label) };
 
@@ -71,8 +71,8 @@ impl<'t> Model for Pairs<'t> {
 }
 
 impl<'t> Pairs<'t> {
-    ghost use Rattle.dj_tokens.specs.Views.{units_of};
-    ghost use Rattle.dj_source.specs.PairViews.{pair_view};
+    ghost use Rattle.dj_asm_tokens.specs.Views.{units_of};
+    ghost use Rattle.dj_asm_source.specs.PairViews.{pair_view};
 
     /// No pairs.
     pub(crate) fn new(alloc: Global) -> Pairs<'t>

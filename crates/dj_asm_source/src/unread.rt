@@ -1,19 +1,19 @@
 ghost use Rattle.std.specs.Prelude.{◌≡◌, ◌+◌, ◌^◌, ◌<◌, ◌≤◌, ◌∷◌, [], length, List};
 ghost use Rattle.std.specs.Str.Lines.{lines};
-ghost use Rattle.dj_source.specs.LineReading.{line, missing};
-ghost use Rattle.dj_tokens.specs.trusted.Words.{Placed as PlacedToken};
-ghost use Rattle.dj_source.specs.Reading.{Got};
-ghost use Rattle.dj_source.specs.LineViews.{line_view};
-ghost use Rattle.dj_tokens.specs.Views.{placed_view, left_of};
-ghost use Rattle.dj_source.specs.StateViews.{state_view};
-ghost use Rattle.dj_source.specs.Unread.{UnreadLines, all_left, read_after, end_number, stop_fault, GivesLine, GivesRow, LeavesRow};
+ghost use Rattle.dj_asm_source.specs.LineReading.{line, missing};
+ghost use Rattle.dj_asm_tokens.specs.trusted.Words.{Placed as PlacedToken};
+ghost use Rattle.dj_asm_source.specs.Reading.{Got};
+ghost use Rattle.dj_asm_source.specs.LineViews.{line_view};
+ghost use Rattle.dj_asm_tokens.specs.Views.{placed_view, left_of};
+ghost use Rattle.dj_asm_source.specs.StateViews.{state_view};
+ghost use Rattle.dj_asm_source.specs.Unread.{UnreadLines, all_left, read_after, end_number, stop_fault, GivesLine, GivesRow, LeavesRow};
 
 use crate::error::AsmError;
 use crate::one_line::line;
 use crate::reader::Stop;
 use crate::state::{State, after, is_final};
 use crate::syntax::Line;
-use dj_tokens::{LineTokens, Placed, line_at, lines_after};
+use dj_asm_tokens::{LineTokens, Placed, line_at, lines_after};
 use std::alloc::Global;
 use std::marker::Model;
 
@@ -39,8 +39,8 @@ pub(crate) struct Unread<'t> {
 }
 
 impl<'t> Model for Unread<'t> {
-    ghost use Rattle.dj_source.specs.StateViews.{state_view};
-    ghost use Rattle.dj_source.specs.Unread.{UnreadLines};
+    ghost use Rattle.dj_asm_source.specs.StateViews.{state_view};
+    ghost use Rattle.dj_asm_source.specs.Unread.{UnreadLines};
 
     ghost Value = { UnreadLines };
 

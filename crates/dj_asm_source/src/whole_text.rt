@@ -1,12 +1,12 @@
 //! A whole text is read.
 ghost use Rattle.std.specs.Prelude.{◌+◌, ◌^◌, ◌<◌, ◌≤◌, length, List, ℕ, IfOk, IfErr};
-ghost use Rattle.dj_source.specs.SourceLines.{AreLinesOf, IsFirstFault};
-ghost use Rattle.dj_source.specs.Readings.{IsReading, AreAllRead, IsReadFault, GoesOn};
+ghost use Rattle.dj_asm_source.specs.SourceLines.{AreLinesOf, IsFirstFault};
+ghost use Rattle.dj_asm_source.specs.Readings.{IsReading, AreAllRead, IsReadFault, GoesOn};
 
 use crate::error::AsmError;
 use crate::source_lines::SourceLines;
 use crate::unread::{Row, Unread};
-use dj_tokens::{LineTokens, line_at};
+use dj_asm_tokens::{LineTokens, line_at};
 use std::alloc::Global;
 
 /// The lines of a text.

@@ -4,9 +4,9 @@ use Rattle.std.specs.List.{list_all}
 use Rattle.std.proofs.lemmas.Bool.{and_parts, not-true}
 use Rattle.std.proofs.lemmas.Bool.Decides.{nat_tests}
 use Rattle.dj_names.specs.trusted.ModifiedUtf8.{unit_text, units_text}
-use Rattle.dj_tokens.specs.trusted.Words.{begins_escape, word_units}
-use Rattle.dj_tokens.specs.Texts.{is_bare}
-use Rattle.dj_tokens.proofs.UnitLaws.{word_byte}
+use Rattle.dj_asm_tokens.specs.trusted.Words.{begins_escape, word_units}
+use Rattle.dj_asm_tokens.specs.Texts.{is_bare}
+use Rattle.dj_asm_tokens.proofs.UnitLaws.{word_byte}
 
 bare_text : (b : ℕ) → is_bare b ≡ true → unit_text b ≡ b ∷ []
 bare_text b e = grind (arith, nat_tests)

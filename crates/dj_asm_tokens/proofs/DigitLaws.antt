@@ -8,8 +8,8 @@ use Rattle.std.specs.Str.Parse.{digits_value, digits_value_after}
 use Rattle.std.proofs.lemmas.Bool.{cases_Bool, cases_lt, ne_eqb}
 use Rattle.std.proofs.lemmas.Bool.Decides.{nat_tests}
 use Rattle.std.proofs.lemmas.Int.{ints}
-use Rattle.dj_tokens.specs.WordReading.{is_numeral, number_in}
-use Rattle.dj_tokens.specs.Numbers.{InField, Value, Outside, NoNumber, within, number_within, kept, digits_from, flags_from, flags_in}
+use Rattle.dj_asm_tokens.specs.WordReading.{is_numeral, number_in}
+use Rattle.dj_asm_tokens.specs.Numbers.{InField, Value, Outside, NoNumber, within, number_within, kept, digits_from, flags_from, flags_in}
 
 -- ---- flags
 

@@ -4,11 +4,11 @@ use Rattle.std.specs.List.{list_all}
 use Rattle.std.specs.Char.{is_digit}
 use Rattle.std.proofs.lemmas.Bool.{cases_Bool, ne_eqb, and_parts, and_from, leb-true, le-leb, eqb-true, both_ways}
 use Rattle.std.proofs.lemmas.List.{take-append-drop, length-take-le, drop-drop, drop_all}
-use Rattle.dj_bytes.specs.trusted.Options.{◌>>=◌}
-use Rattle.dj_tokens.specs.trusted.Words.{begins_escape, escaped_unit, word_units}
-use Rattle.dj_tokens.specs.WordReading.{before_colon, label_in, tested, is_some_label}
-use Rattle.dj_tokens.specs.Colons.{ends_colon}
-use Rattle.dj_tokens.proofs.UnitLaws.{word_escape, word_byte, units_skip}
+use Rattle.dj_cursor.specs.trusted.Options.{◌>>=◌}
+use Rattle.dj_asm_tokens.specs.trusted.Words.{begins_escape, escaped_unit, word_units}
+use Rattle.dj_asm_tokens.specs.WordReading.{before_colon, label_in, tested, is_some_label}
+use Rattle.dj_asm_tokens.specs.Colons.{ends_colon}
+use Rattle.dj_asm_tokens.proofs.UnitLaws.{word_escape, word_byte, units_skip}
 
 abbrev digit : ℕ → Bool
 digit b = is_digit b 16

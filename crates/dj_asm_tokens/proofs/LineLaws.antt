@@ -5,7 +5,7 @@ use Rattle.std.specs.List.{position_or_len, slice_split, onto_first}
 use Rattle.std.specs.Str.Lines.{lines, lines_of_parts, strip_carriage_return}
 use Rattle.std.proofs.lemmas.Bool.{cases_Bool, ne_eqb}
 use Rattle.std.proofs.lemmas.List.Splits.{slice_split_first}
-use Rattle.dj_tokens.specs.trusted.Words.{Token, Placed, Piece, is_blank, piece_of, placed_at, tokens_after}
+use Rattle.dj_asm_tokens.specs.trusted.Words.{Token, Placed, Piece, is_blank, piece_of, placed_at, tokens_after}
 
 pub tokens_skip : (line column k : ℕ) (bytes : List ℕ) → tokens_after line column k bytes ≡ tokens_after line (column + k) 0 (drop k bytes)
 unfolding tokens_after

@@ -2,12 +2,12 @@
 use Rattle.std.proofs.Common.{Bor, ◌≡◌, ℕ, true, List, [], ◌∷◌, ◌++◌, Some, None, is_some, refl, sym, ap, ◌∙◌}
 use Rattle.std.proofs.lemmas.Bool.{false≢true}
 use Rattle.dj_names.specs.trusted.ModifiedUtf8.{unit_text, units_text}
-use Rattle.dj_tokens.specs.trusted.Words.{Opened, with_unit, string_units}
-use Rattle.dj_tokens.specs.declared.string.StringStep.{StringStep}
-use Rattle.dj_tokens.specs.declared.string.StringStep.TheVariants as steps
-use Rattle.dj_tokens.specs.Views.{opened_units, step_view}
-use Rattle.dj_tokens.specs.Strings.{Closed, Unit, Broken, string_step}
-use Rattle.dj_tokens.proofs.UnitLaws.{string_closed, string_broken, string_unit}
+use Rattle.dj_asm_tokens.specs.trusted.Words.{Opened, with_unit, string_units}
+use Rattle.dj_asm_tokens.specs.declared.string.StringStep.{StringStep}
+use Rattle.dj_asm_tokens.specs.declared.string.StringStep.TheVariants as steps
+use Rattle.dj_asm_tokens.specs.Views.{opened_units, step_view}
+use Rattle.dj_asm_tokens.specs.Strings.{Closed, Unit, Broken, string_step}
+use Rattle.dj_asm_tokens.proofs.UnitLaws.{string_closed, string_broken, string_unit}
 
 opens : (unit : ℕ) (opened : Opened) → is_some (with_unit unit opened) ≡ true → is_some opened ≡ true
 opens unit None h = h

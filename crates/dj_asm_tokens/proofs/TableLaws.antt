@@ -3,9 +3,9 @@ use Rattle.std.proofs.Common.{◌≡◌, ℕ, suc, ◌<◌, ◌==◌, ◌&&◌, 
 use Rattle.std.specs.List.{filter, list_all}
 use Rattle.std.proofs.lemmas.Bool.{cases_Bool, eqb-false, ne_eqb, and_parts, leb-true, false_from_ne_true}
 use Rattle.std.proofs.lemmas.Slice.Eq.{bytes_eq-Decides}
-use Rattle.dj_tokens.specs.trusted.Mnemonics.{mnemonics}
-use Rattle.dj_tokens.specs.WordReading.{row_of, place_from}
-use Rattle.dj_tokens.specs.Tables.{rows_from, rows_of_length}
+use Rattle.dj_asm_tokens.specs.trusted.Mnemonics.{mnemonics}
+use Rattle.dj_asm_tokens.specs.WordReading.{row_of, place_from}
+use Rattle.dj_asm_tokens.specs.Tables.{rows_from, rows_of_length}
 
 abbrev has_length : ℕ → List ℕ × ℕ → Bool
 has_length n row = length row.0 == n

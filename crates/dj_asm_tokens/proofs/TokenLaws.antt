@@ -2,7 +2,7 @@
 use Rattle.std.proofs.Common.{◌≡◌, ◌≢◌, ◌⊎◌, ℕ, zero, suc, ◌+◌, Bool, true, false, cond, List, [], ◌∷◌, ◌++◌, length, take, drop, Some, None, not, refl, subst, inl, inr}
 use Rattle.std.specs.Prelude.{◌-◌, ◌==◌, ◌||◌, slice_index, if◌then◌else◌}
 use Rattle.std.specs.List.{AllByRecursion, list_all, prefix_len}
-use Rattle.dj_tokens.specs.trusted.Words.{is_blank, is_plain, word_units, Token, Word, Quoted, LineEnd, Placed, Piece, Opened, bad, word_piece, string_piece, comment_piece, piece_of, placed_at, string_units, tokens_after, line_tokens}
+use Rattle.dj_asm_tokens.specs.trusted.Words.{is_blank, is_plain, word_units, Token, Word, Quoted, LineEnd, Placed, Piece, Opened, bad, word_piece, string_piece, comment_piece, piece_of, placed_at, string_units, tokens_after, line_tokens}
 
 abbrev pub NoEnd : Placed → Type 0
 NoEnd placed = placed.token ≢ LineEnd

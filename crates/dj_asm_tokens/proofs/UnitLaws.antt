@@ -2,8 +2,8 @@
 use Rattle.std.proofs.Common.{◌≡◌, ℕ, zero, suc, ◌==◌, ◌||◌, Bool, true, false, cond, List, [], ◌∷◌, Option, Some, None, drop, slice_index, refl, sym, ap, ◌∙◌, inl, inr}
 use Rattle.std.specs.Option.{option_map}
 use Rattle.std.proofs.lemmas.Bool.{cases_Bool}
-use Rattle.dj_tokens.specs.trusted.Words.{begins_escape, escaped_unit, is_plain, Opened, with_unit, word_units, string_units}
-use Rattle.dj_tokens.specs.Strings.{Step, Closed, Unit, Broken, backslash_step, byte_step, string_step}
+use Rattle.dj_asm_tokens.specs.trusted.Words.{begins_escape, escaped_unit, is_plain, Opened, with_unit, word_units, string_units}
+use Rattle.dj_asm_tokens.specs.Strings.{Step, Closed, Unit, Broken, backslash_step, byte_step, string_step}
 
 pub units_skip : (k : ℕ) (bytes : List ℕ) → word_units k bytes ≡ word_units 0 (drop k bytes)
 unfolding word_units

@@ -1,6 +1,6 @@
 -- Words, strings and comments at plain values, and the lines and columns at which they begin.
 use Rattle.std.proofs.Common.{◌≡◌, ℕ, [], ◌∷◌, ◌++◌, map, Some, None, codes, refl}
-use Rattle.dj_tokens.specs.trusted.Words.{Token, Word, Quoted, Bad, LineEnd, Placed, word_units, string_units, tokens_after, tokens_of, end_line}
+use Rattle.dj_asm_tokens.specs.trusted.Words.{Token, Word, Quoted, Bad, LineEnd, Placed, word_units, string_units, tokens_after, tokens_of, end_line}
 
 -- ---- units
 

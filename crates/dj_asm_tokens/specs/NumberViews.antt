@@ -1,7 +1,7 @@
 -- What the code's numbers show.
-use Rattle.dj_tokens.specs.declared.number.Number as the_number
-use Rattle.dj_tokens.specs.declared.number.Number.TheVariants as numbers
-use Rattle.dj_tokens.specs.Numbers.{InField, Value, Outside, NoNumber}
+use Rattle.dj_asm_tokens.specs.declared.number.Number as the_number
+use Rattle.dj_asm_tokens.specs.declared.number.Number.TheVariants as numbers
+use Rattle.dj_asm_tokens.specs.Numbers.{InField, Value, Outside, NoNumber}
 
 abbrev pub number_view : the_number.Number → InField
 number_view (numbers.Value n) = Value n

@@ -2,7 +2,7 @@
 use Rattle.std.specs.Prelude.{ℕ, ◌+◌, ◌-◌, ◌*◌, ◌^◌, ◌==◌, ◌&&◌, ◌||◌, min, Bool, true, ℤ, int_le, List, [], ◌∷◌, length, Option, Some, None, nat_le, if◌then◌else◌}
 use Rattle.std.specs.Char.{digit_value}
 use Rattle.std.specs.Str.Parse.{digits_value}
-use Rattle.dj_tokens.specs.WordReading.{is_numeral}
+use Rattle.dj_asm_tokens.specs.WordReading.{is_numeral}
 
 pub data InField : Type 0 where
   Value : ℤ → InField

@@ -1,6 +1,6 @@
 -- The reader's own: what a string's bytes begin with, after its opening quote.
 use Rattle.std.specs.Prelude.{ℕ, ◌==◌, ◌<◌, ◌||◌, ⊤, List, [], ◌∷◌, length, drop, if◌then◌else◌}
-use Rattle.dj_tokens.specs.trusted.Words.{is_plain, begins_escape, escaped_unit}
+use Rattle.dj_asm_tokens.specs.trusted.Words.{is_plain, begins_escape, escaped_unit}
 
 pub data Step : Type 0 where
   -- the quote that closes the string, and the bytes after it

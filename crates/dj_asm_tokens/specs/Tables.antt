@@ -1,7 +1,7 @@
 -- The reader's own: words with what they stand for, as tables.
 use Rattle.std.specs.Prelude.{ℕ, suc, ◌==◌, List, [], ◌∷◌, length, filter}
 use Rattle.std.specs.Borrow.{Bor}
-use Rattle.dj_tokens.specs.trusted.Mnemonics.{mnemonics}
+use Rattle.dj_asm_tokens.specs.trusted.Mnemonics.{mnemonics}
 
 -- what a row of the code's tables shows
 abbrev pub row_view : {K : Type 0} → Bor (List ℕ) × K → List ℕ × K

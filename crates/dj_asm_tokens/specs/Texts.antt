@@ -2,11 +2,11 @@
 use Rattle.std.specs.Prelude.{ℕ, ◌==◌, ◌&&◌, Bool, not, List, nat_le, nat_lt}
 use Rattle.dj_names.specs.trusted.Types.{Name}
 use Rattle.dj_names.specs.Tests.{unqualified_name_test, method_name_test, class_name_test, field_descriptor_test, method_descriptor_test, array_descriptor_test}
-use Rattle.dj_tokens.specs.declared.text.Text as the_text
-use Rattle.dj_tokens.specs.declared.text.Text.TheVariants as texts
-use Rattle.dj_tokens.specs.declared.text.NameKind.{NameKind}
-use Rattle.dj_tokens.specs.declared.text.NameKind.TheVariants as kinds
-use Rattle.dj_tokens.specs.WordReading.{class_text_test}
+use Rattle.dj_asm_tokens.specs.declared.text.Text as the_text
+use Rattle.dj_asm_tokens.specs.declared.text.Text.TheVariants as texts
+use Rattle.dj_asm_tokens.specs.declared.text.NameKind.{NameKind}
+use Rattle.dj_asm_tokens.specs.declared.text.NameKind.TheVariants as kinds
+use Rattle.dj_asm_tokens.specs.WordReading.{class_text_test}
 
 abbrev pub text_view : the_text.Text → Name
 text_view (texts.Lent bytes) = bytes.now

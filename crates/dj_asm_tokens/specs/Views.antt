@@ -1,18 +1,18 @@
 -- What the code's values show, in the terms of Words.
 use Rattle.std.specs.Prelude.{ℕ, ◌+◌, List, [], ◌∷◌, ◌++◌, Bool, true, false, length, unwrap_or}
 use Rattle.std.specs.Option.{option_map, option_to_list}
-use Rattle.dj_tokens.specs.declared.token.Word as the_word
-use Rattle.dj_tokens.specs.declared.token.Quoted as the_string
-use Rattle.dj_tokens.specs.declared.token.Token as the_token
-use Rattle.dj_tokens.specs.declared.token.Token.TheVariants as tokens
-use Rattle.dj_tokens.specs.declared.token.Placed as the_placed
-use Rattle.dj_tokens.specs.declared.string.StringStep.{StringStep}
-use Rattle.dj_tokens.specs.declared.string.StringStep.TheVariants as steps
-use Rattle.dj_tokens.specs.declared.piece.Piece as the_piece
-use Rattle.dj_tokens.specs.declared.place.Place as the_place
-use Rattle.dj_tokens.specs.declared.tokens.LineTokens as the_line
-use Rattle.dj_tokens.specs.trusted.Words.{Token, Word, Quoted, Bad, LineEnd, Placed, Piece, Opened, word_units, string_units, tokens_after}
-use Rattle.dj_tokens.specs.Strings.{Step, Closed, Unit, Broken}
+use Rattle.dj_asm_tokens.specs.declared.token.Word as the_word
+use Rattle.dj_asm_tokens.specs.declared.token.Quoted as the_string
+use Rattle.dj_asm_tokens.specs.declared.token.Token as the_token
+use Rattle.dj_asm_tokens.specs.declared.token.Token.TheVariants as tokens
+use Rattle.dj_asm_tokens.specs.declared.token.Placed as the_placed
+use Rattle.dj_asm_tokens.specs.declared.string.StringStep.{StringStep}
+use Rattle.dj_asm_tokens.specs.declared.string.StringStep.TheVariants as steps
+use Rattle.dj_asm_tokens.specs.declared.piece.Piece as the_piece
+use Rattle.dj_asm_tokens.specs.declared.place.Place as the_place
+use Rattle.dj_asm_tokens.specs.declared.tokens.LineTokens as the_line
+use Rattle.dj_asm_tokens.specs.trusted.Words.{Token, Word, Quoted, Bad, LineEnd, Placed, Piece, Opened, word_units, string_units, tokens_after}
+use Rattle.dj_asm_tokens.specs.Strings.{Step, Closed, Unit, Broken}
 
 abbrev pub units_of : the_word.Word → List ℕ
 units_of word = word_units 0 word.bytes.now

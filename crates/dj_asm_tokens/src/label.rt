@@ -1,7 +1,7 @@
 ghost use Rattle.std.specs.Prelude.{◌≡◌, ◌<◌, ◌≤◌, ◌∷◌, [], length, drop, option_map};
-ghost use Rattle.dj_tokens.specs.trusted.Words.{word_units};
-ghost use Rattle.dj_tokens.specs.WordReading.{label_in};
-ghost use Rattle.dj_tokens.specs.Colons.{ends_colon};
+ghost use Rattle.dj_asm_tokens.specs.trusted.Words.{word_units};
+ghost use Rattle.dj_asm_tokens.specs.WordReading.{label_in};
+ghost use Rattle.dj_asm_tokens.specs.Colons.{ends_colon};
 
 use crate::bytes::escape_at;
 

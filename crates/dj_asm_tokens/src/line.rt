@@ -1,7 +1,7 @@
 ghost use Rattle.std.specs.Prelude.{◌≡◌, ◌+◌, ◌-◌, ◌^◌, ◌<◌, ◌≤◌, ◌∷◌, [], ◌==◌, length, take, drop, MatchOption, IfSome};
 ghost use Rattle.std.specs.List.{position_or_len};
 ghost use Rattle.std.specs.Str.Lines.{lines, strip_carriage_return};
-ghost use Rattle.dj_tokens.specs.trusted.Words.{end_line};
+ghost use Rattle.dj_asm_tokens.specs.trusted.Words.{end_line};
 
 /// The first line of a text, and the bytes after it.
 #[tactic(auto, using(crate::proofs::LineLaws::last_line, crate::proofs::LineLaws::first_line))]

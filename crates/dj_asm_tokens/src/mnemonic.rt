@@ -1,8 +1,8 @@
 ghost use Rattle.std.specs.Prelude.{◌≡◌, map, length, option_map};
-ghost use Rattle.dj_tokens.specs.trusted.Words.{word_units};
-ghost use Rattle.dj_tokens.specs.WordReading.{place_from};
-ghost use Rattle.dj_tokens.specs.trusted.Mnemonics.{mnemonics, base_words};
-ghost use Rattle.dj_tokens.specs.Tables.{row_view, rows_of_length};
+ghost use Rattle.dj_asm_tokens.specs.trusted.Words.{word_units};
+ghost use Rattle.dj_asm_tokens.specs.WordReading.{place_from};
+ghost use Rattle.dj_asm_tokens.specs.trusted.Mnemonics.{mnemonics, base_words};
+ghost use Rattle.dj_asm_tokens.specs.Tables.{row_view, rows_of_length};
 
 use crate::spelling::{row_at, unit_count};
 

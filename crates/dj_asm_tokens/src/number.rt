@@ -1,8 +1,8 @@
 ghost use Rattle.std.specs.Prelude.{◌≡◌, ◌≢◌, ◌∷◌, false, pos, neg_ℤ, slice_index, MatchOption};
-ghost use Rattle.dj_tokens.specs.trusted.Words.{word_units};
-ghost use Rattle.dj_tokens.specs.WordReading.{number_in};
-ghost use Rattle.dj_tokens.specs.Numbers.{flags_in, flags_from, digits_from, number_within, within};
-ghost use Rattle.dj_tokens.specs.NumberViews.{number_view};
+ghost use Rattle.dj_asm_tokens.specs.trusted.Words.{word_units};
+ghost use Rattle.dj_asm_tokens.specs.WordReading.{number_in};
+ghost use Rattle.dj_asm_tokens.specs.Numbers.{flags_in, flags_from, digits_from, number_within, within};
+ghost use Rattle.dj_asm_tokens.specs.NumberViews.{number_view};
 
 use crate::bytes::digit_value;
 use crate::unit::unit_at;

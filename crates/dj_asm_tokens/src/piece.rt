@@ -1,7 +1,7 @@
 ghost use Rattle.std.specs.Prelude.{◌≡◌, ◌<◌, ◌≤◌, ◌||◌, not, false, length, slice_index, IfNone};
 ghost use Rattle.std.specs.List.{prefix_len, list_all};
-ghost use Rattle.dj_tokens.specs.trusted.Words.{is_blank, is_plain, bad, word_piece, string_piece, comment_piece, piece_of};
-ghost use Rattle.dj_tokens.specs.Views.{piece_view};
+ghost use Rattle.dj_asm_tokens.specs.trusted.Words.{is_blank, is_plain, bad, word_piece, string_piece, comment_piece, piece_of};
+ghost use Rattle.dj_asm_tokens.specs.Views.{piece_view};
 
 use crate::bytes::{is_blank, is_plain};
 use crate::string::after_string;

@@ -1,5 +1,5 @@
 ghost use Rattle.std.specs.Prelude.{◌≡◌, ◌+◌, ◌^◌, ◌<◌, false, length, slice_index};
-ghost use Rattle.dj_tokens.specs.trusted.Words.{is_blank};
+ghost use Rattle.dj_asm_tokens.specs.trusted.Words.{is_blank};
 
 use crate::bytes::is_blank;
 use crate::piece::piece_at;
@@ -16,8 +16,8 @@ pub(crate) struct Place<'t> {
 
 impl<'t> Place<'t> {
     ghost use Rattle.std.specs.Prelude.{◌∷◌, [], MatchOption, IfSome};
-    ghost use Rattle.dj_tokens.specs.Views.{placed_view};
-    ghost use Rattle.dj_tokens.specs.Views.{left_in_line, end_of};
+    ghost use Rattle.dj_asm_tokens.specs.Views.{placed_view};
+    ghost use Rattle.dj_asm_tokens.specs.Views.{left_in_line, end_of};
 
     /// The next token of the line, and the place after it.
     #[tactic(auto, using(crate::proofs::LineLaws::no_rest, crate::proofs::LineLaws::step_token, crate::proofs::LineLaws::at_comment))]

@@ -1,8 +1,8 @@
 //! The texts of strings.
 ghost use Rattle.std.specs.Prelude.{◌≡◌, true, is_some, IfOk};
 ghost use Rattle.dj_names.specs.trusted.ModifiedUtf8.{units_text};
-ghost use Rattle.dj_tokens.specs.trusted.Words.{string_units};
-ghost use Rattle.dj_tokens.specs.Views.{opened_units, string_units_of};
+ghost use Rattle.dj_asm_tokens.specs.trusted.Words.{string_units};
+ghost use Rattle.dj_asm_tokens.specs.Views.{opened_units, string_units_of};
 
 use crate::string::{StringStep, string_step};
 use crate::text::push_unit;

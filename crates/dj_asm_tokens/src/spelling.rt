@@ -1,7 +1,7 @@
 ghost use Rattle.std.specs.Prelude.{◌≡◌, true, false, map, length, take, drop, bytes_eq, MatchOption};
-ghost use Rattle.dj_tokens.specs.trusted.Words.{word_units};
-ghost use Rattle.dj_tokens.specs.WordReading.{row_of};
-ghost use Rattle.dj_tokens.specs.Tables.{row_view};
+ghost use Rattle.dj_asm_tokens.specs.trusted.Words.{word_units};
+ghost use Rattle.dj_asm_tokens.specs.WordReading.{row_of};
+ghost use Rattle.dj_asm_tokens.specs.Tables.{row_view};
 
 use crate::unit::unit_at;
 

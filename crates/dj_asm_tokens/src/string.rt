@@ -1,7 +1,7 @@
 ghost use Rattle.std.specs.Prelude.{◌≡◌, ◌+◌, ◌≤◌, length, option_map, IfSome};
-ghost use Rattle.dj_tokens.specs.trusted.Words.{string_units};
-ghost use Rattle.dj_tokens.specs.Strings.{string_step, byte_step, backslash_step, IsShorter};
-ghost use Rattle.dj_tokens.specs.Views.{step_view};
+ghost use Rattle.dj_asm_tokens.specs.trusted.Words.{string_units};
+ghost use Rattle.dj_asm_tokens.specs.Strings.{string_step, byte_step, backslash_step, IsShorter};
+ghost use Rattle.dj_asm_tokens.specs.Views.{step_view};
 
 use crate::bytes::{escape_at, is_plain};
 

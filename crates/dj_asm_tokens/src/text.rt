@@ -1,7 +1,7 @@
 ghost use Rattle.std.specs.Prelude.{◌≡◌, ◌++◌, true, OnOk, IfOk};
 ghost use Rattle.dj_names.specs.trusted.ModifiedUtf8.{unit_text, units_text};
-ghost use Rattle.dj_tokens.specs.trusted.Words.{word_units};
-ghost use Rattle.dj_tokens.specs.Texts.{text_view, test_of, is_bare};
+ghost use Rattle.dj_asm_tokens.specs.trusted.Words.{word_units};
+ghost use Rattle.dj_asm_tokens.specs.Texts.{text_view, test_of, is_bare};
 ghost use Rattle.std.specs.List.{list_all};
 
 use crate::unit::unit_at;
@@ -22,7 +22,7 @@ pub enum Text<'t> {
 
 impl Text<'_> {
     ghost use Rattle.std.specs.Prelude.{◌≡◌};
-    ghost use Rattle.dj_tokens.specs.Texts.{text_view};
+    ghost use Rattle.dj_asm_tokens.specs.Texts.{text_view};
 
     /// The bytes, borrowed.
     pub fn as_slice(&self) -> &[u8]

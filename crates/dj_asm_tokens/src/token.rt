@@ -1,5 +1,5 @@
 ghost use Rattle.std.specs.Prelude.{◌≡◌, true, is_some};
-ghost use Rattle.dj_tokens.specs.trusted.Words.{string_units};
+ghost use Rattle.dj_asm_tokens.specs.trusted.Words.{string_units};
 
 /// A word, by its bytes.
 #[derive(Clone, Copy)]

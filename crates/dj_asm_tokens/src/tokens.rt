@@ -10,8 +10,8 @@ pub struct LineTokens<'t> {
 
 impl<'t> LineTokens<'t> {
     ghost use Rattle.std.specs.Prelude.{◌≡◌, ◌+◌, ◌^◌, ◌<◌, ◌∷◌, [], length, MatchOption};
-    ghost use Rattle.dj_tokens.specs.trusted.Words.{line_tokens};
-    ghost use Rattle.dj_tokens.specs.Views.{placed_view, left_of};
+    ghost use Rattle.dj_asm_tokens.specs.trusted.Words.{line_tokens};
+    ghost use Rattle.dj_asm_tokens.specs.Views.{placed_view, left_of};
 
     /// The first token of a line, and those after it.
     pub fn first(line: u32, bytes: &'t [u8]) -> Option<(Placed<'t>, LineTokens<'t>)>

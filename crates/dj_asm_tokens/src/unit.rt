@@ -1,5 +1,5 @@
 ghost use Rattle.std.specs.Prelude.{◌≡◌, ◌≤◌, ◌<◌, ◌∷◌, [], None, length, MatchOption, IfSome};
-ghost use Rattle.dj_tokens.specs.trusted.Words.{word_units};
+ghost use Rattle.dj_asm_tokens.specs.trusted.Words.{word_units};
 
 use crate::bytes::escape_at;
 

@@ -1,6 +1,6 @@
 -- What reading a class file answers, at plain values: the answer that is right, and of each kind one that is wrong.
 use Rattle.std.proofs.Common.{◌≡◌, ℕ, ◌∷◌, [], List, ◌++◌, take, Ok, Err, true, refl, sym, ap, subst, ◌∙◌, arith}
-use Rattle.dj_bytes.specs.Reading.{many_at, table_at}
+use Rattle.dj_cursor.specs.Reading.{many_at, table_at}
 use Rattle.dj_names.specs.trusted.NameReading.{reads_class_name}
 use Rattle.dj_names.specs.trusted.DescReading.{dims_read, name_read, class_read, of_read, type_read, params_read, field_read, return_read, method_read}
 use Rattle.dj_names.specs.trusted.UnitReading.{unit_read, long_read, two_read, three_read}

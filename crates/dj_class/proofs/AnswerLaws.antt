@@ -1,7 +1,7 @@
 -- What reading a class file answers, that no two answers are right, and that one is.
 use Rattle.std.proofs.Common.{◌≡◌, ℕ, List, Result, Ok, Err, refl}
-use Rattle.dj_bytes.specs.Steps.{Gives}
-use Rattle.dj_bytes.proofs.Bytes.{IsBytes}
+use Rattle.dj_cursor.specs.Steps.{Gives}
+use Rattle.dj_cursor.proofs.Bytes.{IsBytes}
 use Rattle.dj_pool.specs.declared.pool.PoolError.TheVariants as pool_errors
 use Rattle.dj_pool.proofs.Decides.{TestsDecide}
 use Rattle.dj_class.specs.declared.class.ClassError.{ClassError}

@@ -2,15 +2,15 @@
 use Rattle.std.proofs.Common.{◌≡◌, ℕ, if◌then◌else◌, List, [], ◌++◌, length, Result, Ok, Err, refl, sym, ap, subst, ◌∙◌, append_assoc, append-nil, arith}
 use Rattle.std.proofs.lemmas.Bool.{eqb-true, eq-eqb}
 use Rattle.std.proofs.lemmas.List.{nil_from_length}
-use Rattle.dj_bytes.specs.trusted.Spelling.{u2, table_bytes}
-use Rattle.dj_bytes.specs.Steps.{◌>>=◌, lifted}
-use Rattle.dj_bytes.specs.Reading.{Cursor, start_of, at_end, table_at}
-use Rattle.dj_bytes.proofs.Bytes.{IsBytes}
-use Rattle.dj_bytes.proofs.Steps.{bind_again, guard_ok, guard_again}
-use Rattle.dj_bytes.proofs.Spans.{Spans, Spans-then, Spans-end, Reads, step_takes, step_again, lifted_reads}
-use Rattle.dj_bytes.specs.Faults.{AreFew}
-use Rattle.dj_bytes.proofs.Parts.{table_reads}
-use Rattle.dj_bytes.proofs.FaultLaws.{Refuses, refuses_then, lifted_refuses, table_refuses, end_refuses}
+use Rattle.dj_cursor.specs.trusted.Spelling.{u2, table_bytes}
+use Rattle.dj_cursor.specs.Steps.{◌>>=◌, lifted}
+use Rattle.dj_cursor.specs.Reading.{Cursor, start_of, at_end, table_at}
+use Rattle.dj_cursor.proofs.Bytes.{IsBytes}
+use Rattle.dj_cursor.proofs.Steps.{bind_again, guard_ok, guard_again}
+use Rattle.dj_cursor.proofs.Spans.{Spans, Spans-then, Spans-end, Reads, step_takes, step_again, lifted_reads}
+use Rattle.dj_cursor.specs.Faults.{AreFew}
+use Rattle.dj_cursor.proofs.Parts.{table_reads}
+use Rattle.dj_cursor.proofs.FaultLaws.{Refuses, refuses_then, lifted_refuses, table_refuses, end_refuses}
 use Rattle.dj_names.specs.Tests.{unqualified_name_test, method_name_test, field_descriptor_test, method_descriptor_test}
 use Rattle.dj_names.specs.trusted.Names.{IsUnqualifiedName, IsMethodName}
 use Rattle.dj_names.specs.trusted.Descriptors.{IsFieldDescriptor, IsMethodDescriptor}

@@ -1,9 +1,9 @@
 -- Which errors reading the body of a Code attribute has: what is cut, a code's length, and what follows the last item.
 use Rattle.std.proofs.Common.{◌≡◌, ℕ, List, Err, length, sym, subst, inl, inr}
 use Rattle.std.specs.Prelude.{⊤}
-use Rattle.dj_bytes.specs.trusted.Spelling.{u2, u4, table_bytes}
-use Rattle.dj_bytes.specs.Reading.{Cursor, start_of}
-use Rattle.dj_bytes.specs.Faults.{IsCut, IsAmong, InTurn, InTable, IsLeft, Fits2, Fits4, AreFew}
+use Rattle.dj_cursor.specs.trusted.Spelling.{u2, u4, table_bytes}
+use Rattle.dj_cursor.specs.Reading.{Cursor, start_of}
+use Rattle.dj_cursor.specs.Faults.{IsCut, IsAmong, InTurn, InTable, IsLeft, Fits2, Fits4, AreFew}
 use Rattle.dj_pool.specs.declared.pool.PoolError.{PoolError}
 use Rattle.dj_class.specs.declared.class.ClassError.{ClassError}
 use Rattle.dj_class.specs.declared.class.ClassError.TheVariants as errors

@@ -1,6 +1,6 @@
 -- The body of a Code attribute at plain values: what is read of its bytes, its bytes, and what reading them answers.
 use Rattle.std.proofs.Common.{◌≡◌, ◌≢◌, ℕ, ◌+◌, List, [], ◌∷◌, ◌++◌, map, take, drop, Result, Ok, Err, refl, sym, ap, subst, ◌∙◌, arith}
-use Rattle.dj_bytes.specs.Reading.{many_at, table_at}
+use Rattle.dj_cursor.specs.Reading.{many_at, table_at}
 use Rattle.dj_pool.proofs.AnswerFacts.{are_bytes}
 use Rattle.dj_class.specs.declared.class.ClassError.{ClassError}
 use Rattle.dj_class.specs.declared.class.ClassError.TheVariants as errors

@@ -3,16 +3,16 @@ use Rattle.std.proofs.Common.{◌≡◌, ℕ, ◌^◌, ◌<◌, ◌&&◌, true, 
 use Rattle.std.proofs.lemmas.Bool.{eqb-true}
 use Rattle.std.proofs.lemmas.Bool.Decides.{nat_tests}
 use Rattle.std.proofs.lemmas.List.{nil_from_length}
-use Rattle.dj_bytes.specs.trusted.Spelling.{u2, u4, table_bytes}
-use Rattle.dj_bytes.specs.Steps.{◌>>=◌, Gives}
-use Rattle.dj_bytes.specs.Reading.{Cursor, start_of, at_end, block_at, u2_at, table_at}
-use Rattle.dj_bytes.proofs.Bytes.{IsBytes}
-use Rattle.dj_bytes.specs.Faults.{IsCut, InTurn, Fits2}
-use Rattle.dj_bytes.proofs.Steps.{bind_again, four_steps, guard_ok, guard_again}
-use Rattle.dj_bytes.proofs.Spans.{Spans, Spans-then, Spans-end, Reads, step_takes, step_again}
-use Rattle.dj_bytes.proofs.Numbers.{u2_reads, u4_reads, block_reads}
-use Rattle.dj_bytes.proofs.Parts.{table_reads}
-use Rattle.dj_bytes.proofs.FaultLaws.{Refuses, Refuses-same, u2_refuses, u4_refuses, block_refuses, refuses_then, refuses_last, table_refuses, guard_refuses, end_refuses}
+use Rattle.dj_cursor.specs.trusted.Spelling.{u2, u4, table_bytes}
+use Rattle.dj_cursor.specs.Steps.{◌>>=◌, Gives}
+use Rattle.dj_cursor.specs.Reading.{Cursor, start_of, at_end, block_at, u2_at, table_at}
+use Rattle.dj_cursor.proofs.Bytes.{IsBytes}
+use Rattle.dj_cursor.specs.Faults.{IsCut, InTurn, Fits2}
+use Rattle.dj_cursor.proofs.Steps.{bind_again, four_steps, guard_ok, guard_again}
+use Rattle.dj_cursor.proofs.Spans.{Spans, Spans-then, Spans-end, Reads, step_takes, step_again}
+use Rattle.dj_cursor.proofs.Numbers.{u2_reads, u4_reads, block_reads}
+use Rattle.dj_cursor.proofs.Parts.{table_reads}
+use Rattle.dj_cursor.proofs.FaultLaws.{Refuses, Refuses-same, u2_refuses, u4_refuses, block_refuses, refuses_then, refuses_last, table_refuses, guard_refuses, end_refuses}
 use Rattle.dj_ops.specs.declared.rows.CatchRow.{CatchRow}
 use Rattle.dj_pool.specs.declared.pool.PoolError.TheVariants as pool_errors
 use Rattle.dj_class.specs.declared.class.ClassError.{ClassError}

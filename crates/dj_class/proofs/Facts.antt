@@ -1,7 +1,7 @@
 -- The definitions at plain values: class files and their bytes, what is faulty in files that differ from them in one byte, rows, code lengths and access flags.
 use Rattle.std.proofs.Common.{◌≡◌, ◌≢◌, ℕ, ◌+◌, true, false, List, [], ◌∷◌, ◌++◌, length, map, take, drop, Result, Ok, Err, refl, arith, inl, inr}
 use Rattle.std.specs.Prelude.{codes}
-use Rattle.dj_bytes.specs.Reading.{many_at, table_at}
+use Rattle.dj_cursor.specs.Reading.{many_at, table_at}
 use Rattle.dj_names.specs.trusted.NameReading.{reads_class_name}
 use Rattle.dj_names.specs.trusted.DescReading.{dims_read, name_read, class_read, of_read, type_read, params_read, field_read, return_read, method_read}
 use Rattle.dj_names.specs.trusted.UnitReading.{unit_read, long_read, two_read, three_read}

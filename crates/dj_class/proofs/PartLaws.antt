@@ -5,16 +5,16 @@ use Rattle.std.specs.Prelude.{⊤}
 use Rattle.std.proofs.lemmas.Bool.{eqb-true, eq-eqb, or_cases}
 use Rattle.std.proofs.lemmas.Option.{slice_get_within}
 use Rattle.std.proofs.Math.Bool.{or-true}
-use Rattle.dj_bytes.specs.trusted.Spelling.{u2, u4, table_bytes}
-use Rattle.dj_bytes.specs.Steps.{◌>>=◌}
-use Rattle.dj_bytes.specs.Reading.{Cursor, u2_at, table_at}
-use Rattle.dj_bytes.proofs.Bytes.{IsBytes}
-use Rattle.dj_bytes.specs.Faults.{InTurn, Fits2, AreFew}
-use Rattle.dj_bytes.proofs.Steps.{bind_again, three_steps, four_steps, guard_ok, guard_again}
-use Rattle.dj_bytes.proofs.Parts.{table_reads}
-use Rattle.dj_bytes.proofs.Spans.{Reads-good, Spans, Spans-then, Reads, step_takes, step_again}
-use Rattle.dj_bytes.proofs.Numbers.{u2_reads, u4_reads, block_reads}
-use Rattle.dj_bytes.proofs.FaultLaws.{Refuses, Refuses-same, u2_refuses, u4_refuses, block_refuses, refuses_then, refuses_last, table_refuses, guard_refuses}
+use Rattle.dj_cursor.specs.trusted.Spelling.{u2, u4, table_bytes}
+use Rattle.dj_cursor.specs.Steps.{◌>>=◌}
+use Rattle.dj_cursor.specs.Reading.{Cursor, u2_at, table_at}
+use Rattle.dj_cursor.proofs.Bytes.{IsBytes}
+use Rattle.dj_cursor.specs.Faults.{InTurn, Fits2, AreFew}
+use Rattle.dj_cursor.proofs.Steps.{bind_again, three_steps, four_steps, guard_ok, guard_again}
+use Rattle.dj_cursor.proofs.Parts.{table_reads}
+use Rattle.dj_cursor.proofs.Spans.{Reads-good, Spans, Spans-then, Reads, step_takes, step_again}
+use Rattle.dj_cursor.proofs.Numbers.{u2_reads, u4_reads, block_reads}
+use Rattle.dj_cursor.proofs.FaultLaws.{Refuses, Refuses-same, u2_refuses, u4_refuses, block_refuses, refuses_then, refuses_last, table_refuses, guard_refuses}
 use Rattle.dj_names.specs.Tests.{class_name_test}
 use Rattle.dj_names.specs.trusted.Names.{IsClassName}
 use Rattle.dj_pool.specs.trusted.Pool.{Constant, constant_at, text_at, text_of, class_text_of, class_name_at, NamesText, IsPool}

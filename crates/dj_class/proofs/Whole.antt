@@ -1,8 +1,8 @@
 -- Reading a whole file, part by part.
 use Rattle.std.proofs.Common.{◌≡◌, ℕ, cond, List, Result, Ok, Err, refl, sym, subst, ◌∙◌}
-use Rattle.dj_bytes.specs.Steps.{◌>>=◌, lifted, Fails}
-use Rattle.dj_bytes.specs.Reading.{Cursor, start_of, at_end, table_at}
-use Rattle.dj_bytes.proofs.Steps.{fails_then}
+use Rattle.dj_cursor.specs.Steps.{◌>>=◌, lifted, Fails}
+use Rattle.dj_cursor.specs.Reading.{Cursor, start_of, at_end, table_at}
+use Rattle.dj_cursor.proofs.Steps.{fails_then}
 use Rattle.dj_names.specs.Tests.{unqualified_name_test, method_name_test, field_descriptor_test, method_descriptor_test}
 use Rattle.dj_class.specs.declared.class.ClassError.{ClassError}
 use Rattle.dj_class.specs.declared.class.ClassError.TheVariants as class_errors

@@ -1,8 +1,8 @@
 -- Where no body of a Code attribute is: the first fault, in the order in which it is read. Places are within the body.
 use Rattle.std.specs.Prelude.{◌≡◌, ℕ, ◌<◌, ◌⊎◌, List, length}
-use Rattle.dj_bytes.specs.trusted.Spelling.{u2, u4, table_bytes}
-use Rattle.dj_bytes.specs.Reading.{start_of}
-use Rattle.dj_bytes.specs.Faults.{IsCut, IsDenied, InTurn, InTable, IsLeft, Fits2, Fits4, AreFew}
+use Rattle.dj_cursor.specs.trusted.Spelling.{u2, u4, table_bytes}
+use Rattle.dj_cursor.specs.Reading.{start_of}
+use Rattle.dj_cursor.specs.Faults.{IsCut, IsDenied, InTurn, InTable, IsLeft, Fits2, Fits4, AreFew}
 use Rattle.dj_class.specs.declared.class.ClassError.{ClassError}
 use Rattle.dj_class.specs.declared.class.ClassError.TheVariants as errors
 use Rattle.dj_class.specs.trusted.ClassFile.{attribute_bytes}

@@ -1,7 +1,7 @@
 -- The reader's own: reading the body of a Code attribute from left to right, with the first fault that is met.
 use Rattle.std.specs.Prelude.{ℕ, ◌&&◌, List, Result, Ok, Err, nat_lt, if◌then◌else◌}
-use Rattle.dj_bytes.specs.Steps.{◌>>=◌}
-use Rattle.dj_bytes.specs.Reading.{Cursor, start_of, at_end, block_at, u2_at, u4_at, table_at}
+use Rattle.dj_cursor.specs.Steps.{◌>>=◌}
+use Rattle.dj_cursor.specs.Reading.{Cursor, start_of, at_end, block_at, u2_at, u4_at, table_at}
 use Rattle.dj_ops.specs.declared.rows.CatchRow.{CatchRow}
 use Rattle.dj_class.specs.declared.class.ClassError.{ClassError}
 use Rattle.dj_class.specs.declared.class.ClassError.TheVariants as class_errors

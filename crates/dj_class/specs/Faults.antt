@@ -1,8 +1,8 @@
 -- Where no class file is: the first fault, in the order in which a class file is read.
 use Rattle.std.specs.Prelude.{◌≡◌, ℕ, ◌⊎◌, ⊤, List}
-use Rattle.dj_bytes.specs.trusted.Spelling.{u2, u4, table_bytes}
-use Rattle.dj_bytes.specs.Reading.{Cursor, start_of}
-use Rattle.dj_bytes.specs.Faults.{IsCut, IsDenied, InTurn, InTable, IsLifted, IsLeft, Fits2, Fits4, AreFew}
+use Rattle.dj_cursor.specs.trusted.Spelling.{u2, u4, table_bytes}
+use Rattle.dj_cursor.specs.Reading.{Cursor, start_of}
+use Rattle.dj_cursor.specs.Faults.{IsCut, IsDenied, InTurn, InTable, IsLifted, IsLeft, Fits2, Fits4, AreFew}
 use Rattle.dj_names.specs.trusted.Names.{IsUnqualifiedName, IsMethodName}
 use Rattle.dj_names.specs.trusted.Descriptors.{IsFieldDescriptor, IsMethodDescriptor}
 use Rattle.dj_pool.specs.trusted.Pool.{Constant, pool_bytes, NamesText, IsPool}

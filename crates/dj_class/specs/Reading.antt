@@ -1,7 +1,7 @@
 -- The reader's own: reading from left to right, with the first fault that is met.
 use Rattle.std.specs.Prelude.{ℕ, ◌==◌, ◌||◌, Bool, List, Result, Ok, Err, if◌then◌else◌}
-use Rattle.dj_bytes.specs.Steps.{◌>>=◌, lifted}
-use Rattle.dj_bytes.specs.Reading.{Cursor, start_of, at_end, block_at, u2_at, u4_at, table_at}
+use Rattle.dj_cursor.specs.Steps.{◌>>=◌, lifted}
+use Rattle.dj_cursor.specs.Reading.{Cursor, start_of, at_end, block_at, u2_at, u4_at, table_at}
 use Rattle.dj_names.specs.Tests.{unqualified_name_test, method_name_test, field_descriptor_test, method_descriptor_test}
 use Rattle.dj_pool.specs.trusted.Pool.{Constant}
 use Rattle.dj_pool.specs.Tests.{text_passes, is_text, is_class}

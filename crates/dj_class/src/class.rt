@@ -1,7 +1,7 @@
 ghost use Rattle.std.specs.Prelude.{◌≡◌, ◌+◌, ◌^◌, ◌<◌, ◌≤◌, ◌==◌, ◌||◌, ℕ, length, map};
-ghost use Rattle.dj_bytes.specs.Steps.{Gives};
-ghost use Rattle.dj_bytes.specs.Reading.{many_at, table_at};
-ghost use Rattle.dj_bytes.specs.Views.{cursor_of};
+ghost use Rattle.dj_cursor.specs.Steps.{Gives};
+ghost use Rattle.dj_cursor.specs.Reading.{many_at, table_at};
+ghost use Rattle.dj_cursor.specs.Views.{cursor_of};
 ghost use Rattle.dj_names.specs.Tests.{unqualified_name_test, method_name_test, field_descriptor_test, method_descriptor_test};
 ghost use Rattle.dj_class.specs.Parts.{attribute_of};
 ghost use Rattle.dj_class.specs.Members.{member_of};
@@ -13,7 +13,7 @@ ghost use Rattle.dj_class.specs.Tests.{test_of, heading_of};
 ghost use Rattle.dj_class.specs.declared.class.ClassError.TheVariants as class_errors;
 
 use crate::lists::{Attributes, Members};
-use dj_bytes::{Cursor, Cut};
+use dj_cursor::{Cursor, Cut};
 use dj_pool::{Indexes, JudgedPool, Pool, PoolError, read_judged_pool};
 use std::alloc::{AllocError, AllocFailed, Global};
 use thiserror::Error;
@@ -225,7 +225,7 @@ fn read_attribute_list<'a>(
     Ok((attributes, after))
 }
 
-#[tactic(auto, unfolding(dj_bytes::specs::Reading::table_at))]
+#[tactic(auto, unfolding(dj_cursor::specs::Reading::table_at))]
 fn read_attributes<'a>(
     alloc: Global,
     pool: &JudgedPool<'_>,
@@ -286,7 +286,7 @@ fn read_member_list<'a>(
     Ok((members, after))
 }
 
-#[tactic(auto, unfolding(dj_bytes::specs::Reading::table_at))]
+#[tactic(auto, unfolding(dj_cursor::specs::Reading::table_at))]
 fn read_members<'a>(
     alloc: Global,
     name_test: TextTest,
@@ -321,7 +321,7 @@ fn read_interface_list<'a>(
     Ok((interfaces, after))
 }
 
-#[tactic(auto, unfolding(dj_bytes::specs::Reading::table_at))]
+#[tactic(auto, unfolding(dj_cursor::specs::Reading::table_at))]
 fn read_interfaces<'a>(
     alloc: Global,
     pool: &JudgedPool<'_>,
@@ -384,7 +384,7 @@ fn read_opening<'a>(
     ))
 }
 
-#[tactic(auto, using(dj_bytes::proofs::Steps::lifted_fails), unfolding(crate::specs::Reading::class_file_of))]
+#[tactic(auto, using(dj_cursor::proofs::Steps::lifted_fails), unfolding(crate::specs::Reading::class_file_of))]
 fn read_all<'a>(alloc: Global, file: &'a [u8]) -> Result<ClassView<'a>, ClassError>
     requires { length file.now < 2 ^ 32 }
     ensures { Gives is_memory class_of result (class_file_of file.now) }

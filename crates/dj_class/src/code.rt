@@ -1,7 +1,7 @@
 ghost use Rattle.std.specs.Prelude.{ℕ, ◌^◌, ◌<◌, length, map};
-ghost use Rattle.dj_bytes.specs.Steps.{Gives};
-ghost use Rattle.dj_bytes.specs.Reading.{many_at, table_at};
-ghost use Rattle.dj_bytes.specs.Views.{cursor_of};
+ghost use Rattle.dj_cursor.specs.Steps.{Gives};
+ghost use Rattle.dj_cursor.specs.Reading.{many_at, table_at};
+ghost use Rattle.dj_cursor.specs.Views.{cursor_of};
 ghost use Rattle.dj_class.specs.Parts.{attribute_of};
 ghost use Rattle.dj_class.specs.CodeReading.{code_length_at, code_prefix_at, row_at, code_attribute_at, code_read};
 ghost use Rattle.dj_class.specs.CodeViews.{code_of, ReadsCode};
@@ -10,7 +10,7 @@ ghost use Rattle.dj_class.specs.declared.class.ClassError.TheVariants as class_e
 
 use crate::class::{Attribute, ClassError, room};
 use crate::lists::Attributes;
-use dj_bytes::Cursor;
+use dj_cursor::Cursor;
 use dj_ops::{CatchRow, CatchRows};
 use std::alloc::Global;
 
@@ -87,7 +87,7 @@ fn read_row_list<'a>(
     Ok((rows, after))
 }
 
-#[tactic(auto, unfolding(dj_bytes::specs::Reading::table_at))]
+#[tactic(auto, unfolding(dj_cursor::specs::Reading::table_at))]
 fn read_rows<'a>(alloc: Global, cursor: Cursor<'a>) -> Result<(CatchRows, Cursor<'a>), ClassError>
     ensures { Gives code_is_memory (λ x. (x.0, cursor_of x.1)) result
         (table_at class_errors.Cut row_at (cursor_of cursor.entry)) }
@@ -126,7 +126,7 @@ fn read_code_attribute_list<'a>(
     Ok((attributes, after))
 }
 
-#[tactic(auto, unfolding(dj_bytes::specs::Reading::table_at))]
+#[tactic(auto, unfolding(dj_cursor::specs::Reading::table_at))]
 fn read_code_attributes<'a>(
     alloc: Global,
     cursor: Cursor<'a>,

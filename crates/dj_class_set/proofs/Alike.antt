@@ -12,14 +12,14 @@ use Rattle.dj_library.specs.trusted.Heads.{Head}
 use Rattle.dj_model.specs.trusted.Program.{Class}
 use Rattle.dj_model.specs.trusted.Linking.{option_list}
 use Rattle.dj_model.specs.trusted.Libraries.{library_class}
-use Rattle.dj_declared.specs.trusted.Files.{declared_class}
-use Rattle.dj_classes.specs.Tables.{name_of, name_at, IsShared}
+use Rattle.dj_declarations.specs.trusted.Files.{declared_class}
+use Rattle.dj_class_table.specs.Tables.{name_of, name_at, IsShared}
 use Rattle.dj_loader.specs.Loads.{StandsUnder, StandsBelow, IsOwnAncestor}
 use Rattle.dj_loader.proofs.Lists.{member_of_either, member_prefix, member_back, member_mapped, of_map}
-use Rattle.dj_sandbox.specs.trusted.Checked.{AreGoodFiles, HoldsHierarchy}
-use Rattle.dj_sandbox.specs.Late.{IsJudging}
-use Rattle.dj_sandbox.proofs.NoDoubles.{library_classes, no_name_twice}
-use Rattle.dj_sandbox.proofs.NoCycles.{head_in, no_cycle}
+use Rattle.dj_class_set.specs.trusted.Checked.{AreGoodFiles, HoldsHierarchy}
+use Rattle.dj_class_set.specs.Late.{IsJudging}
+use Rattle.dj_class_set.proofs.NoDoubles.{library_classes, no_name_twice}
+use Rattle.dj_class_set.proofs.NoCycles.{head_in, no_cycle}
 
 abbrev pub rows_of : Library → List Class
 rows_of library = map library_class library

@@ -21,8 +21,8 @@ use Rattle.dj_edge.specs.InMemory.{String, file_in, files_in, PathsDiffer}
 use Rattle.dj_edge.proofs.Pairs.{AllPairs-head, AllPairs-tail, AllPairs-map, AllPairs-unmap, AllPairs-weaker}
 use Rattle.dj_edge.proofs.Sorting.{pairs_from_sorted}
 use Rattle.dj_report.proofs.Sorted.{contains_first, contains_later, contains_none, contains_cases}
-use Rattle.dj_sandbox.specs.ClassSets.{TextsRise, PathsRise, IsClassSet, AreByPath}
-use Rattle.dj_sandbox.specs.trusted.Limits.{most_files, most_file_bytes, most_total_bytes, AreWithin}
+use Rattle.dj_class_set.specs.ClassSets.{TextsRise, PathsRise, IsClassSet, AreByPath}
+use Rattle.dj_class_set.specs.trusted.Limits.{most_files, most_file_bytes, most_total_bytes, AreWithin}
 
 -- ---- the order of texts
 

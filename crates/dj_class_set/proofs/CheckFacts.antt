@@ -9,12 +9,12 @@ use Rattle.dj_report.specs.declared.report.Report.TheVariants as reports
 use Rattle.dj_report.specs.declared.report.Violation.{Violation}
 use Rattle.dj_report.specs.trusted.Lines.{AreExactly}
 use Rattle.dj_report.proofs.Adding.{exactly_same}
-use Rattle.dj_check.specs.trusted.Rules.{IsEarlyLine}
-use Rattle.dj_declared.specs.trusted.Files.{declared_program}
-use Rattle.dj_judge.specs.trusted.Lines.{IsLinkedLine}
-use Rattle.dj_sandbox.specs.trusted.Checked.{AreGoodFiles, IsLateLine, AreCheckViolations}
-use Rattle.dj_sandbox.specs.Checked.{IsCheckLine}
-use Rattle.dj_sandbox.specs.trusted.Judging.{JudgesSet}
+use Rattle.dj_early_rules.specs.trusted.Rules.{IsEarlyLine}
+use Rattle.dj_declarations.specs.trusted.Files.{declared_program}
+use Rattle.dj_rules.specs.trusted.Lines.{IsLinkedLine}
+use Rattle.dj_class_set.specs.trusted.Checked.{AreGoodFiles, IsLateLine, AreCheckViolations}
+use Rattle.dj_class_set.specs.Checked.{IsCheckLine}
+use Rattle.dj_class_set.specs.trusted.Judging.{JudgesSet}
 
 -- a line of the rules 17 to 19: none of the rules 1 to 6 is violated, and the program is that of all classes and the deterministic library
 abbrev IsLate : List File → Violation → Type 0

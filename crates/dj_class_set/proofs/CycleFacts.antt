@@ -13,10 +13,10 @@ use Rattle.dj_class.proofs.Facts.{class_a, bytes_a, class_b, bytes_b}
 use Rattle.dj_model.specs.trusted.Program.{Class}
 use Rattle.dj_model.specs.SmallRuns.{class_with}
 use Rattle.dj_report.proofs.Sorted.{contains_first, contains_later, contains_none, contains_cases}
-use Rattle.dj_declared.specs.trusted.Files.{declared_class}
+use Rattle.dj_declarations.specs.trusted.Files.{declared_class}
 use Rattle.dj_loader.specs.Loads.{above_names, StandsUnder, StandsBelow}
-use Rattle.dj_sandbox.specs.Late.{AreReadFiles, IsJudging, with_library, HasCycle, GoesRound}
-use Rattle.dj_sandbox.proofs.LibraryDescriptors.{both}
+use Rattle.dj_class_set.specs.Late.{AreReadFiles, IsJudging, with_library, HasCycle, GoesRound}
+use Rattle.dj_class_set.proofs.LibraryDescriptors.{both}
 
 -- ---- classes that stand lower than those above them, by a list of names from above
 

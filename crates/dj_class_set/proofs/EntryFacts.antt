@@ -15,26 +15,26 @@ use Rattle.dj_class.specs.trusted.ClassFile.{ClassFile}
 use Rattle.dj_report.specs.declared.report.Violation.{Violation}
 use Rattle.dj_report.specs.trusted.Lines.{file_line}
 use Rattle.dj_report.proofs.Sorted.{contains_first, contains_none, contains_cases}
-use Rattle.dj_rules.specs.trusted.Violations.{this_name}
-use Rattle.dj_check.specs.trusted.Rules.{IsEarlyLine}
+use Rattle.dj_file_rules.specs.trusted.Violations.{this_name}
+use Rattle.dj_early_rules.specs.trusted.Rules.{IsEarlyLine}
 use Rattle.dj_model.specs.trusted.Types.{no_parameters}
 use Rattle.dj_model.specs.trusted.Program.{Program, Class, Method, Body, Abstract, Native, Runs, class_at, method_in, method_of, has_code, is_static, is_named, runs_static}
 use Rattle.dj_model.specs.trusted.Libraries.{library_class, library_program, joined}
 use Rattle.dj_model.specs.SmallRuns.{class_with}
 use Rattle.dj_model.proofs.SoundLinks.{class_contained}
-use Rattle.dj_declared.specs.trusted.Files.{no_code, declared_class, declared_program}
-use Rattle.dj_classes.specs.ClassRows.{RiseStrictly}
-use Rattle.dj_classes.specs.Tables.{name_of, name_at}
-use Rattle.dj_classes.proofs.Joins.{declared_program-joined}
-use Rattle.dj_classes.proofs.Numbered.{class_number-rise, class_at-at}
-use Rattle.dj_classes.proofs.Rising.{members_joined}
+use Rattle.dj_declarations.specs.trusted.Files.{no_code, declared_class, declared_program}
+use Rattle.dj_class_table.specs.ClassRows.{RiseStrictly}
+use Rattle.dj_class_table.specs.Tables.{name_of, name_at}
+use Rattle.dj_class_table.proofs.Joins.{declared_program-joined}
+use Rattle.dj_class_table.proofs.Numbered.{class_number-rise, class_at-at}
+use Rattle.dj_class_table.proofs.Rising.{members_joined}
 use Rattle.dj_loader.proofs.Lists.{member_prefix, member_of_either, member_mapped, place_of_member, of_map}
 use Rattle.dj_loader.proofs.Moved.{rise_of_table, in_table}
-use Rattle.dj_sandbox.specs.trusted.Checked.{AreGoodFiles, HoldsHierarchy, IsLateLine}
-use Rattle.dj_sandbox.specs.trusted.RawRules.{entry_desc, runs_entry, LacksEntry, IsRawLine, AreRawViolations}
-use Rattle.dj_sandbox.proofs.Alike.{none_shared}
-use Rattle.dj_sandbox.proofs.GoodFiles.{same_good}
-use Rattle.dj_sandbox.proofs.LibraryDescriptors.{both}
+use Rattle.dj_class_set.specs.trusted.Checked.{AreGoodFiles, HoldsHierarchy, IsLateLine}
+use Rattle.dj_class_set.specs.trusted.RawRules.{entry_desc, runs_entry, LacksEntry, IsRawLine, AreRawViolations}
+use Rattle.dj_class_set.proofs.Alike.{none_shared}
+use Rattle.dj_class_set.proofs.GoodFiles.{same_good}
+use Rattle.dj_class_set.proofs.LibraryDescriptors.{both}
 
 -- ---- at plain values: the class A of some methods, beside the library
 

@@ -8,21 +8,21 @@ use Rattle.dj_class.specs.trusted.ClassFile.{ClassFile}
 use Rattle.dj_report.specs.trusted.Stages.{IsDecided}
 use Rattle.dj_report.specs.declared.report.Report.TheVariants as reports
 use Rattle.dj_report.specs.declared.report.Violation.{Violation}
-use Rattle.dj_rules.specs.trusted.Violations.{AreViolations}
-use Rattle.dj_check.specs.trusted.Rules.{IsEarlyLine}
-use Rattle.dj_link.specs.trusted.Lines.{IsFirstOf, IsLinkLine}
-use Rattle.dj_judge.specs.trusted.Lines.{IsShapeLine}
+use Rattle.dj_file_rules.specs.trusted.Violations.{AreViolations}
+use Rattle.dj_early_rules.specs.trusted.Rules.{IsEarlyLine}
+use Rattle.dj_link_rules.specs.trusted.Lines.{IsFirstOf, IsLinkLine}
+use Rattle.dj_rules.specs.trusted.Lines.{IsShapeLine}
 use Rattle.dj_model.specs.trusted.Program.{Program}
 use Rattle.dj_straight.specs.trusted.Program as straight
 use Rattle.dj_straight.specs.trusted.Straight.{IsNotStraight}
-use Rattle.dj_sandbox.specs.trusted.Checked.{AreGoodFiles, IsLateLine, AreCheckViolations}
-use Rattle.dj_sandbox.specs.trusted.Entry.{with_slashes, entry_method, has_entry, IsEntryLine}
-use Rattle.dj_sandbox.specs.trusted.Entry as entries
-use Rattle.dj_sandbox.specs.trusted.Judging.{IsFirstPath, JudgesFiles, JudgesRun, Runs, Accepts, check_stages, run_stages}
-use Rattle.dj_sandbox.specs.trusted.Limits.{most_files, most_file_bytes, most_total_bytes, most_input_bytes}
-use Rattle.dj_sandbox.specs.Limits.{most_thresholds, IsWithinMost}
-use Rattle.dj_sandbox.specs.trusted.Statuses.{IsAmong}
-use Rattle.dj_sandbox.specs.Statuses.{check_statuses, run_statuses}
+use Rattle.dj_class_set.specs.trusted.Checked.{AreGoodFiles, IsLateLine, AreCheckViolations}
+use Rattle.dj_class_set.specs.trusted.Entry.{with_slashes, entry_method, has_entry, IsEntryLine}
+use Rattle.dj_class_set.specs.trusted.Entry as entries
+use Rattle.dj_class_set.specs.trusted.Judging.{IsFirstPath, JudgesFiles, JudgesRun, Runs, Accepts, check_stages, run_stages}
+use Rattle.dj_class_set.specs.trusted.Limits.{most_files, most_file_bytes, most_total_bytes, most_input_bytes}
+use Rattle.dj_class_set.specs.Limits.{most_thresholds, IsWithinMost}
+use Rattle.dj_class_set.specs.trusted.Statuses.{IsAmong}
+use Rattle.dj_class_set.specs.Statuses.{check_statuses, run_statuses}
 
 -- ---- the limits and the thresholds
 

@@ -4,7 +4,7 @@ use Rattle.dj_edge.specs.trusted.Held.{File}
 use Rattle.dj_pool.proofs.Decides.{tests_decide}
 use Rattle.dj_class.specs.trusted.ClassFile.{ClassFile}
 use Rattle.dj_class.proofs.ClassLaws.{one_class_file}
-use Rattle.dj_sandbox.specs.trusted.Checked.{AreGoodFiles}
+use Rattle.dj_class_set.specs.trusted.Checked.{AreGoodFiles}
 
 pub same_good : (files : List File) (xs ys : List ClassFile) → AreGoodFiles files xs → AreGoodFiles files ys → xs ≡ ys
 same_good [] [] [] a b = refl

@@ -3,7 +3,7 @@ use Rattle.std.proofs.Common.{List}
 use Rattle.dj_report.specs.declared.report.Violation.{Violation}
 use Rattle.dj_report.specs.trusted.Lines.{AreExactly}
 use Rattle.dj_report.proofs.Inserted.{ordered}
-use Rattle.dj_sandbox.proofs.Classical.{NotNot, so, IsFinite}
+use Rattle.dj_class_set.proofs.Classical.{NotNot, so, IsFinite}
 
 -- all violations of which a condition holds stand in order, where a list has them
 pub finite_in_order : (P : Violation → Type 0) → IsFinite P → NotNot ((lines : List Violation) × AreExactly P lines)

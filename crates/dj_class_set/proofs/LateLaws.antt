@@ -7,8 +7,8 @@ use Rattle.std.proofs.lemmas.List.Elements.{Contains-get_or}
 use Rattle.dj_edge.specs.trusted.Held.{File}
 use Rattle.dj_names.specs.trusted.Library.{Library}
 use Rattle.dj_names.specs.trusted.Types.{Name}
-use Rattle.dj_natives.specs.declared.library.LibClass.{LibClass}
-use Rattle.dj_natives.specs.Views.{library_view}
+use Rattle.dj_library_types.specs.declared.library.LibClass.{LibClass}
+use Rattle.dj_library_types.specs.Views.{library_view}
 use Rattle.dj_class.specs.trusted.ClassFile.{ClassFile, IsClassFile, IsMalformed}
 use Rattle.dj_model.specs.trusted.Program.{Program, Class}
 use Rattle.dj_model.specs.trusted.Libraries.{library_class, inserted, joined}
@@ -18,23 +18,23 @@ use Rattle.dj_report.specs.trusted.Lines.{file_line}
 use Rattle.dj_report.specs.Lines.{Adds}
 use Rattle.dj_report.proofs.Adding.{contains_map}
 use Rattle.dj_report.proofs.Sorted.{contains_first, contains_later, contains_none}
-use Rattle.dj_rules.specs.Views.{path_file_view}
-use Rattle.dj_check.specs.trusted.Malformed.{IsRefused}
-use Rattle.dj_check.specs.trusted.Rules.{IsEarlyLine}
-use Rattle.dj_declared.specs.trusted.Files.{declared_class, declared_program}
-use Rattle.dj_classes.specs.Tables.{IsShared}
-use Rattle.dj_linking.specs.Linked.{Linked}
-use Rattle.dj_judge.specs.trusted.Lines.{IsLinkedLine}
+use Rattle.dj_file_rules.specs.Views.{path_file_view}
+use Rattle.dj_early_rules.specs.trusted.Malformed.{IsRefused}
+use Rattle.dj_early_rules.specs.trusted.Rules.{IsEarlyLine}
+use Rattle.dj_declarations.specs.trusted.Files.{declared_class, declared_program}
+use Rattle.dj_class_table.specs.Tables.{IsShared}
+use Rattle.dj_resolution.specs.Linked.{Linked}
+use Rattle.dj_rules.specs.trusted.Lines.{IsLinkedLine}
 use Rattle.dj_loader.specs.declared.error.LoadError.{LoadError}
 use Rattle.dj_loader.specs.declared.error.LoadError.TheVariants as errors
 use Rattle.dj_loader.specs.Numbered.{RefusesCycles}
 use Rattle.dj_loader.proofs.Moved.{in_table, out_of_table, ancestor_moved}
-use Rattle.dj_sandbox.specs.trusted.Checked.{AreGoodFiles, HoldsHierarchy, IsLateLine, IsLineBy}
-use Rattle.dj_sandbox.specs.declared.late.Links.{Links}
-use Rattle.dj_sandbox.specs.declared.late.Links.TheVariants as links
-use Rattle.dj_sandbox.specs.Late.{HasHierarchyLine, AreReadFiles, IsDeclaredFrom, AreDeclared, HasMalformed, row_class, LinksFiles, IsJudging, with_library, SharesName, HasCycle, GoesRound, IsLinkOf, AreLinksOf, AreLinks}
-use Rattle.dj_sandbox.proofs.GoodFiles.{same_good}
-use Rattle.dj_sandbox.proofs.Alike.{few_rows, none_shared, none_round}
+use Rattle.dj_class_set.specs.trusted.Checked.{AreGoodFiles, HoldsHierarchy, IsLateLine, IsLineBy}
+use Rattle.dj_class_set.specs.declared.late.Links.{Links}
+use Rattle.dj_class_set.specs.declared.late.Links.TheVariants as links
+use Rattle.dj_class_set.specs.Late.{HasHierarchyLine, AreReadFiles, IsDeclaredFrom, AreDeclared, HasMalformed, row_class, LinksFiles, IsJudging, with_library, SharesName, HasCycle, GoesRound, IsLinkOf, AreLinksOf, AreLinks}
+use Rattle.dj_class_set.proofs.GoodFiles.{same_good}
+use Rattle.dj_class_set.proofs.Alike.{few_rows, none_shared, none_round}
 
 -- ---- under errors of another type
 

@@ -5,9 +5,9 @@ use Rattle.std.proofs.lemmas.List.Elements.{All-weaker, All-from_recursion}
 use Rattle.dj_edge.specs.trusted.Held.{File}
 use Rattle.dj_edge.proofs.Lists.{All-unmap}
 use Rattle.dj_report.specs.declared.report.PathFile.{PathFile}
-use Rattle.dj_rules.specs.Views.{path_file_view}
-use Rattle.dj_sandbox.specs.ClassSets.{IsClassSet}
-use Rattle.dj_sandbox.specs.trusted.Limits.{most_files, most_file_bytes}
+use Rattle.dj_file_rules.specs.Views.{path_file_view}
+use Rattle.dj_class_set.specs.ClassSets.{IsClassSet}
+use Rattle.dj_class_set.specs.trusted.Limits.{most_files, most_file_bytes}
 
 module _ (files lent : List PathFile) (set : List File) (same : files ≡ lent) (view : map path_file_view lent ≡ set) where
   pub lent_view : map path_file_view files ≡ set

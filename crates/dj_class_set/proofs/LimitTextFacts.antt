@@ -8,10 +8,10 @@ use Rattle.dj_report.specs.declared.report.Limit.TheVariants as limits
 use Rattle.dj_report.specs.trusted.Outcomes.{outcome_status}
 use Rattle.dj_report.specs.trusted.Text.{limit_text}
 use Rattle.dj_model.specs.trusted.State.{Uncounted}
-use Rattle.dj_sandbox.specs.trusted.Judging.{raw_terms}
-use Rattle.dj_sandbox.specs.trusted.Limits.{most_files, most_file_bytes, most_total_bytes, most_input_bytes, most_heap_bytes}
-use Rattle.dj_sandbox.specs.trusted.Statuses.{IsAmong}
-use Rattle.dj_sandbox.specs.Statuses.{raw_statuses}
+use Rattle.dj_class_set.specs.trusted.Judging.{raw_terms}
+use Rattle.dj_class_set.specs.trusted.Limits.{most_files, most_file_bytes, most_total_bytes, most_input_bytes, most_heap_bytes}
+use Rattle.dj_class_set.specs.trusted.Statuses.{IsAmong}
+use Rattle.dj_class_set.specs.Statuses.{raw_statuses}
 
 -- ---- limits
 

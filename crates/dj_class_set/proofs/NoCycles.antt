@@ -15,16 +15,16 @@ use Rattle.dj_report.specs.declared.report.Violation.{Violation}
 use Rattle.dj_report.specs.trusted.Lines.{file_line}
 use Rattle.dj_report.proofs.Adding.{contains_map}
 use Rattle.dj_report.proofs.Sorted.{contains_first, contains_later, contains_none, contains_cases}
-use Rattle.dj_rules.specs.trusted.Violations.{this_name}
-use Rattle.dj_hierarchy.specs.trusted.Hierarchy.{IsAbove, Climbs, Stays, Rises}
-use Rattle.dj_check.specs.trusted.Heads.{head_of, StandsAmong}
-use Rattle.dj_check.specs.trusted.Malformed.{IsGood}
-use Rattle.dj_declared.specs.trusted.Files.{declared_class}
+use Rattle.dj_file_rules.specs.trusted.Violations.{this_name}
+use Rattle.dj_hierarchy_rule.specs.trusted.Hierarchy.{IsAbove, Climbs, Stays, Rises}
+use Rattle.dj_early_rules.specs.trusted.Heads.{head_of, StandsAmong}
+use Rattle.dj_early_rules.specs.trusted.Malformed.{IsGood}
+use Rattle.dj_declarations.specs.trusted.Files.{declared_class}
 use Rattle.dj_loader.specs.Loads.{above_names, StandsUnder, StandsBelow, IsOwnAncestor}
 use Rattle.dj_loader.proofs.Lists.{member_of_either}
-use Rattle.dj_sandbox.specs.trusted.Checked.{AreGoodFiles, HoldsHierarchy}
-use Rattle.dj_sandbox.proofs.LibraryDescriptors.{both}
-use Rattle.dj_sandbox.proofs.NoDoubles.{is_of_java, library_classes, library_reserved, reserved_breaks}
+use Rattle.dj_class_set.specs.trusted.Checked.{AreGoodFiles, HoldsHierarchy}
+use Rattle.dj_class_set.proofs.LibraryDescriptors.{both}
+use Rattle.dj_class_set.proofs.NoDoubles.{is_of_java, library_classes, library_reserved, reserved_breaks}
 
 -- ---- the library's classes stand under its own alone, and these under none of them
 

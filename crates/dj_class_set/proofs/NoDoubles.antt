@@ -12,12 +12,12 @@ use Rattle.dj_model.specs.trusted.Libraries.{library_class}
 use Rattle.dj_report.specs.declared.report.Violation.{Violation}
 use Rattle.dj_report.specs.trusted.Lines.{file_line}
 use Rattle.dj_report.proofs.Sorted.{contains_first, contains_later}
-use Rattle.dj_rules.specs.trusted.Violations.{this_name}
-use Rattle.dj_check.specs.trusted.Malformed.{IsGood}
-use Rattle.dj_declared.specs.trusted.Files.{declared_class}
-use Rattle.dj_classes.specs.Tables.{name_at, IsShared}
-use Rattle.dj_sandbox.specs.trusted.Checked.{AreGoodFiles, HoldsHierarchy}
-use Rattle.dj_sandbox.proofs.LibraryDescriptors.{both}
+use Rattle.dj_file_rules.specs.trusted.Violations.{this_name}
+use Rattle.dj_early_rules.specs.trusted.Malformed.{IsGood}
+use Rattle.dj_declarations.specs.trusted.Files.{declared_class}
+use Rattle.dj_class_table.specs.Tables.{name_at, IsShared}
+use Rattle.dj_class_set.specs.trusted.Checked.{AreGoodFiles, HoldsHierarchy}
+use Rattle.dj_class_set.proofs.LibraryDescriptors.{both}
 
 -- ---- names at places
 

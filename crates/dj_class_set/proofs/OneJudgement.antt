@@ -8,15 +8,15 @@ use Rattle.dj_report.specs.Stages.{DecidesOne, DecideOne}
 use Rattle.dj_report.specs.declared.report.Report.TheVariants as reports
 use Rattle.dj_report.specs.declared.report.Violation.{Violation}
 use Rattle.dj_report.proofs.InOrder.{same_violations}
-use Rattle.dj_rules.specs.trusted.Violations.{AreViolations}
+use Rattle.dj_file_rules.specs.trusted.Violations.{AreViolations}
 use Rattle.dj_straight.specs.trusted.Program.{Program}
 use Rattle.dj_straight.specs.trusted.Metered.{RunsTo}
 use Rattle.dj_straight.proofs.Turns.{same_end}
 use Rattle.dj_straight.specs.trusted.Straight.{IsStraightSet}
 use Rattle.dj_straight.proofs.Straights.{one_program}
-use Rattle.dj_sandbox.specs.trusted.Checked.{AreCheckViolations}
-use Rattle.dj_sandbox.specs.trusted.Entry.{entry_method, AreRunViolations}
-use Rattle.dj_sandbox.specs.trusted.Judging.{JudgesSet, JudgesFiles, Accepts, FindsStraight, JudgesRun, Runs, IsFirstPath, check_stages, run_stages}
+use Rattle.dj_class_set.specs.trusted.Checked.{AreCheckViolations}
+use Rattle.dj_class_set.specs.trusted.Entry.{entry_method, AreRunViolations}
+use Rattle.dj_class_set.specs.trusted.Judging.{JudgesSet, JudgesFiles, Accepts, FindsStraight, JudgesRun, Runs, IsFirstPath, check_stages, run_stages}
 
 same_lines : (files : List File) (xs ys : List Violation) → AreViolations files xs → AreViolations files ys → xs ≡ ys
 same_lines files xs ys a b =

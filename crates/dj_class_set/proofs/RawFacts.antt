@@ -10,13 +10,13 @@ use Rattle.dj_report.specs.trusted.Stages.{IsDecided}
 use Rattle.dj_report.specs.declared.report.Report.{Report}
 use Rattle.dj_report.specs.declared.report.Report.TheVariants as reports
 use Rattle.dj_report.specs.declared.report.Violation.{Violation}
-use Rattle.dj_check.specs.trusted.Rules.{IsEarlyLine}
+use Rattle.dj_early_rules.specs.trusted.Rules.{IsEarlyLine}
 use Rattle.dj_model.specs.trusted.Libraries.{library_program}
-use Rattle.dj_sandbox.specs.trusted.Limits.{most_heap_bytes}
-use Rattle.dj_sandbox.specs.trusted.Statuses.{IsAmong}
-use Rattle.dj_sandbox.specs.Statuses.{raw_statuses}
-use Rattle.dj_sandbox.specs.trusted.RawRules.{entry_desc, entry_of, runs_entry, LacksEntry, AreRawViolations}
-use Rattle.dj_sandbox.specs.trusted.Judging.{JudgesRaw, RunsRaw, raw_stages}
+use Rattle.dj_class_set.specs.trusted.Limits.{most_heap_bytes}
+use Rattle.dj_class_set.specs.trusted.Statuses.{IsAmong}
+use Rattle.dj_class_set.specs.Statuses.{raw_statuses}
+use Rattle.dj_class_set.specs.trusted.RawRules.{entry_desc, entry_of, runs_entry, LacksEntry, AreRawViolations}
+use Rattle.dj_class_set.specs.trusted.Judging.{JudgesRaw, RunsRaw, raw_stages}
 
 limit-heap : most_heap_bytes ≡ 67108864
 limit-heap = refl

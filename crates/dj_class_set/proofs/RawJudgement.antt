@@ -17,13 +17,13 @@ use Rattle.dj_model.specs.trusted.Runs as model_runs
 use Rattle.dj_program.specs.Laws.{AreWhole}
 use Rattle.dj_program.specs.trusted.Programs.{IsProgramIn}
 use Rattle.dj_program.proofs.Once.{one_is}
-use Rattle.dj_sandbox.specs.trusted.Checked.{AreGoodFiles}
-use Rattle.dj_sandbox.specs.trusted.RawRules.{entry_of, AreRawViolations}
-use Rattle.dj_sandbox.specs.trusted.Judging.{JudgesRaw, RunsRaw, raw_terms, raw_stages}
-use Rattle.dj_sandbox.proofs.Classical.{so}
-use Rattle.dj_sandbox.proofs.GoodFiles.{same_good}
-use Rattle.dj_sandbox.proofs.SomeLateLines.{some_raw_violations}
-use Rattle.dj_sandbox.proofs.SomeJudgement.{answers, not_nil}
+use Rattle.dj_class_set.specs.trusted.Checked.{AreGoodFiles}
+use Rattle.dj_class_set.specs.trusted.RawRules.{entry_of, AreRawViolations}
+use Rattle.dj_class_set.specs.trusted.Judging.{JudgesRaw, RunsRaw, raw_terms, raw_stages}
+use Rattle.dj_class_set.proofs.Classical.{so}
+use Rattle.dj_class_set.proofs.GoodFiles.{same_good}
+use Rattle.dj_class_set.proofs.SomeLateLines.{some_raw_violations}
+use Rattle.dj_class_set.proofs.SomeJudgement.{answers, not_nil}
 
 -- ---- the rules
 

@@ -19,18 +19,18 @@ use Rattle.dj_model.specs.trusted.Linking.{has_body}
 use Rattle.dj_report.specs.declared.report.Violation.{Violation}
 use Rattle.dj_report.specs.Lines.{Adds}
 use Rattle.dj_report.proofs.Adding.{adds_same, adds_both}
-use Rattle.dj_declared.specs.trusted.Files.{desc_in, declared_program}
-use Rattle.dj_declared.specs.Members.{IsDescriptor, native_in, method_flags, method_has_body, method_native}
-use Rattle.dj_classes.specs.Tables.{class_number, methods_of, methods_at}
-use Rattle.dj_classes.proofs.Numbered.{class_at-number, class_at-at}
-use Rattle.dj_linking.specs.Linked.{Linked}
-use Rattle.dj_sandbox.specs.trusted.Checked.{HoldsHierarchy, IsLineBy}
-use Rattle.dj_sandbox.specs.trusted.RawRules.{entry_desc, runs_entry, LacksEntry, IsRawLine}
-use Rattle.dj_sandbox.specs.RawEntry.{method_has_code, EntryLine}
-use Rattle.dj_sandbox.specs.Late.{LinksFiles, IsLinkedWhereHeld, IsJudgedSet}
-use Rattle.dj_sandbox.specs.declared.judging.JudgedSet.{JudgedSet}
-use Rattle.dj_sandbox.proofs.GoodFiles.{same_good}
-use Rattle.dj_sandbox.proofs.LateLaws.{good_files}
+use Rattle.dj_declarations.specs.trusted.Files.{desc_in, declared_program}
+use Rattle.dj_declarations.specs.Members.{IsDescriptor, native_in, method_flags, method_has_body, method_native}
+use Rattle.dj_class_table.specs.Tables.{class_number, methods_of, methods_at}
+use Rattle.dj_class_table.proofs.Numbered.{class_at-number, class_at-at}
+use Rattle.dj_resolution.specs.Linked.{Linked}
+use Rattle.dj_class_set.specs.trusted.Checked.{HoldsHierarchy, IsLineBy}
+use Rattle.dj_class_set.specs.trusted.RawRules.{entry_desc, runs_entry, LacksEntry, IsRawLine}
+use Rattle.dj_class_set.specs.RawEntry.{method_has_code, EntryLine}
+use Rattle.dj_class_set.specs.Late.{LinksFiles, IsLinkedWhereHeld, IsJudgedSet}
+use Rattle.dj_class_set.specs.declared.judging.JudgedSet.{JudgedSet}
+use Rattle.dj_class_set.proofs.GoodFiles.{same_good}
+use Rattle.dj_class_set.proofs.LateLaws.{good_files}
 
 -- ---- the entry's descriptor
 

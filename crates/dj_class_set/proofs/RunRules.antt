@@ -13,15 +13,15 @@ use Rattle.dj_report.specs.declared.report.PathFile.{PathFile}
 use Rattle.dj_report.specs.declared.report.Violation.{Violation}
 use Rattle.dj_straight.specs.declared.program.StraightMethod.{StraightMethod}
 use Rattle.dj_straight.specs.declared.program.StraightClass.{StraightClass}
-use Rattle.dj_sandbox.specs.trusted.Entry.{has_entry, AreRunViolations, IsEntryLine, IsShapeLine, IsShapeLineOf}
+use Rattle.dj_class_set.specs.trusted.Entry.{has_entry, AreRunViolations, IsEntryLine, IsShapeLine, IsShapeLineOf}
 use Rattle.dj_report.specs.Lines.{Adds, IsLineAmong}
 use Rattle.dj_straight.specs.trusted.Methods.{straight_signature}
 use Rattle.dj_straight.specs.Methods.{code_view, method_view, program_view}
 use Rattle.dj_straight.specs.Running.{IsRunnable}
 use Rattle.dj_straight.proofs.Straights.{are_runnable}
-use Rattle.dj_sandbox.specs.Shaped.{shape_line, AreReported, AreShaped, AreShort, IsShaped}
+use Rattle.dj_class_set.specs.Shaped.{shape_line, AreReported, AreShaped, AreShort, IsShaped}
 use Rattle.dj_straight.specs.trusted.Straight.{IsStraightSet}
-use Rattle.dj_rules.specs.Views.{path_file_view}
+use Rattle.dj_file_rules.specs.Views.{path_file_view}
 use Rattle.dj_report.specs.trusted.Lines.{file_line}
 use Rattle.dj_report.specs.trusted.Order.{IsInOrder}
 use Rattle.dj_report.proofs.Sorted.{contains_none}

@@ -9,7 +9,7 @@ use Rattle.std.proofs.lemmas.List.Sorted.{Contains-permutation, IsPermutation-mi
 use Rattle.dj_edge.specs.trusted.Held.{File}
 use Rattle.dj_edge.proofs.Pairs.{AllPairs-nil}
 use Rattle.dj_report.proofs.Sorted.{contains_first, contains_later, contains_none, contains_cases}
-use Rattle.dj_sandbox.specs.ClassSets.{TextsRise, IsClassSet, AreByPath}
+use Rattle.dj_class_set.specs.ClassSets.{TextsRise, IsClassSet, AreByPath}
 
 abbrev IsBelow : List ℕ → List ℕ → Type 0
 IsBelow a b = slice_cmp nat_cmp a b ≡ Less

@@ -5,11 +5,11 @@ use Rattle.dj_names.specs.trusted.Library.{deterministic_library}
 use Rattle.dj_class.specs.trusted.ClassFile.{ClassFile}
 use Rattle.dj_report.specs.declared.report.Violation.{Violation}
 use Rattle.dj_report.specs.trusted.Lines.{file_line}
-use Rattle.dj_declared.specs.trusted.Files.{declared_program}
-use Rattle.dj_check.specs.trusted.Rules.{IsEarlyLine}
-use Rattle.dj_judge.specs.trusted.Lines.{IsLinkedLine}
-use Rattle.dj_sandbox.specs.trusted.Checked.{HoldsHierarchy, AreGoodFiles, IsLateLine}
-use Rattle.dj_sandbox.specs.Checked.{IsCheckLine}
+use Rattle.dj_declarations.specs.trusted.Files.{declared_program}
+use Rattle.dj_early_rules.specs.trusted.Rules.{IsEarlyLine}
+use Rattle.dj_rules.specs.trusted.Lines.{IsLinkedLine}
+use Rattle.dj_class_set.specs.trusted.Checked.{HoldsHierarchy, AreGoodFiles, IsLateLine}
+use Rattle.dj_class_set.specs.Checked.{IsCheckLine}
 
 module _ (files : List File) where
   -- lines of rule 7 alone

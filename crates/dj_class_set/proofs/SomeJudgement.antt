@@ -7,16 +7,16 @@ use Rattle.dj_report.specs.Stages.{Answers, AnswerInTurn}
 use Rattle.dj_report.specs.declared.report.Report.{Report}
 use Rattle.dj_report.specs.declared.report.Report.TheVariants as reports
 use Rattle.dj_report.specs.declared.report.Violation.{Violation}
-use Rattle.dj_rules.specs.trusted.Violations.{AreViolations}
+use Rattle.dj_file_rules.specs.trusted.Violations.{AreViolations}
 use Rattle.dj_straight.specs.trusted.Program.{Program}
 use Rattle.dj_straight.specs.trusted.Straight.{IsStraightSet, IsNotStraight}
-use Rattle.dj_sandbox.specs.trusted.Checked.{AreCheckViolations}
-use Rattle.dj_sandbox.specs.trusted.Entry.{AreRunViolations}
-use Rattle.dj_sandbox.specs.trusted.Judging.{JudgesSet, JudgesFiles, Accepts, FindsStraight, JudgesRun, Runs, check_stages, run_stages}
-use Rattle.dj_sandbox.proofs.Classical.{NotNot, so, decide}
-use Rattle.dj_sandbox.proofs.SomeLines.{some_violations}
-use Rattle.dj_sandbox.proofs.SomeLateLines.{some_check_violations}
-use Rattle.dj_sandbox.proofs.SomeRun.{some_run_violations, some_end}
+use Rattle.dj_class_set.specs.trusted.Checked.{AreCheckViolations}
+use Rattle.dj_class_set.specs.trusted.Entry.{AreRunViolations}
+use Rattle.dj_class_set.specs.trusted.Judging.{JudgesSet, JudgesFiles, Accepts, FindsStraight, JudgesRun, Runs, check_stages, run_stages}
+use Rattle.dj_class_set.proofs.Classical.{NotNot, so, decide}
+use Rattle.dj_class_set.proofs.SomeLines.{some_violations}
+use Rattle.dj_class_set.proofs.SomeLateLines.{some_check_violations}
+use Rattle.dj_class_set.proofs.SomeRun.{some_run_violations, some_end}
 
 -- an answer, where there is one
 pub answers : (stage : Stage Report) → NotNot ((a : Option Report) × stage a) → Answers stage

@@ -14,28 +14,28 @@ use Rattle.dj_labels.specs.declared.labelled.Labelled.{Labelled}
 use Rattle.dj_model.specs.trusted.Program.{Program}
 use Rattle.dj_report.specs.declared.report.Violation.{Violation}
 use Rattle.dj_report.specs.trusted.Lines.{file_line}
-use Rattle.dj_rules.specs.trusted.Violations.{member_text, this_name}
-use Rattle.dj_check.specs.trusted.Malformed.{IsGood, IsFaulty, IsFaultyMethod}
-use Rattle.dj_check.specs.trusted.Methods.{CatchesError}
-use Rattle.dj_check.specs.trusted.Rules.{line_at, IsMemberLine, IsEarlyLine}
-use Rattle.dj_declared.specs.trusted.Files.{declared_program}
-use Rattle.dj_link.specs.trusted.Foreign.{IsForeign, IsForeignConstant}
-use Rattle.dj_link.specs.trusted.Unlinked.{IsUnlinked, IsUnlinkedCatch}
-use Rattle.dj_link.specs.trusted.Lines.{IsFirstOf, IsUnreported, LinkViolates, LinkViolatesAt, CatchViolates, HandlerLinkViolates, CodeLinkViolates, MethodLinkViolates, IsFileLinkLine, IsLinkLine}
+use Rattle.dj_file_rules.specs.trusted.Violations.{member_text, this_name}
+use Rattle.dj_early_rules.specs.trusted.Malformed.{IsGood, IsFaulty, IsFaultyMethod}
+use Rattle.dj_early_rules.specs.trusted.Methods.{CatchesError}
+use Rattle.dj_early_rules.specs.trusted.Rules.{line_at, IsMemberLine, IsEarlyLine}
+use Rattle.dj_declarations.specs.trusted.Files.{declared_program}
+use Rattle.dj_link_rules.specs.trusted.Foreign.{IsForeign, IsForeignConstant}
+use Rattle.dj_link_rules.specs.trusted.Unlinked.{IsUnlinked, IsUnlinkedCatch}
+use Rattle.dj_link_rules.specs.trusted.Lines.{IsFirstOf, IsUnreported, LinkViolates, LinkViolatesAt, CatchViolates, HandlerLinkViolates, CodeLinkViolates, MethodLinkViolates, IsFileLinkLine, IsLinkLine}
 use Rattle.dj_model.specs.trusted.Kinds.{Signature}
 use Rattle.dj_model.specs.trusted.Shape.{IsShapeFault}
 use Rattle.dj_model.proofs.Shapes.{one_shape_fault}
 use Rattle.dj_program.specs.trusted.Codes.{CodeParts, code_in}
 use Rattle.dj_program.proofs.Once.{one_code_parts}
-use Rattle.dj_shape.specs.trusted.Rule.{LacksShape}
-use Rattle.dj_judge.specs.trusted.Lines.{MethodShapeViolates, IsFileShapeLine, IsShapeLine, IsLinkedLine}
-use Rattle.dj_sandbox.specs.trusted.Checked.{AreGoodFiles, HoldsHierarchy, IsLateLine, IsLineBy, AreCheckViolations}
-use Rattle.dj_sandbox.specs.Checked.{IsCheckLine}
-use Rattle.dj_sandbox.specs.trusted.RawRules.{LacksEntry, IsRawLine, AreRawViolations}
-use Rattle.dj_sandbox.proofs.Classical.{NotNot, bind, decide, IsFinite, finite_same, finite_none, finite_one, finite_either, finite_among}
-use Rattle.dj_sandbox.proofs.InsertedLines.{finite_in_order}
-use Rattle.dj_sandbox.proofs.GoodFiles.{same_good}
-use Rattle.dj_sandbox.proofs.SomeSetLines.{IsAtPlace, finite_places, RuleLine, rule_if, rule_either, NumberedLine, OwnMemberLine, member_lines, numbered_line, WithinLine, within_lines, early_lines}
+use Rattle.dj_shape_rule.specs.trusted.Rule.{LacksShape}
+use Rattle.dj_rules.specs.trusted.Lines.{MethodShapeViolates, IsFileShapeLine, IsShapeLine, IsLinkedLine}
+use Rattle.dj_class_set.specs.trusted.Checked.{AreGoodFiles, HoldsHierarchy, IsLateLine, IsLineBy, AreCheckViolations}
+use Rattle.dj_class_set.specs.Checked.{IsCheckLine}
+use Rattle.dj_class_set.specs.trusted.RawRules.{LacksEntry, IsRawLine, AreRawViolations}
+use Rattle.dj_class_set.proofs.Classical.{NotNot, bind, decide, IsFinite, finite_same, finite_none, finite_one, finite_either, finite_among}
+use Rattle.dj_class_set.proofs.InsertedLines.{finite_in_order}
+use Rattle.dj_class_set.proofs.GoodFiles.{same_good}
+use Rattle.dj_class_set.proofs.SomeSetLines.{IsAtPlace, finite_places, RuleLine, rule_if, rule_either, NumberedLine, OwnMemberLine, member_lines, numbered_line, WithinLine, within_lines, early_lines}
 
 -- ---- lines of rules
 

@@ -7,9 +7,9 @@ use Rattle.dj_pool.proofs.Decides.{tests_decide}
 use Rattle.dj_class.proofs.ClassLaws.{one_class_file}
 use Rattle.dj_report.specs.declared.report.Violation.{Violation}
 use Rattle.dj_report.specs.trusted.Lines.{file_line, member_line}
-use Rattle.dj_rules.specs.trusted.Violations.{member_text, IsNamedAs, this_name, IsNative, IsFinalizer, HasOtherVersion, IsMethodLine, IsClassLine, IsLineOf, IsViolation, AreViolations}
-use Rattle.dj_sandbox.proofs.Classical.{NotNot, bind, decide, IsFinite, finite_same, finite_none, finite_if, finite_either, finite_among}
-use Rattle.dj_sandbox.proofs.InsertedLines.{finite_in_order}
+use Rattle.dj_file_rules.specs.trusted.Violations.{member_text, IsNamedAs, this_name, IsNative, IsFinalizer, HasOtherVersion, IsMethodLine, IsClassLine, IsLineOf, IsViolation, AreViolations}
+use Rattle.dj_class_set.proofs.Classical.{NotNot, bind, decide, IsFinite, finite_same, finite_none, finite_if, finite_either, finite_among}
+use Rattle.dj_class_set.proofs.InsertedLines.{finite_in_order}
 
 -- a line of this method
 abbrev IsLineOfMethod : (List Constant → MemberInfo → Type 0) → List ℕ → ℕ → ClassFile → MemberInfo → Violation → Type 0

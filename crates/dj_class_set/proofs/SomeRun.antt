@@ -21,12 +21,12 @@ use Rattle.dj_report.proofs.Sorted.{contains_none, contains_first, contains_late
 use Rattle.dj_report.specs.trusted.Lines.{file_line}
 use Rattle.dj_straight.specs.trusted.Methods.{straight_descriptor, straight_signature}
 use Rattle.dj_straight.specs.trusted.Straight.{IsStraightMethod, AreStraightMethods, IsStraightSet}
-use Rattle.dj_sandbox.specs.trusted.Entry.{entry_method, has_entry, IsShapeLine, IsShapeLineOf, IsEntryLine, AreRunViolations}
-use Rattle.dj_sandbox.specs.Shaped.{shape_line}
+use Rattle.dj_class_set.specs.trusted.Entry.{entry_method, has_entry, IsShapeLine, IsShapeLineOf, IsEntryLine, AreRunViolations}
+use Rattle.dj_class_set.specs.Shaped.{shape_line}
 use Rattle.dj_straight.proofs.Straights.{has_some, no_initialisers}
-use Rattle.dj_sandbox.proofs.RunRules.{entry_is_there}
-use Rattle.dj_sandbox.proofs.Classical.{NotNot, bind, so, decide, IsFinite, finite_same, finite_none, finite_one, finite_if, finite_either, finite_among}
-use Rattle.dj_sandbox.proofs.InsertedLines.{finite_in_order}
+use Rattle.dj_class_set.proofs.RunRules.{entry_is_there}
+use Rattle.dj_class_set.proofs.Classical.{NotNot, bind, so, decide, IsFinite, finite_same, finite_none, finite_one, finite_if, finite_either, finite_among}
+use Rattle.dj_class_set.proofs.InsertedLines.{finite_in_order}
 
 -- ---- the lines of a run's rules
 

@@ -14,18 +14,18 @@ use Rattle.dj_labels.specs.trusted.Labels.{IsLabelled}
 use Rattle.dj_labels.proofs.Once.{one_labelling_is}
 use Rattle.dj_report.specs.declared.report.Violation.{Violation}
 use Rattle.dj_report.specs.trusted.Lines.{file_line}
-use Rattle.dj_rules.specs.trusted.Violations.{member_text, this_name, IsClassLine}
-use Rattle.dj_hierarchy.specs.trusted.Hierarchy.{ViolatesHierarchy}
-use Rattle.dj_check.specs.trusted.Attributes.{codes_of}
-use Rattle.dj_check.specs.trusted.Classes.{IsReserved}
-use Rattle.dj_check.specs.trusted.Heads.{head_of, StandsAmong, HasRepeats}
-use Rattle.dj_check.specs.trusted.Instructions.{IsDynamic, IsReflection, IsFloat, IsSubroutine, IsBreakpoint, IsMultiArray}
-use Rattle.dj_check.specs.trusted.Malformed.{IsRefused, IsGood}
-use Rattle.dj_check.specs.trusted.Members.{HasFloatConstant, IsFloatField, IsFloatMethod, HasInterfaceCode}
-use Rattle.dj_check.specs.trusted.Methods.{InstrViolates, CatchesError, ViolatesAt, HandlerViolates, CodeViolates, ViolatesWhole, MethodViolates}
-use Rattle.dj_check.specs.trusted.Rules.{line_at, IsMemberLine, FieldViolates, IsNamingLine, IsOwnLine, IsLoneLine, IsAmongLoneLines, HasDouble, IsDuplicateLine, IsHierarchyLine, IsEarlyLine}
-use Rattle.dj_sandbox.proofs.Classical.{bind, decide, IsFinite, finite_same, finite_none, finite_if, finite_either, finite_among}
-use Rattle.dj_sandbox.proofs.SomeLines.{class_lines}
+use Rattle.dj_file_rules.specs.trusted.Violations.{member_text, this_name, IsClassLine}
+use Rattle.dj_hierarchy_rule.specs.trusted.Hierarchy.{ViolatesHierarchy}
+use Rattle.dj_early_rules.specs.trusted.Attributes.{codes_of}
+use Rattle.dj_early_rules.specs.trusted.Classes.{IsReserved}
+use Rattle.dj_early_rules.specs.trusted.Heads.{head_of, StandsAmong, HasRepeats}
+use Rattle.dj_early_rules.specs.trusted.Instructions.{IsDynamic, IsReflection, IsFloat, IsSubroutine, IsBreakpoint, IsMultiArray}
+use Rattle.dj_early_rules.specs.trusted.Malformed.{IsRefused, IsGood}
+use Rattle.dj_early_rules.specs.trusted.Members.{HasFloatConstant, IsFloatField, IsFloatMethod, HasInterfaceCode}
+use Rattle.dj_early_rules.specs.trusted.Methods.{InstrViolates, CatchesError, ViolatesAt, HandlerViolates, CodeViolates, ViolatesWhole, MethodViolates}
+use Rattle.dj_early_rules.specs.trusted.Rules.{line_at, IsMemberLine, FieldViolates, IsNamingLine, IsOwnLine, IsLoneLine, IsAmongLoneLines, HasDouble, IsDuplicateLine, IsHierarchyLine, IsEarlyLine}
+use Rattle.dj_class_set.proofs.Classical.{bind, decide, IsFinite, finite_same, finite_none, finite_if, finite_either, finite_among}
+use Rattle.dj_class_set.proofs.SomeLines.{class_lines}
 
 -- ---- what stands at places of a list
 

@@ -4,7 +4,7 @@ use Rattle.std.specs.Ordering.{nat_cmp}
 use Rattle.std.specs.declared.cmp.Ordering.TheVariants.{Less}
 use Rattle.std.specs.Cmp.Lexicographic.{slice_cmp}
 use Rattle.dj_edge.specs.trusted.Held.{File}
-use Rattle.dj_sandbox.specs.trusted.Limits.{most_files, AreWithin}
+use Rattle.dj_class_set.specs.trusted.Limits.{most_files, AreWithin}
 
 -- each text is before all later ones in the order of bytes
 abbrev pub TextsRise : List (List ℕ) → Type 0

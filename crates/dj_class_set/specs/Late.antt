@@ -4,20 +4,20 @@ use Rattle.dj_edge.specs.trusted.Held.{File}
 use Rattle.dj_names.specs.trusted.Types.{Name}
 use Rattle.dj_names.specs.trusted.Library.{Library, deterministic_library, raw_library}
 use Rattle.dj_class.specs.trusted.ClassFile.{ClassFile, IsClassFile, IsMalformed}
-use Rattle.dj_natives.specs.declared.library.LibClass.{LibClass}
-use Rattle.dj_natives.specs.Views.{library_class_view}
+use Rattle.dj_library_types.specs.declared.library.LibClass.{LibClass}
+use Rattle.dj_library_types.specs.Views.{library_class_view}
 use Rattle.dj_model.specs.trusted.Program.{Class}
 use Rattle.dj_model.specs.trusted.Libraries.{library_class, joined}
 use Rattle.dj_report.specs.declared.report.Violation.{Violation}
 use Rattle.dj_report.specs.Lines.{Adds}
-use Rattle.dj_declared.specs.trusted.Files.{declared_class, declared_program}
-use Rattle.dj_classes.specs.Tables.{IsShared}
-use Rattle.dj_linking.specs.Linked.{Linked}
+use Rattle.dj_declarations.specs.trusted.Files.{declared_class, declared_program}
+use Rattle.dj_class_table.specs.Tables.{IsShared}
+use Rattle.dj_resolution.specs.Linked.{Linked}
 use Rattle.dj_loader.specs.Loads.{IsOwnAncestor}
-use Rattle.dj_sandbox.specs.trusted.Checked.{HoldsHierarchy, IsLineBy}
-use Rattle.dj_sandbox.specs.declared.judging.JudgedSet.{JudgedSet}
-use Rattle.dj_sandbox.specs.declared.late.Links.{Links}
-use Rattle.dj_sandbox.specs.declared.late.Links.TheVariants as links
+use Rattle.dj_class_set.specs.trusted.Checked.{HoldsHierarchy, IsLineBy}
+use Rattle.dj_class_set.specs.declared.judging.JudgedSet.{JudgedSet}
+use Rattle.dj_class_set.specs.declared.late.Links.{Links}
+use Rattle.dj_class_set.specs.declared.late.Links.TheVariants as links
 
 -- one of the lines is of the rules 1 to 6
 abbrev pub HasHierarchyLine : List Violation → Type 0

@@ -4,7 +4,7 @@ use Rattle.dj_names.specs.trusted.Types.{Name}
 use Rattle.dj_model.specs.trusted.Program.{Program, Method, has_code}
 use Rattle.dj_report.specs.declared.report.Violation.{Violation}
 use Rattle.dj_report.specs.trusted.Lines.{file_line}
-use Rattle.dj_sandbox.specs.trusted.RawRules.{runs_entry}
+use Rattle.dj_class_set.specs.trusted.RawRules.{runs_entry}
 
 abbrev pub method_has_code : Method → Bool
 method_has_code m = has_code m.body

@@ -1,12 +1,12 @@
 ghost use Rattle.std.specs.Prelude.{◌<◌, ◌≤◌, ◌^◌, length, map, All, IfOk};
 ghost use Rattle.dj_report.specs.trusted.Stages.{IsDecided};
 ghost use Rattle.dj_report.specs.trusted.Text.{report_status};
-ghost use Rattle.dj_rules.specs.Views.{path_file_view};
-ghost use Rattle.dj_sandbox.specs.trusted.Checked.{AreCheckViolations};
-ghost use Rattle.dj_sandbox.specs.trusted.Judging.{check_stages};
-ghost use Rattle.dj_sandbox.specs.trusted.Limits.{most_files};
-ghost use Rattle.dj_sandbox.specs.trusted.Statuses.{IsAmong};
-ghost use Rattle.dj_sandbox.specs.Statuses.{check_statuses};
+ghost use Rattle.dj_file_rules.specs.Views.{path_file_view};
+ghost use Rattle.dj_class_set.specs.trusted.Checked.{AreCheckViolations};
+ghost use Rattle.dj_class_set.specs.trusted.Judging.{check_stages};
+ghost use Rattle.dj_class_set.specs.trusted.Limits.{most_files};
+ghost use Rattle.dj_class_set.specs.trusted.Statuses.{IsAmong};
+ghost use Rattle.dj_class_set.specs.Statuses.{check_statuses};
 
 use crate::class_set::ClassSet;
 use crate::error::SandboxError;

@@ -3,9 +3,9 @@ ghost use Rattle.std.specs.Prelude.{◌≡◌, ◌≤◌, length, map, IfOk, OnO
 ghost use Rattle.std.specs.List.Sorted.{IsPermutation, IsSortedByKey};
 ghost use Rattle.std.specs.String.{string_cmp};
 ghost use Rattle.dj_edge.specs.InMemory.{file_in, files_in, PathsDiffer};
-ghost use Rattle.dj_rules.specs.Views.{path_file_view};
-ghost use Rattle.dj_sandbox.specs.ClassSets.{IsClassSet, AreByPath};
-ghost use Rattle.dj_sandbox.specs.trusted.Limits.{most_files, AreWithin};
+ghost use Rattle.dj_file_rules.specs.Views.{path_file_view};
+ghost use Rattle.dj_class_set.specs.ClassSets.{IsClassSet, AreByPath};
+ghost use Rattle.dj_class_set.specs.trusted.Limits.{most_files, AreWithin};
 
 use crate::error::SandboxError;
 use dj_report::PathFile;
@@ -25,7 +25,7 @@ impl Model for ClassSet {
     ghost Value = { List File };
 
     ghost use Rattle.dj_edge.specs.InMemory.{files_in};
-    ghost use Rattle.dj_sandbox.specs.ClassSets.{IsClassSet};
+    ghost use Rattle.dj_class_set.specs.ClassSets.{IsClassSet};
 
     ghost view = { λ set. files_in set.files.items };
 

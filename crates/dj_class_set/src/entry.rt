@@ -1,9 +1,9 @@
 ghost use Rattle.std.specs.Prelude.{◌≡◌, ◌++◌, ◌==◌, if◌then◌else◌, OnOk, IfOk};
 ghost use Rattle.dj_names.specs.trusted.ModifiedUtf8.{unit_text};
-ghost use Rattle.dj_sandbox.specs.trusted.Entry.{entry_name};
+ghost use Rattle.dj_class_set.specs.trusted.Entry.{entry_name};
 
+use dj_file_rules::units_of_path;
 use dj_names::Name;
-use dj_rules::units_of_path;
 use std::alloc::{AllocError, Global};
 
 // A dot becomes a slash.

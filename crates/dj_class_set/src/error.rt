@@ -12,7 +12,7 @@ pub enum SandboxError {
 }
 
 impl From<AllocError> for SandboxError {
-    ghost use Rattle.dj_sandbox.specs.declared.error.SandboxError.TheVariants.{Memory};
+    ghost use Rattle.dj_class_set.specs.declared.error.SandboxError.TheVariants.{Memory};
 
     ghost from_gives = { λ _ e. e ≡ Memory };
 
@@ -22,7 +22,7 @@ impl From<AllocError> for SandboxError {
 }
 
 impl<T: Drop> From<AllocFailed<T>> for SandboxError {
-    ghost use Rattle.dj_sandbox.specs.declared.error.SandboxError.TheVariants.{Memory};
+    ghost use Rattle.dj_class_set.specs.declared.error.SandboxError.TheVariants.{Memory};
 
     ghost from_gives = { λ _ e. e ≡ Memory };
 

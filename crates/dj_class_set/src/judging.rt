@@ -1,17 +1,17 @@
 //! The violations of files by a library, and how their classes are linked with it.
 ghost use Rattle.std.specs.Prelude.{◌<◌, ◌≤◌, ◌^◌, ◌↔◌, List, length, map, All, IfOk, IsTrue};
 ghost use Rattle.dj_names.specs.trusted.Library.{LibraryClass};
-ghost use Rattle.dj_natives.specs.Views.{library_view};
-ghost use Rattle.dj_rules.specs.Views.{path_file_view};
-ghost use Rattle.dj_sandbox.specs.trusted.Checked.{HoldsHierarchy};
-ghost use Rattle.dj_sandbox.specs.Late.{HasHierarchyLine, IsJudging, IsJudgedSet, LinksFiles};
-ghost use Rattle.dj_sandbox.specs.trusted.Limits.{most_files};
+ghost use Rattle.dj_library_types.specs.Views.{library_view};
+ghost use Rattle.dj_file_rules.specs.Views.{path_file_view};
+ghost use Rattle.dj_class_set.specs.trusted.Checked.{HoldsHierarchy};
+ghost use Rattle.dj_class_set.specs.Late.{HasHierarchyLine, IsJudging, IsJudgedSet, LinksFiles};
+ghost use Rattle.dj_class_set.specs.trusted.Limits.{most_files};
 
 use crate::late::{Links, link_files};
-use dj_judge::{JudgedFiles, judge_files};
-use dj_linking::Linker;
-use dj_natives::Library;
+use dj_library_types::Library;
 use dj_report::{PathFile, Violation, add_in_order};
+use dj_resolution::Linker;
+use dj_rules::{JudgedFiles, judge_files};
 use std::alloc::{AllocError, Global};
 
 // The number of the rule HIERARCHY. Where it or one before it is violated, the rules 17 to 20 are not judged.

@@ -3,21 +3,21 @@ ghost use Rattle.std.specs.Option.{option_map};
 ghost use Rattle.dj_names.specs.trusted.Descriptors.{IsDesc};
 ghost use Rattle.dj_class.specs.trusted.ClassFile.{IsValid};
 ghost use Rattle.dj_class.specs.Views.{class_of};
-ghost use Rattle.dj_natives.specs.Views.{library_view};
+ghost use Rattle.dj_library_types.specs.Views.{library_view};
 ghost use Rattle.dj_model.specs.trusted.Libraries.{library_class};
-ghost use Rattle.dj_rules.specs.Views.{path_file_view};
-ghost use Rattle.dj_declared.specs.trusted.Files.{declared_class};
-ghost use Rattle.dj_classes.specs.ClassRows.{RiseStrictly};
-ghost use Rattle.dj_sandbox.specs.Late.{IsDeclaredFrom, AreDeclaredOrNot, IsJudging, IsLinkOf, AreLinksOf, AreLinks, row_class};
-ghost use Rattle.dj_sandbox.specs.trusted.Limits.{most_files};
+ghost use Rattle.dj_file_rules.specs.Views.{path_file_view};
+ghost use Rattle.dj_declarations.specs.trusted.Files.{declared_class};
+ghost use Rattle.dj_class_table.specs.ClassRows.{RiseStrictly};
+ghost use Rattle.dj_class_set.specs.Late.{IsDeclaredFrom, AreDeclaredOrNot, IsJudging, IsLinkOf, AreLinksOf, AreLinks, row_class};
+ghost use Rattle.dj_class_set.specs.trusted.Limits.{most_files};
 
 use dj_class::ClassView;
-use dj_declared::{DeclaredClass, declare_file, declare_library_class};
-use dj_linking::{BaseNames, ClassTable, Linker, TableError};
+use dj_declarations::{DeclaredClass, declare_file, declare_library_class};
+use dj_file_rules::{FileView, view_file};
+use dj_library_types::{LibClass, Library};
 use dj_loader::{LoadError, refuse_cycles};
-use dj_natives::{LibClass, Library};
 use dj_report::PathFile;
-use dj_rules::{FileView, view_file};
+use dj_resolution::{BaseNames, ClassTable, Linker, TableError};
 use std::alloc::{AllocError, Global};
 
 // The class of a class file.

@@ -6,19 +6,19 @@ ghost use Rattle.dj_names.specs.trusted.Library.{raw_library};
 ghost use Rattle.dj_model.specs.trusted.Program.{method_in, runs_static};
 ghost use Rattle.dj_report.specs.trusted.Lines.{file_line};
 ghost use Rattle.dj_report.specs.Lines.{Adds};
-ghost use Rattle.dj_rules.specs.Views.{path_file_view};
-ghost use Rattle.dj_classes.specs.Tables.{methods_at};
-ghost use Rattle.dj_sandbox.specs.trusted.Limits.{most_files};
-ghost use Rattle.dj_sandbox.specs.Late.{IsJudgedSet};
-ghost use Rattle.dj_sandbox.specs.RawEntry.{method_has_code, EntryLine};
-ghost use Rattle.dj_sandbox.specs.trusted.RawRules.{entry_desc, runs_entry, IsRawLine, AreRawViolations};
+ghost use Rattle.dj_file_rules.specs.Views.{path_file_view};
+ghost use Rattle.dj_class_table.specs.Tables.{methods_at};
+ghost use Rattle.dj_class_set.specs.trusted.Limits.{most_files};
+ghost use Rattle.dj_class_set.specs.Late.{IsJudgedSet};
+ghost use Rattle.dj_class_set.specs.RawEntry.{method_has_code, EntryLine};
+ghost use Rattle.dj_class_set.specs.trusted.RawRules.{entry_desc, runs_entry, IsRawLine, AreRawViolations};
 
 use crate::judging::{JudgedSet, judge_set};
 use dj_library::raw;
-use dj_link::is_static;
-use dj_linking::{ClassTable, Linker};
+use dj_link_rules::is_static;
 use dj_names::Name;
 use dj_report::{PathFile, Violation, Violations, add_line, in_order};
+use dj_resolution::{ClassTable, Linker};
 use std::alloc::{AllocError, Global};
 
 // The number of the rule ENTRY.

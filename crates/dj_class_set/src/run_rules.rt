@@ -1,11 +1,11 @@
 ghost use Rattle.std.specs.Prelude.{◌≡◌, true, false, ◌<◌, ◌^◌, ◌++◌, [], ◌∷◌, length, map, codes, All, Contains, Some, None, IfOk, OnOk, MatchOption};
 ghost use Rattle.dj_straight.specs.trusted.Program.{code_of, is_static, method_in};
-ghost use Rattle.dj_sandbox.specs.trusted.Entry.{entry_method, has_entry, AreRunViolations, IsEntryLine, IsShapeLine, IsShapeLineOf};
+ghost use Rattle.dj_class_set.specs.trusted.Entry.{entry_method, has_entry, AreRunViolations, IsEntryLine, IsShapeLine, IsShapeLineOf};
 ghost use Rattle.dj_report.specs.Lines.{Adds};
 ghost use Rattle.dj_straight.specs.trusted.Methods.{straight_descriptor};
 ghost use Rattle.dj_straight.specs.Methods.{code_view, method_view, program_view};
-ghost use Rattle.dj_sandbox.specs.Shaped.{shape_line, AreReported, AreShaped, AreShort, IsReported, IsMethodOf};
-ghost use Rattle.dj_rules.specs.Views.{path_file_view};
+ghost use Rattle.dj_class_set.specs.Shaped.{shape_line, AreReported, AreShaped, AreShort, IsReported, IsMethodOf};
+ghost use Rattle.dj_file_rules.specs.Views.{path_file_view};
 
 use dj_class::AccessFlags;
 use dj_names::Name;

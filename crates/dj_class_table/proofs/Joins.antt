@@ -1,7 +1,7 @@
 -- Lists of classes that are joined one after the other are joined as one list.
 use Rattle.std.proofs.Common.{◌≡◌, List, [], ◌∷◌, ◌++◌, map, refl, sym, ap}
 use Rattle.dj_names.specs.trusted.Library.{Library}
-use Rattle.dj_declared.specs.trusted.Files.{ClassFile, declared_class, declared_program}
+use Rattle.dj_declarations.specs.trusted.Files.{ClassFile, declared_class, declared_program}
 use Rattle.dj_model.specs.trusted.Program.{Class}
 use Rattle.dj_model.specs.trusted.Libraries.{library_class, inserted, joined}
 

@@ -9,8 +9,8 @@ use Rattle.std.proofs.lemmas.Option.{same_Some, slice_get-get_or}
 use Rattle.dj_names.specs.trusted.Types.{Name}
 use Rattle.dj_model.specs.trusted.Program.{Program, Class}
 use Rattle.dj_model.specs.trusted.Linking.{option_list}
-use Rattle.dj_classes.specs.Tables.{class_number, class_numbers, is_lacking, lacks_above}
-use Rattle.dj_classes.specs.ClassRows.{super_in, interfaces_in, IsTable}
+use Rattle.dj_class_table.specs.Tables.{class_number, class_numbers, is_lacking, lacks_above}
+use Rattle.dj_class_table.specs.ClassRows.{super_in, interfaces_in, IsTable}
 
 no_more : (program : Program) (names : List Name) → length (class_numbers program names) ≤ length names
 no_more program [] = omega arith

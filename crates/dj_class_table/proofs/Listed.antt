@@ -4,8 +4,8 @@ use Rattle.std.specs.Prelude.{slice_get}
 use Rattle.dj_names.specs.trusted.Types.{Name}
 use Rattle.dj_model.specs.trusted.Program.{Program}
 use Rattle.dj_model.specs.trusted.Linking.{option_list}
-use Rattle.dj_classes.specs.Tables.{class_number, class_numbers}
-use Rattle.dj_classes.specs.ClassRows.{numbers_at}
+use Rattle.dj_class_table.specs.Tables.{class_number, class_numbers}
+use Rattle.dj_class_table.specs.ClassRows.{numbers_at}
 
 first_some : (found : Option Name) (name : Name) (rest names : List (Option Name)) → found ∷ rest ≡ Some name ∷ names → found ≡ Some name
 first_some found name rest names e = cc

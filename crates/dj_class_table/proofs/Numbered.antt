@@ -15,10 +15,10 @@ use Rattle.std.proofs.lemmas.List.Sorted.{searchable_from_sorted}
 use Rattle.dj_names.specs.trusted.Types.{Name, same_name}
 use Rattle.dj_model.specs.trusted.Program.{Program, Class, class_at, superclass_of, interfaces_of}
 use Rattle.dj_model.specs.trusted.Linking.{option_list}
-use Rattle.dj_classes.specs.Tables.{class_number, class_numbers, name_at, super_number, interface_numbers}
-use Rattle.dj_classes.specs.ClassRows.{RiseStrictly}
-use Rattle.dj_classes.proofs.Orders.{same_name-refl, names_from_same, names_from_cmp, cmp_itself, not_same_if_less, sorted_from_rise}
-use Rattle.dj_classes.proofs.Shared.{some_name, first_differs, name_at-within, name_at-read}
+use Rattle.dj_class_table.specs.Tables.{class_number, class_numbers, name_at, super_number, interface_numbers}
+use Rattle.dj_class_table.specs.ClassRows.{RiseStrictly}
+use Rattle.dj_class_table.proofs.Orders.{same_name-refl, names_from_same, names_from_cmp, cmp_itself, not_same_if_less, sorted_from_rise}
+use Rattle.dj_class_table.proofs.Shared.{some_name, first_differs, name_at-within, name_at-read}
 
 -- ---- any classes
 

@@ -18,7 +18,7 @@ use Rattle.dj_names.specs.trusted.Types.{Name, same_name}
 use Rattle.dj_model.specs.trusted.Program.{Program, Class}
 use Rattle.dj_model.specs.trusted.Libraries.{is_name_before}
 use Rattle.dj_model.specs.Sound.{names_rise}
-use Rattle.dj_classes.specs.ClassRows.{class_cmp, RiseStrictly}
+use Rattle.dj_class_table.specs.ClassRows.{class_cmp, RiseStrictly}
 
 -- ---- names
 

@@ -13,9 +13,9 @@ use Rattle.std.proofs.lemmas.Map.Views.{All-after_first}
 use Rattle.dj_names.specs.trusted.Types.{Name}
 use Rattle.dj_model.specs.trusted.Program.{Program, Class}
 use Rattle.dj_model.specs.trusted.Libraries.{is_name_before, inserted, joined}
-use Rattle.dj_classes.specs.Tables.{name_at, IsShared}
-use Rattle.dj_classes.specs.ClassRows.{class_cmp, RiseStrictly}
-use Rattle.dj_classes.proofs.Orders.{is_name_before-cmp, names_from_cmp, greater_from_less, less_from_greater, above_too, not_less_itself}
+use Rattle.dj_class_table.specs.Tables.{name_at, IsShared}
+use Rattle.dj_class_table.specs.ClassRows.{class_cmp, RiseStrictly}
+use Rattle.dj_class_table.proofs.Orders.{is_name_before-cmp, names_from_cmp, greater_from_less, less_from_greater, above_too, not_less_itself}
 
 -- ---- members
 

@@ -13,10 +13,10 @@ use Rattle.std.proofs.lemmas.List.Sorted.{sum_by-IsPermutation, IsPermutation-sy
 use Rattle.std.proofs.lemmas.List.Sums.{sum_by-cons}
 use Rattle.dj_names.specs.trusted.Types.{Name, same_name}
 use Rattle.dj_model.specs.trusted.Program.{Program, Class}
-use Rattle.dj_classes.specs.Tables.{name_at, IsShared, IsLeastShared}
-use Rattle.dj_classes.specs.declared.error.TableError.TheVariants.{Duplicate}
-use Rattle.dj_classes.specs.ClassRows.{class_cmp, RiseStrictly}
-use Rattle.dj_classes.proofs.Orders.{is_name_before-cmp, same_name-refl, names_from_same, class_order, not_less_itself, less_from_other}
+use Rattle.dj_class_table.specs.Tables.{name_at, IsShared, IsLeastShared}
+use Rattle.dj_class_table.specs.declared.error.TableError.TheVariants.{Duplicate}
+use Rattle.dj_class_table.specs.ClassRows.{class_cmp, RiseStrictly}
+use Rattle.dj_class_table.proofs.Orders.{is_name_before-cmp, same_name-refl, names_from_same, class_order, not_less_itself, less_from_other}
 
 -- ---- how many classes have a name
 

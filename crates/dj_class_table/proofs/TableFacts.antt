@@ -4,11 +4,11 @@ use Rattle.dj_names.specs.trusted.Types.{Name, same_name}
 use Rattle.dj_model.specs.trusted.Program.{Program, Class}
 use Rattle.dj_model.specs.trusted.Libraries.{is_name_before, joined}
 use Rattle.dj_model.specs.Sound.{names_rise}
-use Rattle.dj_classes.specs.Tables.{class_number, name_at, super_number, interface_numbers, IsShared, IsLeastShared}
+use Rattle.dj_class_table.specs.Tables.{class_number, name_at, super_number, interface_numbers, IsShared, IsLeastShared}
 use Rattle.std.specs.List.Sorted.{IsSorted}
-use Rattle.dj_classes.specs.ClassRows.{class_cmp}
-use Rattle.dj_classes.proofs.Orders.{same_from_names, not_both}
-use Rattle.dj_classes.proofs.Shared.{some_name, first_is_least}
+use Rattle.dj_class_table.specs.ClassRows.{class_cmp}
+use Rattle.dj_class_table.proofs.Orders.{same_from_names, not_both}
+use Rattle.dj_class_table.proofs.Shared.{some_name, first_is_least}
 
 class : List ℕ → Option Name → List Name → Class
 class name superclass interfaces = record {

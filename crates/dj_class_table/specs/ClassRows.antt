@@ -7,8 +7,8 @@ use Rattle.std.specs.List.{flat_map}
 use Rattle.std.specs.List.Sorted.{IsStrictlySortedBy}
 use Rattle.dj_model.specs.trusted.Program.{Program, Class}
 use Rattle.dj_model.specs.trusted.Linking.{option_list}
-use Rattle.dj_declared.specs.Files.{bare_class}
-use Rattle.dj_classes.specs.Tables.{class_number, class_numbers}
+use Rattle.dj_declarations.specs.Files.{bare_class}
+use Rattle.dj_class_table.specs.Tables.{class_number, class_numbers}
 
 -- by the bytes of the names
 abbrev pub class_cmp : Class → Class → Ordering

@@ -6,7 +6,7 @@ use Rattle.dj_names.specs.trusted.Types.{Name, same_name}
 use Rattle.dj_model.specs.trusted.Program.{Program, Class, Method, Field, fields_of, interfaces_of, superclass_of}
 use Rattle.dj_model.specs.trusted.Linking.{FoundMethod, FoundField, option_list}
 use Rattle.dj_model.specs.trusted.Libraries.{is_name_before}
-use Rattle.dj_classes.specs.declared.place.Place.{Place}
+use Rattle.dj_class_table.specs.declared.place.Place.{Place}
 
 -- ---- classes
 

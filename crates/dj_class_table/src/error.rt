@@ -16,7 +16,7 @@ pub enum TableError {
 }
 
 impl From<AllocError> for TableError {
-    ghost use Rattle.dj_classes.specs.declared.error.TableError.TheVariants.{Memory};
+    ghost use Rattle.dj_class_table.specs.declared.error.TableError.TheVariants.{Memory};
 
     ghost from_gives = { λ _ e. e ≡ Memory };
 
@@ -26,7 +26,7 @@ impl From<AllocError> for TableError {
 }
 
 impl<T: Drop> From<AllocFailed<T>> for TableError {
-    ghost use Rattle.dj_classes.specs.declared.error.TableError.TheVariants.{Memory};
+    ghost use Rattle.dj_class_table.specs.declared.error.TableError.TheVariants.{Memory};
 
     ghost from_gives = { λ _ e. e ≡ Memory };
 

@@ -1,11 +1,11 @@
 ghost use Rattle.std.specs.Prelude.{◌≡◌, ◌<◌, ◌^◌, ◌&&◌, None, is_none, is_some, nat_lt, get_or, length, map, IfOk, MatchOption};
 ghost use Rattle.std.specs.List.Sorted.{IsPermutation, IsSorted};
-ghost use Rattle.dj_declared.specs.Files.{bare_class};
-ghost use Rattle.dj_classes.specs.Tables.{class_number, IsLeastShared};
-ghost use Rattle.dj_classes.specs.ClassRows.{class_cmp, RiseStrictly, super_in, interfaces_in, numbers_at};
+ghost use Rattle.dj_declarations.specs.Files.{bare_class};
+ghost use Rattle.dj_class_table.specs.Tables.{class_number, IsLeastShared};
+ghost use Rattle.dj_class_table.specs.ClassRows.{class_cmp, RiseStrictly, super_in, interfaces_in, numbers_at};
 
 use crate::numbers::Numbers;
-use dj_declared::DeclaredClass;
+use dj_declarations::DeclaredClass;
 use dj_names::Name;
 use std::alloc::{AllocError, Global};
 

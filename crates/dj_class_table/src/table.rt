@@ -5,17 +5,17 @@ ghost use Rattle.dj_names.specs.trusted.Descriptors.{Describes};
 ghost use Rattle.dj_model.specs.trusted.Program.{method_in, field_in};
 ghost use Rattle.dj_model.specs.trusted.Linking.{count_fields, fields_before};
 ghost use Rattle.dj_model.specs.trusted.Libraries.{joined};
-ghost use Rattle.dj_declared.specs.trusted.Files.{desc_in};
-ghost use Rattle.dj_declared.specs.Files.{bare_class};
-ghost use Rattle.dj_declared.specs.trusted.Members.{has_method_named};
-ghost use Rattle.dj_declared.specs.Members.{IsDescriptor, method_flags, method_name, method_has_body, method_native, field_flags, field_name, method_place, field_place};
-ghost use Rattle.dj_classes.specs.Tables.{class_number, name_at, flags_in, unnamed_fields_in, super_number, interface_numbers, lacks_above, methods_at, fields_at, IsShared, IsLeastShared};
-ghost use Rattle.dj_classes.specs.declared.error.TableError.TheVariants.{Duplicate};
+ghost use Rattle.dj_declarations.specs.trusted.Files.{desc_in};
+ghost use Rattle.dj_declarations.specs.Files.{bare_class};
+ghost use Rattle.dj_declarations.specs.trusted.Members.{has_method_named};
+ghost use Rattle.dj_declarations.specs.Members.{IsDescriptor, method_flags, method_name, method_has_body, method_native, field_flags, field_name, method_place, field_place};
+ghost use Rattle.dj_class_table.specs.Tables.{class_number, name_at, flags_in, unnamed_fields_in, super_number, interface_numbers, lacks_above, methods_at, fields_at, IsShared, IsLeastShared};
+ghost use Rattle.dj_class_table.specs.declared.error.TableError.TheVariants.{Duplicate};
 
 use crate::error::TableError;
 use crate::numbers::Numbers;
 use crate::rows;
-use dj_declared::{DeclaredClass, MemberTexts};
+use dj_declarations::{DeclaredClass, MemberTexts};
 use dj_names::{Name, NativeId};
 use std::alloc::Global;
 use std::marker::Model;
@@ -30,7 +30,7 @@ pub struct ClassTable {
 
 impl Model for ClassTable {
     ghost use Rattle.dj_model.specs.trusted.Program.{Program};
-    ghost use Rattle.dj_classes.specs.ClassRows.{IsTable};
+    ghost use Rattle.dj_class_table.specs.ClassRows.{IsTable};
 
     ghost Value = { Program };
 

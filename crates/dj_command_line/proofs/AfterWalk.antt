@@ -5,8 +5,8 @@ use Rattle.clap.specs.Words.{Row, Rule, Text, Kinds, Shape, built, fault_of, mat
 use Rattle.clap.specs.Walk.{Held, has_row, is_empty, with_default, default_rows, reading_by, walk, walk_from, nothing_held, settled, finished}
 use Rattle.clap.specs.Kinds.{or_else}
 use Rattle.clap.specs.Faults.{defaults_fault, default_fault, given_default_fault, entered_fault, check_fault, walk_fault, settle_fault}
-use Rattle.dj_words.specs.WordsApp.{app}
-use Rattle.dj_words.proofs.Rules.{rules}
+use Rattle.dj_command_line.specs.WordsApp.{app}
+use Rattle.dj_command_line.proofs.Rules.{rules}
 
 abbrev pub top : Shape
 top = (built app).top

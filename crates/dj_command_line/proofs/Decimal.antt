@@ -5,7 +5,7 @@ use Rattle.std.proofs.Common.{length-take-le}
 use Rattle.std.specs.Prelude.{fold}
 use Rattle.std.specs.List.{list_all}
 use Rattle.std.specs.Char.{is_ascii_digit}
-use Rattle.dj_words.specs.trusted.Words.{decimal_value}
+use Rattle.dj_command_line.specs.trusted.Words.{decimal_value}
 
 -- m, with k zeros after it
 abbrev with_zeros : ℕ → ℕ → ℕ

@@ -2,10 +2,10 @@
 use Rattle.std.proofs.Common.{◌≡◌, Bool, true, false, List, [], ◌∷◌, Option, Some, None, refl, ap, cond, codes, ℕ}
 use Rattle.std.specs.Prelude.{option_and_then}
 use Rattle.std.proofs.lemmas.Slice.Eq.{bytes_eq-Decides}
-use Rattle.dj_bytes.specs.trusted.Options.{◌>>=◌}
-use Rattle.dj_words.specs.trusted.Words.{Word, Job, Sample, is_word, number_between, rewrite_job, assemble_job, sample_job}
-use Rattle.dj_words.specs.trusted.DoneJobs.{DoneJob, done}
-use Rattle.dj_words.specs.WordsApp.{Values, has_no_value, steps_in, raw_in, job_of_values}
+use Rattle.dj_cursor.specs.trusted.Options.{◌>>=◌}
+use Rattle.dj_command_line.specs.trusted.Words.{Word, Job, Sample, is_word, number_between, rewrite_job, assemble_job, sample_job}
+use Rattle.dj_command_line.specs.trusted.DoneJobs.{DoneJob, done}
+use Rattle.dj_command_line.specs.WordsApp.{Values, has_no_value, steps_in, raw_in, job_of_values}
 
 abbrev cut : Option Job → Option DoneJob
 cut job = option_and_then done job

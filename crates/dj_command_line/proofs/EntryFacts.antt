@@ -2,7 +2,7 @@
 use Rattle.std.specs.Prelude.{◌≡◌, ℕ, ◌==◌, true, false, List, [], ◌∷◌, Option, Some, None, map, codes}
 use Rattle.std.specs.List.{slice_split}
 use Rattle.std.proofs.Common.{refl}
-use Rattle.dj_words.specs.trusted.Words.{Word, is_word, begins_with, is_numeral, decimal_value, number_between, alloc_setting, invoke_setting, jump_setting, throw_setting, steps_setting, without_slash, Job, Raw, Verify, job_of}
+use Rattle.dj_command_line.specs.trusted.Words.{Word, is_word, begins_with, is_numeral, decimal_value, number_between, alloc_setting, invoke_setting, jump_setting, throw_setting, steps_setting, without_slash, Job, Raw, Verify, job_of}
 
 abbrev words_in : List ℕ → List Word
 words_in line = slice_split (λ c. c == 32) line

@@ -7,7 +7,7 @@ use Rattle.std.specs.Str.{bytes_eq}
 use Rattle.std.specs.Prelude.{IsUtf8, chars, slice_get, encode_utf8_all}
 use Rattle.std.proofs.lemmas.Str.{IsUtf8-past_char, encodes-chars}
 use Rattle.clap.specs.Lexer.{long_of, short_of}
-use Rattle.dj_words.specs.trusted.Words.{Word, Plain, Joined, Named, EndOfOptions, Stray, part_of, begins_with, is_numeral}
+use Rattle.dj_command_line.specs.trusted.Words.{Word, Plain, Joined, Named, EndOfOptions, Stray, part_of, begins_with, is_numeral}
 
 abbrev pub dashes : Word
 dashes = 45 ∷ 45 ∷ []

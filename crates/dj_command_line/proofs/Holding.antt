@@ -4,16 +4,16 @@ use Rattle.std.specs.Prelude.{is_some, option_and_then, slice_get}
 use Rattle.std.specs.List.{list_all}
 use Rattle.std.specs.Str.{bytes_eq}
 use Rattle.std.proofs.lemmas.List.Elements.{filter-append}
-use Rattle.dj_bytes.specs.trusted.Options.{◌>>=◌}
+use Rattle.dj_cursor.specs.trusted.Options.{◌>>=◌}
 use Rattle.dj_names.specs.declared.run.Thresholds.{Thresholds}
 use Rattle.clap.specs.Words.{Row, Text, all_of, first_of}
 use Rattle.clap.specs.Walk.{has_row, used, reading_by}
-use Rattle.dj_words.specs.trusted.Words.{Word, Given, Setting, is_word, number_of, number_given, has_only, thresholds_of, steps_of, command_job, line_job, check_job, verify_job, rewrite_job, raw_job, assemble_job, sample_job, alloc_setting, invoke_setting, jump_setting, throw_setting, steps_setting}
-use Rattle.dj_words.specs.WordsApp.{values_of, has_no_threshold, has_no_value, number_in, thresholds_in, steps_in, verify_in, raw_in, job_of_values, job_in}
-use Rattle.dj_words.proofs.Rules.{Known, is_alloc, is_invoke, is_jump, is_throw, is_steps, command_rule, words_rule, long_rule, same_or}
-use Rattle.dj_words.proofs.NoJobs.{no_check, no_rewrite, no_assemble, no_sample}
-use Rattle.dj_words.proofs.OptionLaws.{and_false, named_so, named_at, itself, threshold_settings}
-use Rattle.dj_words.proofs.RowLemmas.{added, values_here, values_elsewhere, used_option, used_command, used_words, has_row_is, first_is_head}
+use Rattle.dj_command_line.specs.trusted.Words.{Word, Given, Setting, is_word, number_of, number_given, has_only, thresholds_of, steps_of, command_job, line_job, check_job, verify_job, rewrite_job, raw_job, assemble_job, sample_job, alloc_setting, invoke_setting, jump_setting, throw_setting, steps_setting}
+use Rattle.dj_command_line.specs.WordsApp.{values_of, has_no_threshold, has_no_value, number_in, thresholds_in, steps_in, verify_in, raw_in, job_of_values, job_in}
+use Rattle.dj_command_line.proofs.Rules.{Known, is_alloc, is_invoke, is_jump, is_throw, is_steps, command_rule, words_rule, long_rule, same_or}
+use Rattle.dj_command_line.proofs.NoJobs.{no_check, no_rewrite, no_assemble, no_sample}
+use Rattle.dj_command_line.proofs.OptionLaws.{and_false, named_so, named_at, itself, threshold_settings}
+use Rattle.dj_command_line.proofs.RowLemmas.{added, values_here, values_elsewhere, used_option, used_command, used_words, has_row_is, first_is_head}
 
 -- ---- what rows hold
 

@@ -1,6 +1,6 @@
 -- When a line with options is one of no job.
 use Rattle.std.proofs.Common.{◌≡◌, Bool, true, false, List, [], ◌∷◌, Option, None, refl, cond, codes}
-use Rattle.dj_words.specs.trusted.Words.{Word, Given, Job, is_word, thresholds_of, steps_of, check_job, verify_job, rewrite_job, raw_job, assemble_job, sample_job, command_job, line_job}
+use Rattle.dj_command_line.specs.trusted.Words.{Word, Given, Job, is_word, thresholds_of, steps_of, check_job, verify_job, rewrite_job, raw_job, assemble_job, sample_job, command_job, line_job}
 
 unless : (b : Bool) (x y : Option Job) → x ≡ None → y ≡ None → cond b x y ≡ None
 unless true x y a b = a

@@ -3,11 +3,11 @@ use Rattle.std.proofs.Common.{◌≡◌, ◌∙◌, ◌&&◌, ◌++◌, ℕ, Boo
 use Rattle.std.specs.Prelude.{filter}
 use Rattle.std.specs.List.{list_all, list_any}
 use Rattle.std.proofs.lemmas.List.Elements.{filter-append}
-use Rattle.dj_bytes.specs.trusted.Options.{◌>>=◌}
+use Rattle.dj_cursor.specs.trusted.Options.{◌>>=◌}
 use Rattle.dj_names.specs.declared.run.Thresholds.{Thresholds}
-use Rattle.dj_words.specs.trusted.Words.{Word, Given, Setting, is_word, is_numeral, number_between, number_given, number_of, has_only, given_thresholds, thresholds_of, steps_of, line_job, alloc_setting, invoke_setting, jump_setting, throw_setting, steps_setting}
-use Rattle.dj_words.proofs.Rules.{Known, is_alloc, is_invoke, is_jump, is_throw, is_steps, Unknown}
-use Rattle.dj_words.proofs.NoJobs.{no_line}
+use Rattle.dj_command_line.specs.trusted.Words.{Word, Given, Setting, is_word, is_numeral, number_between, number_given, number_of, has_only, given_thresholds, thresholds_of, steps_of, line_job, alloc_setting, invoke_setting, jump_setting, throw_setting, steps_setting}
+use Rattle.dj_command_line.proofs.Rules.{Known, is_alloc, is_invoke, is_jump, is_throw, is_steps, Unknown}
+use Rattle.dj_command_line.proofs.NoJobs.{no_line}
 
 abbrev pub threshold_settings : List Setting
 threshold_settings = alloc_setting ∷ invoke_setting ∷ jump_setting ∷ throw_setting ∷ []

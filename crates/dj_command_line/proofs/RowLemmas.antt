@@ -7,7 +7,7 @@ use Rattle.clap.specs.Words.{Row, Rule, Text, all_of, first_of}
 use Rattle.clap.specs.Walk.{more_values, has_row, at_row, without, with_values, used, reading_by, stronger}
 use Rattle.clap.specs.declared.builder.value_parser.Reading.{Reading}
 use Rattle.clap.specs.declared.parser.matches.ValueSource.TheVariants.{CommandLine}
-use Rattle.dj_words.proofs.Rules.{command_rule, words_rule, long_rule}
+use Rattle.dj_command_line.proofs.Rules.{command_rule, words_rule, long_rule}
 
 -- what is changed at a row that isn't there stands at the end
 absent : (id : Text) (change : Row → List Row) (missing rows : List Row) → has_row id rows ≡ false → at_row id change missing rows ≡ rows ++ missing

@@ -6,7 +6,7 @@ use Rattle.clap.specs.Words.{Rule, Text, built, new_rule}
 use Rattle.clap.specs.Walk.{arg_by_id, arg_by_index, arg_by_long, arg_by_short}
 use Rattle.clap.specs.Simple.{filled, with_index}
 use Rattle.clap.specs.declared.builder.action.ArgAction.TheVariants.{Append}
-use Rattle.dj_words.specs.WordsApp.{app, option_rule}
+use Rattle.dj_command_line.specs.WordsApp.{app, option_rule}
 
 abbrev pub rules : List Rule
 rules = (built app).top.rules

@@ -3,7 +3,7 @@ use Rattle.std.proofs.Common.{◌≡◌, ◌∙◌, ◌||◌, ◌&&◌, ◌++◌
 use Rattle.std.specs.Prelude.{IsUtf8, option_and_then, option_map, is_some}
 use Rattle.std.specs.List.{fold}
 use Rattle.std.specs.Str.{bytes_eq}
-use Rattle.dj_bytes.specs.trusted.Options.{◌>>=◌}
+use Rattle.dj_cursor.specs.trusted.Options.{◌>>=◌}
 use Rattle.clap.specs.Kinds.{or_else}
 use Rattle.clap.specs.Words.{Row, Rule, Text, Kinds, fault_of, matches_of}
 use Rattle.clap.specs.Lexer.{long_of, short_of}
@@ -11,16 +11,16 @@ use Rattle.clap.specs.Walk.{Held, Step, Waiting, Walk, idle, option, positional,
 use Rattle.clap.specs.Faults.{word_fault, step_fault, turn_fault, walk_fault, settle_fault, repeat_fault, use_fault}
 use Rattle.clap.specs.declared.error.ErrorKind.{ErrorKind}
 use Rattle.clap.specs.declared.error.ErrorKind.TheVariants.{UnknownArgument, InvalidValue, ArgumentConflict}
-use Rattle.dj_words.specs.trusted.Words.{Word, Given, Job, Line, Plain, Joined, part_of, begins_with, is_numeral, with_option, with_plain, line_from, line_job, job_of}
-use Rattle.dj_words.specs.WordsApp.{app, job_in}
-use Rattle.dj_words.proofs.Forms.{dashes, Form, plain_form, dash_form, DashForm, stray_form, end_form, named_form, joined_form, forms, after_dash}
-use Rattle.dj_words.proofs.Rules.{rules, Known, Unknown, an_option, no_option, named, known_rule, command_rule, words_rule, long_rule}
-use Rattle.dj_words.proofs.AfterWalk.{top, fault_is, matches_are}
-use Rattle.dj_words.proofs.WordWalks.{met_end, fault_end, met_plain, fault_plain, met_named, fault_named, met_joined, fault_joined, fault_unknown, fault_stray, met_due, use_of_option, no_value, nothing_after}
-use Rattle.dj_words.proofs.OptionLaws.{and_false, named_so, unknown_option, no_numeral, given_twice}
-use Rattle.dj_words.proofs.RowLemmas.{has_row_is}
-use Rattle.dj_words.proofs.Holding.{Holds, Same, in_neither, in_both, no_command_row, with_command, with_operand, with_given, rows_job}
-use Rattle.dj_words.proofs.Holding as holding
+use Rattle.dj_command_line.specs.trusted.Words.{Word, Given, Job, Line, Plain, Joined, part_of, begins_with, is_numeral, with_option, with_plain, line_from, line_job, job_of}
+use Rattle.dj_command_line.specs.WordsApp.{app, job_in}
+use Rattle.dj_command_line.proofs.Forms.{dashes, Form, plain_form, dash_form, DashForm, stray_form, end_form, named_form, joined_form, forms, after_dash}
+use Rattle.dj_command_line.proofs.Rules.{rules, Known, Unknown, an_option, no_option, named, known_rule, command_rule, words_rule, long_rule}
+use Rattle.dj_command_line.proofs.AfterWalk.{top, fault_is, matches_are}
+use Rattle.dj_command_line.proofs.WordWalks.{met_end, fault_end, met_plain, fault_plain, met_named, fault_named, met_joined, fault_joined, fault_unknown, fault_stray, met_due, use_of_option, no_value, nothing_after}
+use Rattle.dj_command_line.proofs.OptionLaws.{and_false, named_so, unknown_option, no_numeral, given_twice}
+use Rattle.dj_command_line.proofs.RowLemmas.{has_row_is}
+use Rattle.dj_command_line.proofs.Holding.{Holds, Same, in_neither, in_both, no_command_row, with_command, with_operand, with_given, rows_job}
+use Rattle.dj_command_line.proofs.Holding as holding
 
 -- ---- the walk, word by word
 

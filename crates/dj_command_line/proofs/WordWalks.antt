@@ -9,9 +9,9 @@ use Rattle.clap.specs.Lexer.{long_of, short_of}
 use Rattle.clap.specs.Walk.{Held, Waiting, idle, option, positional, next, trailing, value, word_met, subcommand_met, subcommand_or_other, arg_by_long, arg_by_id, settled, reacted}
 use Rattle.clap.specs.Faults.{word_fault, other_fault, react_fault, settle_fault, repeat_fault, flags_fault}
 use Rattle.clap.specs.declared.error.ErrorKind.TheVariants.{UnknownArgument, InvalidValue}
-use Rattle.dj_words.proofs.Forms.{dashes}
-use Rattle.dj_words.proofs.Rules.{rules, long_rule}
-use Rattle.dj_words.proofs.AfterWalk.{top}
+use Rattle.dj_command_line.proofs.Forms.{dashes}
+use Rattle.dj_command_line.proofs.Rules.{rules, long_rule}
+use Rattle.dj_command_line.proofs.AfterWalk.{top}
 
 no_subcommand : (w : Waiting) (word : Text) → subcommand_met [] w word ≡ None
 no_subcommand idle word = refl

@@ -2,9 +2,9 @@
 use Rattle.std.specs.Prelude.{◌≡◌, ℕ, ◌==◌, List, [], ◌∷◌, Option, Some, None, map, codes}
 use Rattle.std.specs.List.{slice_split}
 use Rattle.std.proofs.Common.{refl}
-use Rattle.dj_words.specs.trusted.Words.{Word, Plain, Joined, Named, EndOfOptions, Stray, Line, line_of, part_of, Job, Check, Verify, Rewrite, Raw, Assemble, Sample, job_of}
-use Rattle.dj_words.specs.trusted.DoneJobs.{done_job_of}
-use Rattle.dj_words.specs.trusted.DoneJobs as done
+use Rattle.dj_command_line.specs.trusted.Words.{Word, Plain, Joined, Named, EndOfOptions, Stray, Line, line_of, part_of, Job, Check, Verify, Rewrite, Raw, Assemble, Sample, job_of}
+use Rattle.dj_command_line.specs.trusted.DoneJobs.{done_job_of}
+use Rattle.dj_command_line.specs.trusted.DoneJobs as done
 
 -- a line whose words stand between single spaces; two spaces have an empty word between them
 abbrev words_in : List ℕ → List Word

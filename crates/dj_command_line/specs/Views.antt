@@ -1,14 +1,14 @@
 -- The program's values as the definitions see them.
 use Rattle.std.specs.Prelude.{List, Option, map, option_map}
 use Rattle.std.specs.Borrow.{Bor}
-use Rattle.dj_words.specs.trusted.Words.{Word}
-use Rattle.dj_words.specs.trusted.DoneJobs.{DoneJob, FolderJob, Check, Verify, Raw, OnFolder, Assemble}
-use Rattle.dj_words.specs.WordsApp.{Values}
-use Rattle.dj_words.specs.declared.command.Command.{Command}
-use Rattle.dj_words.specs.declared.command.Command.TheVariants as commands
-use Rattle.dj_words.specs.declared.command.FolderCommand.{FolderCommand}
-use Rattle.dj_words.specs.declared.command.FolderCommand.TheVariants as folder_commands
-use Rattle.dj_words.specs.declared.options.Options.{Options}
+use Rattle.dj_command_line.specs.trusted.Words.{Word}
+use Rattle.dj_command_line.specs.trusted.DoneJobs.{DoneJob, FolderJob, Check, Verify, Raw, OnFolder, Assemble}
+use Rattle.dj_command_line.specs.WordsApp.{Values}
+use Rattle.dj_command_line.specs.declared.command.Command.{Command}
+use Rattle.dj_command_line.specs.declared.command.Command.TheVariants as commands
+use Rattle.dj_command_line.specs.declared.command.FolderCommand.{FolderCommand}
+use Rattle.dj_command_line.specs.declared.command.FolderCommand.TheVariants as folder_commands
+use Rattle.dj_command_line.specs.declared.options.Options.{Options}
 
 -- the job that a command does
 abbrev pub folder_job_view : FolderCommand → FolderJob

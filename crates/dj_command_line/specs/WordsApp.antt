@@ -1,8 +1,8 @@
 -- The command line as the definitions of `clap` see it, and the job of its matches.
 use Rattle.std.specs.Prelude.{ℕ, ◌&&◌, Bool, true, not, List, [], ◌∷◌, Option, Some, None, codes, is_some, option_map, option_and_then, unwrap_or, if◌then◌else◌}
-use Rattle.dj_bytes.specs.trusted.Options.{◌>>=◌}
+use Rattle.dj_cursor.specs.trusted.Options.{◌>>=◌}
 use Rattle.dj_names.specs.declared.run.Thresholds.{Thresholds}
-use Rattle.dj_words.specs.trusted.Words.{Word, Job, Verify, Raw, Setting, is_word, without_slash, number_between, check_job, rewrite_job, assemble_job, sample_job, alloc_setting, invoke_setting, jump_setting, throw_setting, steps_setting}
+use Rattle.dj_command_line.specs.trusted.Words.{Word, Job, Verify, Raw, Setting, is_word, without_slash, number_between, check_job, rewrite_job, assemble_job, sample_job, alloc_setting, invoke_setting, jump_setting, throw_setting, steps_setting}
 use Rattle.clap.specs.Words.{App, Row, Rule, Text, all_of, first_of, new_app, new_rule, with_rule}
 use Rattle.clap.specs.Simple.{on_top}
 use Rattle.clap.specs.declared.builder.action.ArgAction.TheVariants.{Append}

@@ -2,10 +2,10 @@
 
 ghost use Rattle.std.specs.Prelude.{◌≡◌, [], None, IfOk, map, string_bytes, option_map, option_and_then, if◌then◌else◌};
 ghost use Rattle.clap.specs.Words.{found_of, rows_of};
-ghost use Rattle.dj_words.specs.trusted.Words.{without_slash, check_job, assemble_job};
-ghost use Rattle.dj_words.specs.trusted.DoneJobs.{done, done_job_of};
-ghost use Rattle.dj_words.specs.WordsApp.{has_no_value, thresholds_in, steps_in, verify_in, raw_in, job_of_values, job_in};
-ghost use Rattle.dj_words.specs.Views.{job_view, texts, values_view};
+ghost use Rattle.dj_command_line.specs.trusted.Words.{without_slash, check_job, assemble_job};
+ghost use Rattle.dj_command_line.specs.trusted.DoneJobs.{done, done_job_of};
+ghost use Rattle.dj_command_line.specs.WordsApp.{has_no_value, thresholds_in, steps_in, verify_in, raw_in, job_of_values, job_in};
+ghost use Rattle.dj_command_line.specs.Views.{job_view, texts, values_view};
 
 use crate::line::read_line;
 use crate::options::Options;

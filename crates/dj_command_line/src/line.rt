@@ -4,7 +4,7 @@ ghost use Rattle.std.specs.Prelude.{◌≡◌, [], IfOk, MatchOption, map, strin
 ghost use Rattle.clap.specs.Words.{app_of, matches_of, fault_of, found_of, rows_of};
 ghost use Rattle.std.specs.Prelude.{◌≢◌};
 ghost use Rattle.clap.specs.Words.{new_app};
-ghost use Rattle.dj_words.specs.WordsApp.{app, plain_app, app_with_option, option_rule, settings};
+ghost use Rattle.dj_command_line.specs.WordsApp.{app, plain_app, app_with_option, option_rule, settings};
 
 use clap::error::ErrorKind;
 use clap::{Arg, ArgAction, ArgMatches, Command};

@@ -3,9 +3,9 @@
 ghost use Rattle.std.specs.Prelude.{◌≡◌, ◌≤◌, Some, None, length, if◌then◌else◌};
 ghost use Rattle.std.specs.Char.{is_ascii_digit};
 ghost use Rattle.std.specs.List.{list_all};
-ghost use Rattle.dj_words.specs.trusted.Words.{decimal_value, number_between};
-ghost use Rattle.dj_words.specs.WordsApp.{number_or};
-ghost use Rattle.dj_words.specs.Views.{text_given};
+ghost use Rattle.dj_command_line.specs.trusted.Words.{decimal_value, number_between};
+ghost use Rattle.dj_command_line.specs.WordsApp.{number_or};
+ghost use Rattle.dj_command_line.specs.Views.{text_given};
 
 /// The number that the digits write; none where one of them is no ASCII digit.
 fn decimal(digits: &[u8]) -> Option<u64>

@@ -2,8 +2,8 @@
 
 ghost use Rattle.std.specs.Prelude.{◌≡◌};
 ghost use Rattle.clap.specs.Words.{found_of, rows_of};
-ghost use Rattle.dj_words.specs.WordsApp.{values_of, has_no_threshold, has_no_value, thresholds_in, steps_in};
-ghost use Rattle.dj_words.specs.Views.{values_view};
+ghost use Rattle.dj_command_line.specs.WordsApp.{values_of, has_no_threshold, has_no_value, thresholds_in, steps_in};
+ghost use Rattle.dj_command_line.specs.Views.{values_view};
 
 use crate::number::number_or;
 use clap::ArgMatches;

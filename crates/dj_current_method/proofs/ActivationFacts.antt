@@ -13,11 +13,11 @@ use Rattle.dj_model.specs.trusted.Instructions.{Nop}
 use Rattle.dj_model.specs.trusted.Program.{Program, Class, Method, Body, Abstract, Runs, Code, code_of, is_initialiser}
 use Rattle.dj_model.specs.trusted.Linking.{FoundMethod}
 use Rattle.dj_stack.specs.Frames.{StackFrame}
-use Rattle.dj_types.specs.Members.{all_methods}
+use Rattle.dj_numbering.specs.Members.{all_methods}
 use Rattle.dj_image.specs.Sources.{Source, class_of_source}
 use Rattle.dj_image.specs.Imaged.{Imaged, program_of}
-use Rattle.dj_activations.specs.Activations.{declared_at, frame_seen, frames_seen, IsActivation, AreActivations}
-use Rattle.dj_activations.specs.Reported.{IsInitialiserOf}
+use Rattle.dj_current_method.specs.Activations.{declared_at, frame_seen, frames_seen, IsActivation, AreActivations}
+use Rattle.dj_current_method.specs.Reported.{IsInitialiserOf}
 
 -- ---- a class with an initialiser and an abstract method, and one with a method that is named as an initialiser is
 

@@ -16,10 +16,10 @@ use Rattle.dj_program.specs.declared.code.MethodCode.{MethodCode}
 use Rattle.dj_stack.specs.Frames.{StackFrame}
 use Rattle.dj_image.specs.Imaged.{Imaged, program_of}
 use Rattle.dj_image.specs.Codes.{HasInstr}
-use Rattle.dj_activations.specs.Activations.{declared_at, frame_seen, IsActivation}
-use Rattle.dj_activations.specs.Reported.{IsCodeOf}
-use Rattle.dj_activations.proofs.Standing.{code_of_activation}
-use Rattle.dj_activations.proofs.Rooms.{result_room}
+use Rattle.dj_current_method.specs.Activations.{declared_at, frame_seen, IsActivation}
+use Rattle.dj_current_method.specs.Reported.{IsCodeOf}
+use Rattle.dj_current_method.proofs.Standing.{code_of_activation}
+use Rattle.dj_current_method.proofs.Rooms.{result_room}
 
 -- the image has the instruction at which a frame is
 pub has_instruction : (imaged : Imaged) (f : StackFrame) (code : MethodCode) → IsCodeOf imaged f.method code → IsAt (program_of imaged) (frame_seen (program_of imaged) f)

@@ -8,7 +8,7 @@ use Rattle.dj_model.specs.trusted.Instructions.{Named}
 use Rattle.dj_model.specs.trusted.Opcodes.{instruction_of}
 use Rattle.dj_model.specs.trusted.Program.{Code}
 use Rattle.dj_model.specs.trusted.State.{instruction_in}
-use Rattle.dj_check.specs.trusted.Instructions.{index_of}
+use Rattle.dj_early_rules.specs.trusted.Instructions.{index_of}
 use Rattle.dj_program.specs.trusted.Codes.{code_in}
 use Rattle.dj_program.specs.trusted.Naming.{named_if}
 use Rattle.dj_program.specs.trusted.Naming as naming
@@ -18,8 +18,8 @@ use Rattle.dj_image.specs.Imaged.{Imaged}
 use Rattle.dj_image.specs.Codes.{PooledCode, HasInstr, IsOperandAt}
 use Rattle.dj_image.specs.Operands.{operand_of}
 use Rattle.dj_image.specs.declared.operand.Operand.{Operand}
-use Rattle.dj_activations.specs.Reported.{IsCodeOf, SaysCode}
-use Rattle.dj_activations.specs.Instructions.{HasInstruction, IsInstrAt, StandsAt, instruction_of_number}
+use Rattle.dj_current_method.specs.Reported.{IsCodeOf, SaysCode}
+use Rattle.dj_current_method.specs.Instructions.{HasInstruction, IsInstrAt, StandsAt, instruction_of_number}
 
 -- what stands at the number in the method's code
 pub stands_at : (imaged : Imaged) (method number : ℕ) (code : MethodCode) (is : IsCodeOf imaged method code) (instr : Instr) → slice_get code.code.code number ≡ Some instr

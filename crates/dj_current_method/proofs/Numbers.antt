@@ -12,12 +12,12 @@ use Rattle.dj_model.specs.trusted.Program.{Program, Class, Method, class_at, is_
 use Rattle.dj_model.specs.trusted.Linking.{FoundMethod, declared_of}
 use Rattle.dj_model.specs.Sound.{methods_differ, IsProgram}
 use Rattle.dj_model.proofs.SoundFrames.{contained}
-use Rattle.dj_declared.proofs.DescTests.{same_name_is, same_name_itself, same_desc_is, same_desc_itself}
-use Rattle.dj_classes.specs.Tables.{name_of}
-use Rattle.dj_classes.proofs.Orders.{rise-from_names_rise}
-use Rattle.dj_classes.proofs.Numbered.{class_at-at, class_number-rise}
-use Rattle.dj_types.specs.Members.{methods_in, all_methods}
-use Rattle.dj_activations.specs.Activations.{declared_or_none, declared_at}
+use Rattle.dj_declarations.proofs.DescTests.{same_name_is, same_name_itself, same_desc_is, same_desc_itself}
+use Rattle.dj_class_table.specs.Tables.{name_of}
+use Rattle.dj_class_table.proofs.Orders.{rise-from_names_rise}
+use Rattle.dj_class_table.proofs.Numbered.{class_at-at, class_number-rise}
+use Rattle.dj_numbering.specs.Members.{methods_in, all_methods}
+use Rattle.dj_current_method.specs.Activations.{declared_or_none, declared_at}
 
 -- ---- names
 

@@ -8,17 +8,17 @@ use Rattle.dj_names.specs.trusted.Descriptors.{desc_text}
 use Rattle.dj_model.specs.trusted.Types.{Declared, initialiser_name, no_parameters}
 use Rattle.dj_model.specs.trusted.Program.{Body, Abstract, Native, Runs, body_code, is_named, is_initialiser}
 use Rattle.dj_model.specs.Sound.{IsProgram}
-use Rattle.dj_declared.specs.trusted.Files.{desc_in}
-use Rattle.dj_declared.proofs.DescTests.{same_name_is, same_name_itself, same_desc_is, same_desc_itself, desc_in_is}
+use Rattle.dj_declarations.specs.trusted.Files.{desc_in}
+use Rattle.dj_declarations.proofs.DescTests.{same_name_is, same_name_itself, same_desc_is, same_desc_itself, desc_in_is}
 use Rattle.dj_program.specs.declared.code.MethodCode.{MethodCode}
-use Rattle.dj_types.specs.declared.types.MemberOf.{MemberOf}
-use Rattle.dj_types.specs.Members.{IsMethodThere}
+use Rattle.dj_numbering.specs.declared.types.MemberOf.{MemberOf}
+use Rattle.dj_numbering.specs.Members.{IsMethodThere}
 use Rattle.dj_image.specs.declared.image.Body.TheVariants as variants
 use Rattle.dj_image.specs.Imaged.{Imaged, program_of, typed_of}
 use Rattle.dj_image.specs.Codes.{SaysBody, IsBodyAt}
-use Rattle.dj_activations.specs.Activations.{declared_at}
-use Rattle.dj_activations.specs.Reported.{IsCodeOf, SaysCode, IsInitialiserOf}
-use Rattle.dj_activations.proofs.Numbers.{declared_there, code_of_number, initialiser_of_number}
+use Rattle.dj_current_method.specs.Activations.{declared_at}
+use Rattle.dj_current_method.specs.Reported.{IsCodeOf, SaysCode, IsInitialiserOf}
+use Rattle.dj_current_method.proofs.Numbers.{declared_there, code_of_number, initialiser_of_number}
 
 -- ---- code
 

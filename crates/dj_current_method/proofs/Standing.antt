@@ -5,10 +5,10 @@ use Rattle.std.proofs.lemmas.Option.{slice_get_within}
 use Rattle.dj_model.specs.trusted.Program.{code_of, body_code}
 use Rattle.dj_model.specs.Sound.{IsProgram}
 use Rattle.dj_stack.specs.Frames.{StackFrame, SameFrames, below_top, top_method}
-use Rattle.dj_types.specs.Members.{all_methods}
+use Rattle.dj_numbering.specs.Members.{all_methods}
 use Rattle.dj_image.specs.Imaged.{Imaged, program_of}
-use Rattle.dj_activations.specs.Activations.{declared_at, IsActivation, AreActivations}
-use Rattle.dj_activations.proofs.Numbers.{code_of_number}
+use Rattle.dj_current_method.specs.Activations.{declared_at, IsActivation, AreActivations}
+use Rattle.dj_current_method.proofs.Numbers.{code_of_number}
 
 -- the method's number is one of the program
 pub method_within : (imaged : Imaged) (f : StackFrame) → IsActivation imaged f → f.method < length (all_methods (program_of imaged))

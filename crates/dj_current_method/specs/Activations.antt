@@ -5,7 +5,7 @@ use Rattle.dj_model.specs.trusted.Program.{Program, Code, Runs}
 use Rattle.dj_model.specs.trusted.Linking.{FoundMethod, declared_of}
 use Rattle.dj_model.specs.trusted.State.{Frame}
 use Rattle.dj_stack.specs.Frames.{StackFrame}
-use Rattle.dj_types.specs.Members.{all_methods}
+use Rattle.dj_numbering.specs.Members.{all_methods}
 use Rattle.dj_image.specs.Imaged.{Imaged, program_of}
 
 -- ---- methods

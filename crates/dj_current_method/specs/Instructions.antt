@@ -5,11 +5,11 @@ use Rattle.dj_model.specs.trusted.Instructions.{Instruction, Named}
 use Rattle.dj_model.specs.trusted.Opcodes.{instruction_of}
 use Rattle.dj_model.specs.trusted.Program.{code_of}
 use Rattle.dj_model.specs.trusted.State.{instruction_in}
-use Rattle.dj_check.specs.trusted.Instructions.{index_of}
+use Rattle.dj_early_rules.specs.trusted.Instructions.{index_of}
 use Rattle.dj_program.specs.trusted.Naming.{named_if}
 use Rattle.dj_image.specs.Imaged.{Imaged, program_of}
 use Rattle.dj_image.specs.Codes.{PooledCode, code_at}
-use Rattle.dj_activations.specs.Activations.{declared_at}
+use Rattle.dj_current_method.specs.Activations.{declared_at}
 
 -- the instruction of a number in the method of a number
 abbrev pub instruction_of_number : Imaged → ℕ → ℕ → Option Instruction

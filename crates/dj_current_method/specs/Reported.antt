@@ -5,10 +5,10 @@ use Rattle.dj_model.specs.trusted.Program.{code_of, is_initialiser}
 use Rattle.dj_program.specs.trusted.Codes.{code_in}
 use Rattle.dj_program.specs.Views.{parts_of}
 use Rattle.dj_program.specs.declared.code.MethodCode.{MethodCode}
-use Rattle.dj_classes.specs.Tables.{name_at}
+use Rattle.dj_class_table.specs.Tables.{name_at}
 use Rattle.dj_image.specs.Codes.{code_at}
 use Rattle.dj_image.specs.Imaged.{Imaged, program_of}
-use Rattle.dj_activations.specs.Activations.{declared_at}
+use Rattle.dj_current_method.specs.Activations.{declared_at}
 
 -- the code is that of the method of this number, in the image and in the program
 pub record IsCodeOf (imaged : Imaged) (method : ℕ) (code : MethodCode) : Type 0 where

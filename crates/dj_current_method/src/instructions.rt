@@ -2,9 +2,9 @@ ghost use Rattle.std.specs.Prelude.{◌≡◌, ◌<◌, length, slice_get};
 ghost use Rattle.std.specs.Option.{option_map};
 ghost use Rattle.dj_model.specs.trusted.Instructions.{Named};
 ghost use Rattle.dj_model.specs.Sound.{IsSound};
-ghost use Rattle.dj_types.specs.Members.{all_methods};
+ghost use Rattle.dj_numbering.specs.Members.{all_methods};
 ghost use Rattle.dj_image.specs.Imaged.{program_of};
-ghost use Rattle.dj_activations.specs.Instructions.{HasInstruction, IsInstrAt};
+ghost use Rattle.dj_current_method.specs.Instructions.{HasInstruction, IsInstrAt};
 
 use crate::methods::code_of;
 use dj_image::{Image, MethodCode, MethodId};

@@ -2,10 +2,10 @@ ghost use Rattle.std.specs.Prelude.{◌≡◌, ◌<◌, ◌↔◌, IsTrue, codes
 ghost use Rattle.std.specs.Option.{option_map};
 ghost use Rattle.dj_model.specs.trusted.Program as programs;
 ghost use Rattle.dj_model.specs.Sound.{IsProgram};
-ghost use Rattle.dj_types.specs.Members.{all_methods};
+ghost use Rattle.dj_numbering.specs.Members.{all_methods};
 ghost use Rattle.dj_image.specs.Imaged.{program_of};
-ghost use Rattle.dj_activations.specs.Activations.{declared_at};
-ghost use Rattle.dj_activations.specs.Reported.{SaysCode, SaysInitialiser};
+ghost use Rattle.dj_current_method.specs.Activations.{declared_at};
+ghost use Rattle.dj_current_method.specs.Reported.{SaysCode, SaysInitialiser};
 
 use dj_image::{Body, Image, MethodCode, MethodId};
 

@@ -1,10 +1,10 @@
 -- The definitions at plain values: numbers, signed numbers and tables with their bytes, and what doesn't fit.
 use Rattle.std.proofs.Common.{◌≡◌, ◌≢◌, ℕ, ◌+◌, ◌==◌, Bool, List, [], ◌∷◌, Result, Ok, Err, pos, negsuc, refl, ap, arith}
 use Rattle.std.specs.Int.{w8, w16, w32, w64}
-use Rattle.dj_bytes.specs.declared.cursor.Cut.{Cut}
-use Rattle.dj_bytes.specs.trusted.Spelling.{u1, u2, u4, u8, s1, s2, s4, table_bytes}
-use Rattle.dj_bytes.specs.Steps.{Gives}
-use Rattle.dj_bytes.specs.Reading.{Cursor, start_of, cursor_at, bytes_at, number_at, u2_at, many_at, table_at}
+use Rattle.dj_cursor.specs.declared.cursor.Cut.{Cut}
+use Rattle.dj_cursor.specs.trusted.Spelling.{u1, u2, u4, u8, s1, s2, s4, table_bytes}
+use Rattle.dj_cursor.specs.Steps.{Gives}
+use Rattle.dj_cursor.specs.Reading.{Cursor, start_of, cursor_at, bytes_at, number_at, u2_at, many_at, table_at}
 
 -- ---- spelling
 

@@ -1,8 +1,8 @@
 -- Faults at plain values, and where there is none.
 use Rattle.std.proofs.Common.{◌≡◌, ℕ, ◌<◌, [], ◌∷◌, refl, arith}
-use Rattle.dj_bytes.specs.trusted.Spelling.{u1}
-use Rattle.dj_bytes.specs.Reading.{Cursor}
-use Rattle.dj_bytes.specs.Faults.{IsCut, IsDenied, IsAfter, IsAmong, IsLeft}
+use Rattle.dj_cursor.specs.trusted.Spelling.{u1}
+use Rattle.dj_cursor.specs.Reading.{Cursor}
+use Rattle.dj_cursor.specs.Faults.{IsCut, IsDenied, IsAfter, IsAmong, IsLeft}
 
 -- two bytes at place 7
 abbrev two : Cursor

@@ -4,15 +4,15 @@ use Rattle.std.specs.List.{flat_map}
 use Rattle.std.specs.Int.{w8, w16, w32, w64, byte_len}
 use Rattle.std.proofs.lemmas.Bool.{ltb-true, lt-ltb, eqb-true, eq-eqb}
 use Rattle.std.proofs.lemmas.List.{nil_from_length}
-use Rattle.dj_bytes.specs.declared.cursor.Cut.{Cut}
-use Rattle.dj_bytes.specs.Steps.{◌>>=◌, lifted}
-use Rattle.dj_bytes.specs.Reading.{Cursor, bytes_at, number_at, block_at, u1_at, u2_at, u4_at, u8_at, at_end, many_at, table_at}
-use Rattle.dj_bytes.specs.Faults.{after, IsCut, IsDenied, IsAmong, InTurn, InTable, IsLifted, IsLeft}
-use Rattle.dj_bytes.proofs.Bytes.{IsBytes}
-use Rattle.dj_bytes.proofs.Steps.{bind_err, bind_again, bind_fails, lifted_err, cond_either, cond_true, cond_false}
-use Rattle.dj_bytes.proofs.Spans.{Spans, IsBytes-Spans, Reads}
-use Rattle.dj_bytes.proofs.Numbers.{u2_reads}
-use Rattle.dj_bytes.proofs.Parts.{many_stops, many_halt}
+use Rattle.dj_cursor.specs.declared.cursor.Cut.{Cut}
+use Rattle.dj_cursor.specs.Steps.{◌>>=◌, lifted}
+use Rattle.dj_cursor.specs.Reading.{Cursor, bytes_at, number_at, block_at, u1_at, u2_at, u4_at, u8_at, at_end, many_at, table_at}
+use Rattle.dj_cursor.specs.Faults.{after, IsCut, IsDenied, IsAmong, InTurn, InTable, IsLifted, IsLeft}
+use Rattle.dj_cursor.proofs.Bytes.{IsBytes}
+use Rattle.dj_cursor.proofs.Steps.{bind_err, bind_again, bind_fails, lifted_err, cond_either, cond_true, cond_false}
+use Rattle.dj_cursor.proofs.Spans.{Spans, IsBytes-Spans, Reads}
+use Rattle.dj_cursor.proofs.Numbers.{u2_reads}
+use Rattle.dj_cursor.proofs.Parts.{many_stops, many_halt}
 
 pub record Refuses {B E : Type 0} (part : Cursor → Result B E) (Fault : Cursor → E → Type 0) : Type 0 where
   pub says : (c : Cursor) (e : E) → IsBytes c.rest → part c ≡ Err e → Fault c e

@@ -1,10 +1,10 @@
 -- Which faults a reader never has.
 use Rattle.std.proofs.Common.{◌≡◌, ℕ, zero, suc, Bool, cond, Result, Ok, Err, refl, sym, subst}
 use Rattle.std.specs.Int.{w16}
-use Rattle.dj_bytes.specs.declared.cursor.Cut.{Cut}
-use Rattle.dj_bytes.specs.Steps.{◌>>=◌, lifted}
-use Rattle.dj_bytes.specs.Reading.{Cursor, number_at, u2_at, many_at, table_at}
-use Rattle.dj_bytes.proofs.Steps.{guard_err}
+use Rattle.dj_cursor.specs.declared.cursor.Cut.{Cut}
+use Rattle.dj_cursor.specs.Steps.{◌>>=◌, lifted}
+use Rattle.dj_cursor.specs.Reading.{Cursor, number_at, u2_at, many_at, table_at}
+use Rattle.dj_cursor.proofs.Steps.{guard_err}
 
 -- an error of another kind, if any
 pub record Never {A E : Type 0} (Bad : E → Type 0) (r : Result A E) : Type 0 where

@@ -1,9 +1,9 @@
 -- Reading parts one after the other, as a loop does.
 use Rattle.std.proofs.Common.{◌≡◌, ℕ, Bool, suc, ◌-◌, ◌+◌, ◌≤◌, ◌<◌, List, [], ◌∷◌, ◌++◌, Result, Ok, Err, refl, sym, ap, subst, ◌∙◌, append_assoc, arith}
 use Rattle.std.proofs.lemmas.List.{append-nil}
-use Rattle.dj_bytes.specs.Steps.{◌>>=◌, Fails}
-use Rattle.dj_bytes.specs.Reading.{Cursor, many_at}
-use Rattle.dj_bytes.proofs.Steps.{fails_then}
+use Rattle.dj_cursor.specs.Steps.{◌>>=◌, Fails}
+use Rattle.dj_cursor.specs.Reading.{Cursor, many_at}
+use Rattle.dj_cursor.proofs.Steps.{fails_then}
 
 -- what was read before, and what is still read
 abbrev pub with_prefix : {A E : Type 0} → List A → Result (List A × Cursor) E → Result (List A × Cursor) E

@@ -4,12 +4,12 @@ use Rattle.std.specs.Int.{Width, w8, w16, w32, w64, byte_len, from_be_bytes, to_
 use Rattle.std.proofs.lemmas.Bool.{ltb-true, ltb-false, le-ltb, lt-ltb}
 use Rattle.std.proofs.lemmas.List.{take_at, drop_at, take-append-drop, length-append, length-take}
 use Rattle.std.proofs.lemmas.Nat.{be_bytes_2, be_bytes_4, be_bytes_8, from_be_bytes-to_be_bytes_2, from_be_bytes-to_be_bytes_4, from_be_bytes-to_be_bytes_8}
-use Rattle.dj_bytes.specs.declared.cursor.Cut.{Cut}
-use Rattle.dj_bytes.specs.trusted.Spelling.{u1, u2, u4, u8}
-use Rattle.dj_bytes.specs.Reading.{Cursor, bytes_at, number_at, block_at, u1_at, u2_at, u4_at, u8_at}
-use Rattle.dj_bytes.proofs.Bytes.{IsBytes, IsBytes-before}
-use Rattle.dj_bytes.proofs.Steps.{bind_ok, bind_again, bind_err, bind_fails, cond_either, cond_true, cond_false}
-use Rattle.dj_bytes.proofs.Spans.{Spans, Reads, Reads-spelled, lifted_reads}
+use Rattle.dj_cursor.specs.declared.cursor.Cut.{Cut}
+use Rattle.dj_cursor.specs.trusted.Spelling.{u1, u2, u4, u8}
+use Rattle.dj_cursor.specs.Reading.{Cursor, bytes_at, number_at, block_at, u1_at, u2_at, u4_at, u8_at}
+use Rattle.dj_cursor.proofs.Bytes.{IsBytes, IsBytes-before}
+use Rattle.dj_cursor.proofs.Steps.{bind_ok, bind_again, bind_err, bind_fails, cond_either, cond_true, cond_false}
+use Rattle.dj_cursor.proofs.Spans.{Spans, Reads, Reads-spelled, lifted_reads}
 
 -- ---- this many bytes
 

@@ -1,13 +1,13 @@
 -- Many parts, and tables: what is read is spelled so, what is spelled so is read, and where reading stops.
 use Rattle.std.proofs.Common.{◌≡◌, ℕ, zero, suc, ◌^◌, ◌<◌, List, [], ◌∷◌, ◌++◌, length, Result, Ok, Err, refl, sym, ap, subst, ◌∙◌, arith}
 use Rattle.std.specs.List.{flat_map, AllByRecursion}
-use Rattle.dj_bytes.specs.trusted.Spelling.{u2, table_bytes}
-use Rattle.dj_bytes.specs.Reading.{Cursor, many_at, table_at}
-use Rattle.dj_bytes.specs.Faults.{AreFew}
-use Rattle.dj_bytes.proofs.Bytes.{IsBytes}
-use Rattle.dj_bytes.proofs.Steps.{bind_ok, bind_again, bind_err, bind_fails}
-use Rattle.dj_bytes.proofs.Spans.{Spans, Spans-none, Spans-then, Spans-stay, IsBytes-Spans, Reads, step_takes, step_again}
-use Rattle.dj_bytes.proofs.Numbers.{u2_reads}
+use Rattle.dj_cursor.specs.trusted.Spelling.{u2, table_bytes}
+use Rattle.dj_cursor.specs.Reading.{Cursor, many_at, table_at}
+use Rattle.dj_cursor.specs.Faults.{AreFew}
+use Rattle.dj_cursor.proofs.Bytes.{IsBytes}
+use Rattle.dj_cursor.proofs.Steps.{bind_ok, bind_again, bind_err, bind_fails}
+use Rattle.dj_cursor.proofs.Spans.{Spans, Spans-none, Spans-then, Spans-stay, IsBytes-Spans, Reads, step_takes, step_again}
+use Rattle.dj_cursor.proofs.Numbers.{u2_reads}
 
 -- ---- many parts
 

@@ -2,9 +2,9 @@
 use Rattle.std.proofs.Common.{◌≡◌, ℕ, ℤ, ◌^◌, ◌<◌, List, [], ◌∷◌, length, FitsSigned, ap, ◌∙◌, arith}
 use Rattle.std.specs.Int.{w8, w16, w32, from_be_bytes, to_be_bytes, cast_signed, cast_unsigned}
 use Rattle.std.proofs.lemmas.Int.{of_z-to_z, to_z-of_z, ints}
-use Rattle.dj_bytes.specs.trusted.Spelling.{s1, s2, s4}
-use Rattle.dj_bytes.proofs.Bytes.{IsBytes}
-use Rattle.dj_bytes.proofs.Numbers.{wide16, wide32}
+use Rattle.dj_cursor.specs.trusted.Spelling.{s1, s2, s4}
+use Rattle.dj_cursor.proofs.Bytes.{IsBytes}
+use Rattle.dj_cursor.proofs.Numbers.{wide16, wide32}
 
 -- ---- bytes are spelled by the signed number that they are
 

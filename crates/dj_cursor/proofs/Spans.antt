@@ -1,10 +1,10 @@
 -- Reading from a place to a later one, the bytes between, and the law that ties a reader to a spelling.
 use Rattle.std.proofs.Common.{◌≡◌, ℕ, ◌+◌, List, [], ◌++◌, length, Result, Ok, refl, sym, ap, subst, ap₂, ◌∙◌, append_assoc, append-nil, arith}
 use Rattle.std.proofs.lemmas.List.{length-append}
-use Rattle.dj_bytes.specs.Steps.{◌>>=◌, lifted}
-use Rattle.dj_bytes.specs.Reading.{Cursor}
-use Rattle.dj_bytes.proofs.Bytes.{IsBytes, IsBytes-after}
-use Rattle.dj_bytes.proofs.Steps.{bind_ok, lifted_ok}
+use Rattle.dj_cursor.specs.Steps.{◌>>=◌, lifted}
+use Rattle.dj_cursor.specs.Reading.{Cursor}
+use Rattle.dj_cursor.proofs.Bytes.{IsBytes, IsBytes-after}
+use Rattle.dj_cursor.proofs.Steps.{bind_ok, lifted_ok}
 
 -- ---- from a place to a later one
 

@@ -1,6 +1,6 @@
 -- Steps that may fail, one after the other.
 use Rattle.std.proofs.Common.{◌≡◌, Bool, true, false, cond, Result, Ok, Err, refl, ap, ◌∙◌}
-use Rattle.dj_bytes.specs.Steps.{◌>>=◌, lifted, Fails}
+use Rattle.dj_cursor.specs.Steps.{◌>>=◌, lifted, Fails}
 
 -- the value of a step that did not fail
 pub bind_ok : {A B E : Type 0} {r : Result A E} {f : A → Result B E} {y : B} → (r >>= f) ≡ Ok y → (x : A) × (r ≡ Ok x) × (f x ≡ Ok y)

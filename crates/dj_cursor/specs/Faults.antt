@@ -2,8 +2,8 @@
 -- and what is reported; the items before the faulty one are whole and good.
 use Rattle.std.specs.Prelude.{◌≡◌, ℕ, ◌+◌, ◌^◌, ◌<◌, ◌⊎◌, List, [], ◌++◌, length}
 use Rattle.std.specs.List.{flat_map, AllByRecursion}
-use Rattle.dj_bytes.specs.trusted.Spelling.{u2}
-use Rattle.dj_bytes.specs.Reading.{Cursor}
+use Rattle.dj_cursor.specs.trusted.Spelling.{u2}
+use Rattle.dj_cursor.specs.Reading.{Cursor}
 
 -- where the reader is after these bytes, with this left
 abbrev pub after : Cursor → List ℕ → List ℕ → Cursor

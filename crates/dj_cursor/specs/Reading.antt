@@ -1,8 +1,8 @@
 -- Reading lists of bytes from left to right: the first item that doesn't fit is reported by its place.
 use Rattle.std.specs.Prelude.{ℕ, zero, suc, ◌+◌, ◌==◌, Bool, List, [], ◌∷◌, length, take, drop, Result, Ok, Err, nat_lt, if◌then◌else◌}
 use Rattle.std.specs.Int.{Width, w8, w16, w32, w64, byte_len, from_be_bytes}
-use Rattle.dj_bytes.specs.declared.cursor.Cut.{Cut}
-use Rattle.dj_bytes.specs.Steps.{◌>>=◌, lifted}
+use Rattle.dj_cursor.specs.declared.cursor.Cut.{Cut}
+use Rattle.dj_cursor.specs.Steps.{◌>>=◌, lifted}
 
 -- where a reader is: a place, and the bytes from there on
 pub record Cursor : Type 0 where

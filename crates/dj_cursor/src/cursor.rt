@@ -14,9 +14,9 @@ pub struct Cursor<'a> {
 
 impl<'a> Cursor<'a> {
     ghost use Rattle.std.specs.Int.{w8, w16, w32, w64};
-    ghost use Rattle.dj_bytes.specs.Steps.{never, Gives};
-    ghost use Rattle.dj_bytes.specs.Reading.{start_of, cursor_at, at_end, bytes_at, number_at};
-    ghost use Rattle.dj_bytes.specs.Views.{cursor_of};
+    ghost use Rattle.dj_cursor.specs.Steps.{never, Gives};
+    ghost use Rattle.dj_cursor.specs.Reading.{start_of, cursor_at, at_end, bytes_at, number_at};
+    ghost use Rattle.dj_cursor.specs.Views.{cursor_of};
 
     /// All of the bytes, from place 0 on.
     pub fn start(bytes: &'a [u8]) -> Cursor<'a>

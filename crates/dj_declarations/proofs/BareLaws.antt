@@ -2,13 +2,13 @@
 use Rattle.std.proofs.Common.{◌≡◌, List, [], ◌∷◌, map, refl, ap, ◌∙◌}
 use Rattle.dj_model.specs.trusted.Program.{Class, Method, Field, Body}
 use Rattle.dj_model.specs.Program.{body_map}
-use Rattle.dj_declared.specs.declared.members.MemberBody.{MemberBody}
-use Rattle.dj_declared.specs.declared.members.MemberBody.TheVariants as bodies
-use Rattle.dj_declared.specs.declared.members.MemberRow.{MemberRow}
-use Rattle.dj_declared.specs.trusted.Files.{no_code}
-use Rattle.dj_declared.specs.Files.{bare_method, bare_field, bare_class}
-use Rattle.dj_declared.specs.MemberRows.{body_of, row_method, row_field}
-use Rattle.dj_declared.specs.Texts.{Numbers}
+use Rattle.dj_declarations.specs.declared.members.MemberBody.{MemberBody}
+use Rattle.dj_declarations.specs.declared.members.MemberBody.TheVariants as bodies
+use Rattle.dj_declarations.specs.declared.members.MemberRow.{MemberRow}
+use Rattle.dj_declarations.specs.trusted.Files.{no_code}
+use Rattle.dj_declarations.specs.Files.{bare_method, bare_field, bare_class}
+use Rattle.dj_declarations.specs.MemberRows.{body_of, row_method, row_field}
+use Rattle.dj_declarations.specs.Texts.{Numbers}
 
 bare_body : (body : MemberBody) → body_map (λ code. no_code) (body_of body) ≡ body_of body
 bare_body bodies.Empty = refl

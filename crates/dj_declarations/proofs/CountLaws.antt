@@ -13,13 +13,13 @@ use Rattle.dj_names.specs.trusted.Types.{Name}
 use Rattle.dj_names.specs.trusted.Descriptors.{Describes}
 use Rattle.dj_model.specs.trusted.Program.{Field, is_static, is_named}
 use Rattle.dj_model.specs.trusted.Linking.{count_fields, fields_before}
-use Rattle.dj_declared.specs.declared.members.MemberRow.{MemberRow}
-use Rattle.dj_declared.specs.trusted.Files.{desc_in}
-use Rattle.dj_declared.specs.Members.{IsDescriptor}
-use Rattle.dj_declared.specs.Texts.{Numbers, number_in, text_in, LeadBack}
-use Rattle.dj_declared.specs.MemberRows.{row_field, IsSound, is_row, first_row, instance_rows, AreCounts}
-use Rattle.dj_declared.proofs.DescTests.{descriptor_read}
-use Rattle.dj_declared.proofs.LookupLaws.{named_same}
+use Rattle.dj_declarations.specs.declared.members.MemberRow.{MemberRow}
+use Rattle.dj_declarations.specs.trusted.Files.{desc_in}
+use Rattle.dj_declarations.specs.Members.{IsDescriptor}
+use Rattle.dj_declarations.specs.Texts.{Numbers, number_in, text_in, LeadBack}
+use Rattle.dj_declarations.specs.MemberRows.{row_field, IsSound, is_row, first_row, instance_rows, AreCounts}
+use Rattle.dj_declarations.proofs.DescTests.{descriptor_read}
+use Rattle.dj_declarations.proofs.LookupLaws.{named_same}
 
 static_test : (flags : ℕ) → nat_eq (bit_and flags 8) 0 ≡ not (is_static flags)
 static_test flags = let bit = and_pow flags 3 in let lt = bit_at-lt flags 3 in grind (arith, nat_tests)

@@ -16,8 +16,8 @@ use Rattle.dj_names.specs.trusted.Descriptors.{desc_text, base_letter, IsDesc, D
 use Rattle.dj_names.specs.trusted.DescReading.{desc_read}
 use Rattle.dj_names.proofs.DescLaws.{desc_takes, desc_again}
 use Rattle.dj_model.specs.trusted.Types.{no_parameters}
-use Rattle.dj_declared.specs.trusted.Files.{desc_in}
-use Rattle.dj_declared.specs.Members.{IsDescriptor}
+use Rattle.dj_declarations.specs.trusted.Files.{desc_in}
+use Rattle.dj_declarations.specs.Members.{IsDescriptor}
 
 -- ---- the tests of equality
 

@@ -17,10 +17,10 @@ use Rattle.dj_class.specs.trusted.ClassFile.{MemberInfo, ClassFile}
 use Rattle.dj_model.specs.trusted.Types.{no_parameters}
 use Rattle.dj_model.specs.trusted.Program.{Method, Body, Abstract, Native, Runs, method_in, field_in}
 use Rattle.dj_model.specs.trusted.Libraries.{library_class}
-use Rattle.dj_declared.specs.trusted.Files.{desc_in, type_in, no_code, is_bodiless, declared_class}
-use Rattle.dj_declared.specs.trusted.Members.{has_method_named}
-use Rattle.dj_declared.specs.Members.{IsDescriptor, method_flags, field_flags}
-use Rattle.dj_declared.proofs.DescTests.{descriptor_read, read_descriptor}
+use Rattle.dj_declarations.specs.trusted.Files.{desc_in, type_in, no_code, is_bodiless, declared_class}
+use Rattle.dj_declarations.specs.trusted.Members.{has_method_named}
+use Rattle.dj_declarations.specs.Members.{IsDescriptor, method_flags, field_flags}
+use Rattle.dj_declarations.proofs.DescTests.{descriptor_read, read_descriptor}
 
 abbrev int : Ty
 int = base_type bases.Int

@@ -19,15 +19,15 @@ use Rattle.dj_class.specs.declared.class.MemberView.{MemberView}
 use Rattle.dj_class.specs.Members.{member_of}
 use Rattle.dj_class.specs.trusted.ClassFile.{MemberInfo, IsMember, IsField, IsMethod}
 use Rattle.dj_model.specs.trusted.Program.{Abstract, Runs, has_flag}
-use Rattle.dj_declared.specs.declared.members.MemberBody.{MemberBody}
-use Rattle.dj_declared.specs.declared.members.MemberBody.TheVariants as bodies
-use Rattle.dj_declared.specs.declared.members.MemberRow.{MemberRow}
-use Rattle.dj_declared.specs.trusted.Files.{desc_in, name_in, no_code, is_bodiless, declared_method, declared_field}
-use Rattle.dj_declared.specs.Members.{IsDescriptor}
-use Rattle.dj_declared.specs.Texts.{Numbers, number_in, text_in, NumbersKeep}
-use Rattle.dj_declared.specs.MemberRows.{body_of, row_method, row_field, IsSound, AreSound, number_at, AreNumbered, IsNamed, AreNamed, kept_body, method_row_of, field_row_of}
-use Rattle.dj_declared.proofs.DescTests.{is_descriptor, read_descriptor}
-use Rattle.dj_declared.proofs.TextLaws.{leads_back}
+use Rattle.dj_declarations.specs.declared.members.MemberBody.{MemberBody}
+use Rattle.dj_declarations.specs.declared.members.MemberBody.TheVariants as bodies
+use Rattle.dj_declarations.specs.declared.members.MemberRow.{MemberRow}
+use Rattle.dj_declarations.specs.trusted.Files.{desc_in, name_in, no_code, is_bodiless, declared_method, declared_field}
+use Rattle.dj_declarations.specs.Members.{IsDescriptor}
+use Rattle.dj_declarations.specs.Texts.{Numbers, number_in, text_in, NumbersKeep}
+use Rattle.dj_declarations.specs.MemberRows.{body_of, row_method, row_field, IsSound, AreSound, number_at, AreNumbered, IsNamed, AreNamed, kept_body, method_row_of, field_row_of}
+use Rattle.dj_declarations.proofs.DescTests.{is_descriptor, read_descriptor}
+use Rattle.dj_declarations.proofs.TextLaws.{leads_back}
 
 -- ---- the numbers of the pool's texts
 

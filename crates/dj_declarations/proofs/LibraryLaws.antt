@@ -8,16 +8,16 @@ use Rattle.dj_names.specs.declared.native.NativeId.{NativeId}
 use Rattle.dj_names.specs.trusted.Types.{Name}
 use Rattle.dj_names.specs.trusted.Descriptors.{desc_text, IsDesc, Describes}
 use Rattle.dj_names.specs.trusted.DescReading.{desc_read}
-use Rattle.dj_natives.specs.declared.library.LibMethod.{LibMethod}
-use Rattle.dj_natives.specs.Views.{library_method_view}
+use Rattle.dj_library_types.specs.declared.library.LibMethod.{LibMethod}
+use Rattle.dj_library_types.specs.Views.{library_method_view}
 use Rattle.dj_model.specs.trusted.Program.{Method}
 use Rattle.dj_model.specs.trusted.Libraries.{library_body, library_method}
-use Rattle.dj_declared.specs.declared.members.MemberRow.{MemberRow}
-use Rattle.dj_declared.specs.trusted.Files.{desc_in}
-use Rattle.dj_declared.specs.Texts.{Numbers, number_in, text_in}
-use Rattle.dj_declared.specs.MemberRows.{body_of, row_method, IsSound, AreSound, IsRowOf, AreRowsOf, native_body}
-use Rattle.dj_declared.proofs.TextLaws.{leads_back}
-use Rattle.dj_declared.proofs.DescTests.{desc_in_text, is_descriptor, read_descriptor}
+use Rattle.dj_declarations.specs.declared.members.MemberRow.{MemberRow}
+use Rattle.dj_declarations.specs.trusted.Files.{desc_in}
+use Rattle.dj_declarations.specs.Texts.{Numbers, number_in, text_in}
+use Rattle.dj_declarations.specs.MemberRows.{body_of, row_method, IsSound, AreSound, IsRowOf, AreRowsOf, native_body}
+use Rattle.dj_declarations.proofs.TextLaws.{leads_back}
+use Rattle.dj_declarations.proofs.DescTests.{desc_in_text, is_descriptor, read_descriptor}
 
 -- ---- a method
 

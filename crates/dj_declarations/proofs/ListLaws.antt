@@ -10,7 +10,7 @@ use Rattle.std.proofs.lemmas.Option.{get_or_from_slice_get}
 use Rattle.dj_names.specs.trusted.Types.{Name}
 use Rattle.dj_pool.specs.trusted.Pool.{Constant, text_at}
 use Rattle.dj_class.specs.trusted.Names.{names_in}
-use Rattle.dj_declared.specs.Lists.{listed_at, AreListed, NamesKeep, AreCopies}
+use Rattle.dj_declarations.specs.Lists.{listed_at, AreListed, NamesKeep, AreCopies}
 
 first_some : (found : Option Name) (name : Name) (rest : List (Option Name)) (names : List (Option Name)) → found ∷ rest ≡ Some name ∷ names → found ≡ Some name
 first_some found name rest names e = cc

@@ -8,15 +8,15 @@ use Rattle.std.proofs.lemmas.List.Elements.{recursion_from_All}
 use Rattle.std.proofs.lemmas.Option.{slice_get-map}
 use Rattle.dj_names.specs.trusted.Types.{Name, same_name, same_desc}
 use Rattle.dj_model.specs.trusted.Program.{is_named, method_in, field_in}
-use Rattle.dj_declared.specs.declared.members.MemberRow.{MemberRow}
-use Rattle.dj_declared.specs.trusted.Files.{desc_in}
-use Rattle.dj_declared.specs.trusted.Members.{has_method_named}
-use Rattle.dj_declared.specs.Members.{IsDescriptor, method_place, field_place, method_flags, field_flags}
-use Rattle.dj_declared.specs.Texts.{Numbers, number_in, text_in, LeadBack}
-use Rattle.dj_declared.specs.MemberRows.{row_method, row_field, IsSound, is_row, first_row, place_named}
-use Rattle.dj_declared.specs.Named.{IsNamedBy}
-use Rattle.dj_declared.proofs.TextLaws.{number_within}
-use Rattle.dj_declared.proofs.DescTests.{same_name_is, same_name_itself, same_texts, same_descriptors, descriptor_read}
+use Rattle.dj_declarations.specs.declared.members.MemberRow.{MemberRow}
+use Rattle.dj_declarations.specs.trusted.Files.{desc_in}
+use Rattle.dj_declarations.specs.trusted.Members.{has_method_named}
+use Rattle.dj_declarations.specs.Members.{IsDescriptor, method_place, field_place, method_flags, field_flags}
+use Rattle.dj_declarations.specs.Texts.{Numbers, number_in, text_in, LeadBack}
+use Rattle.dj_declarations.specs.MemberRows.{row_method, row_field, IsSound, is_row, first_row, place_named}
+use Rattle.dj_declarations.specs.Named.{IsNamedBy}
+use Rattle.dj_declarations.proofs.TextLaws.{number_within}
+use Rattle.dj_declarations.proofs.DescTests.{same_name_is, same_name_itself, same_texts, same_descriptors, descriptor_read}
 
 abbrev later : ℕ → ℕ
 later place = place + 1

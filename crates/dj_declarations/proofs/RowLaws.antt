@@ -9,8 +9,8 @@ use Rattle.std.proofs.lemmas.List.{length_push, get_or_append_left, get_or_defau
 use Rattle.std.proofs.lemmas.List.Sorted.{All-permutation, Contains-permutation, IsPartitionedBy-ltb}
 use Rattle.std.proofs.lemmas.Option.{same_Some, get_or_from_slice_get, slice_get_read, slice_get_past}
 use Rattle.std.proofs.Math.Seq.{get_or-append_seam}
-use Rattle.dj_declared.specs.declared.members.MemberRow.{MemberRow}
-use Rattle.dj_declared.specs.MemberRows.{is_row, first_row, pair_of, key_by, key_at, IsAnswer, AreCounted, AreOrdered}
+use Rattle.dj_declarations.specs.declared.members.MemberRow.{MemberRow}
+use Rattle.dj_declarations.specs.MemberRows.{is_row, first_row, pair_of, key_by, key_at, IsAnswer, AreCounted, AreOrdered}
 
 abbrev later : ℕ → ℕ
 later place = place + 1

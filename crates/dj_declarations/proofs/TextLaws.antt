@@ -13,8 +13,8 @@ use Rattle.std.proofs.lemmas.List.{length_push, length-drop, get_or_append_left,
 use Rattle.std.proofs.lemmas.Option.{same_Some, none-some}
 use Rattle.std.proofs.Math.Seq.{get_or-append_seam, drop-append_seam}
 use Rattle.dj_names.specs.trusted.Types.{Name, same_name}
-use Rattle.dj_declared.specs.Texts.{Numbers, number_in, text_in, LeadBack, NumbersKeep, AreAscending, AreBefore, texts_from, AreEnds, start_at}
-use Rattle.dj_declared.proofs.DescTests.{same_name_is, same_name_itself}
+use Rattle.dj_declarations.specs.Texts.{Numbers, number_in, text_in, LeadBack, NumbersKeep, AreAscending, AreBefore, texts_from, AreEnds, start_at}
+use Rattle.dj_declarations.proofs.DescTests.{same_name_is, same_name_itself}
 
 abbrev next : ℕ → ℕ
 next number = number + 1

@@ -2,7 +2,7 @@
 use Rattle.std.specs.Prelude.{map, None}
 use Rattle.dj_model.specs.trusted.Program.{Class, Method, Field}
 use Rattle.dj_model.specs.Program.{body_map}
-use Rattle.dj_declared.specs.trusted.Files.{no_code}
+use Rattle.dj_declarations.specs.trusted.Files.{no_code}
 
 -- ---- without code and constants
 

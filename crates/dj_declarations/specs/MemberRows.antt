@@ -9,11 +9,11 @@ use Rattle.dj_names.specs.declared.native.NativeId.{NativeId}
 use Rattle.dj_pool.specs.trusted.Pool.{Constant, text_at}
 use Rattle.dj_class.specs.trusted.ClassFile.{MemberInfo}
 use Rattle.dj_model.specs.trusted.Program.{Method, Field, Body, Abstract, Native, Runs, is_static}
-use Rattle.dj_declared.specs.declared.members.MemberBody.{MemberBody}
-use Rattle.dj_declared.specs.declared.members.MemberBody.TheVariants as bodies
-use Rattle.dj_declared.specs.declared.members.MemberRow.{MemberRow}
-use Rattle.dj_declared.specs.trusted.Files.{desc_in, no_code, is_bodiless}
-use Rattle.dj_declared.specs.Texts.{Numbers, number_in, text_in}
+use Rattle.dj_declarations.specs.declared.members.MemberBody.{MemberBody}
+use Rattle.dj_declarations.specs.declared.members.MemberBody.TheVariants as bodies
+use Rattle.dj_declarations.specs.declared.members.MemberRow.{MemberRow}
+use Rattle.dj_declarations.specs.trusted.Files.{desc_in, no_code, is_bodiless}
+use Rattle.dj_declarations.specs.Texts.{Numbers, number_in, text_in}
 
 -- ---- what a row stands for
 

@@ -7,7 +7,7 @@ use Rattle.dj_names.specs.trusted.Types.{Name}
 use Rattle.dj_names.specs.trusted.Descriptors.{Describes}
 use Rattle.dj_model.specs.trusted.Program.{Method, Field, Body, Native, is_named}
 use Rattle.dj_model.specs.trusted.Linking.{has_body}
-use Rattle.dj_declared.specs.trusted.Files.{desc_in}
+use Rattle.dj_declarations.specs.trusted.Files.{desc_in}
 
 -- the text is a descriptor
 abbrev pub IsDescriptor : List ℕ → Type 0

@@ -4,7 +4,7 @@ use Rattle.dj_names.specs.declared.descriptor.Desc.{Desc}
 use Rattle.dj_names.specs.trusted.Types.{Name}
 use Rattle.dj_names.specs.trusted.Descriptors.{Describes}
 use Rattle.dj_model.specs.trusted.Program.{Method, Field}
-use Rattle.dj_declared.specs.Texts.{text_in}
+use Rattle.dj_declarations.specs.Texts.{text_in}
 
 pub record NamedMembers : Type 0 where
   pub texts : List Name

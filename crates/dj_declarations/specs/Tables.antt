@@ -1,8 +1,8 @@
 -- Used by the code alone: the members of a class, as the definitions see them.
 use Rattle.std.specs.Prelude.{◌≡◌, List, map}
 use Rattle.dj_model.specs.trusted.Program.{Method, Field}
-use Rattle.dj_declared.specs.declared.tables.ClassMembers.{ClassMembers}
-use Rattle.dj_declared.specs.MemberRows.{row_method, row_field}
+use Rattle.dj_declarations.specs.declared.tables.ClassMembers.{ClassMembers}
+use Rattle.dj_declarations.specs.MemberRows.{row_method, row_field}
 
 abbrev pub methods_of : ClassMembers → List Method
 methods_of members = map (row_method members.texts) members.methods.rows.items

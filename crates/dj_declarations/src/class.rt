@@ -3,14 +3,14 @@ ghost use Rattle.std.specs.Option.{option_map};
 ghost use Rattle.dj_names.specs.trusted.Descriptors.{IsDesc, Describes};
 ghost use Rattle.dj_class.specs.trusted.ClassFile.{IsValid};
 ghost use Rattle.dj_class.specs.Views.{class_of};
-ghost use Rattle.dj_natives.specs.Views.{library_class_view};
+ghost use Rattle.dj_library_types.specs.Views.{library_class_view};
 ghost use Rattle.dj_model.specs.trusted.Program.{method_in, field_in};
 ghost use Rattle.dj_model.specs.trusted.Linking.{count_fields, fields_before};
 ghost use Rattle.dj_model.specs.trusted.Libraries.{library_class};
-ghost use Rattle.dj_declared.specs.trusted.Files.{desc_in, declared_class};
-ghost use Rattle.dj_declared.specs.Files.{bare_class};
-ghost use Rattle.dj_declared.specs.trusted.Members.{has_method_named};
-ghost use Rattle.dj_declared.specs.Members.{IsDescriptor, method_flags, method_name, method_has_body, method_native, field_flags, field_name, method_place, field_place};
+ghost use Rattle.dj_declarations.specs.trusted.Files.{desc_in, declared_class};
+ghost use Rattle.dj_declarations.specs.Files.{bare_class};
+ghost use Rattle.dj_declarations.specs.trusted.Members.{has_method_named};
+ghost use Rattle.dj_declarations.specs.Members.{IsDescriptor, method_flags, method_name, method_has_body, method_native, field_flags, field_name, method_place, field_place};
 
 use crate::error::DeclareError;
 use crate::file::file_members;
@@ -20,8 +20,8 @@ use crate::listed::{ListedNames, class_names, copied_names};
 use crate::named::MemberTexts;
 use crate::tables::ClassMembers;
 use dj_class::ClassView;
+use dj_library_types::LibClass;
 use dj_names::{Name, NativeId};
-use dj_natives::LibClass;
 use std::alloc::Global;
 use std::marker::Model;
 
@@ -38,8 +38,8 @@ pub struct DeclaredClass {
 
 impl Model for DeclaredClass {
     ghost use Rattle.dj_model.specs.trusted.Program.{Class};
-    ghost use Rattle.dj_declared.specs.Lists.{listed_at};
-    ghost use Rattle.dj_declared.specs.Tables.{methods_of, fields_of};
+    ghost use Rattle.dj_declarations.specs.Lists.{listed_at};
+    ghost use Rattle.dj_declarations.specs.Tables.{methods_of, fields_of};
 
     ghost Value = { Class };
 

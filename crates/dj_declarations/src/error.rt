@@ -12,7 +12,7 @@ pub enum DeclareError {
 }
 
 impl From<AllocError> for DeclareError {
-    ghost use Rattle.dj_declared.specs.declared.error.DeclareError.TheVariants.{Memory};
+    ghost use Rattle.dj_declarations.specs.declared.error.DeclareError.TheVariants.{Memory};
 
     ghost from_gives = { λ _ e. e ≡ Memory };
 
@@ -22,7 +22,7 @@ impl From<AllocError> for DeclareError {
 }
 
 impl<T: Drop> From<AllocFailed<T>> for DeclareError {
-    ghost use Rattle.dj_declared.specs.declared.error.DeclareError.TheVariants.{Memory};
+    ghost use Rattle.dj_declarations.specs.declared.error.DeclareError.TheVariants.{Memory};
 
     ghost from_gives = { λ _ e. e ≡ Memory };
 

@@ -4,9 +4,9 @@ ghost use Rattle.dj_pool.specs.trusted.Pool.{text_at};
 ghost use Rattle.dj_class.specs.trusted.ClassFile.{IsValid};
 ghost use Rattle.dj_class.specs.Members.{member_of};
 ghost use Rattle.dj_class.specs.Views.{class_of};
-ghost use Rattle.dj_declared.specs.trusted.Files.{declared_method, declared_field};
-ghost use Rattle.dj_declared.specs.MemberRows.{AreNumbered, IsNamed, AreNamed, kept_body, member_row_of, method_row_of, field_row_of};
-ghost use Rattle.dj_declared.specs.Tables.{AreMembers};
+ghost use Rattle.dj_declarations.specs.trusted.Files.{declared_method, declared_field};
+ghost use Rattle.dj_declarations.specs.MemberRows.{AreNumbered, IsNamed, AreNamed, kept_body, member_row_of, method_row_of, field_row_of};
+ghost use Rattle.dj_declarations.specs.Tables.{AreMembers};
 
 use crate::error::DeclareError;
 use crate::members::{MemberBody, MemberRow, MemberTable};

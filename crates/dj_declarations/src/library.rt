@@ -1,19 +1,19 @@
 //! The members of a class of a library.
 ghost use Rattle.std.specs.Prelude.{◌≡◌, [], All, Some, IfOk, map};
 ghost use Rattle.dj_names.specs.trusted.Descriptors.{IsDesc};
-ghost use Rattle.dj_natives.specs.Views.{library_method_view};
+ghost use Rattle.dj_library_types.specs.Views.{library_method_view};
 ghost use Rattle.dj_model.specs.trusted.Libraries.{library_method};
-ghost use Rattle.dj_declared.specs.Texts.{number_in};
-ghost use Rattle.dj_declared.specs.MemberRows.{native_body, IsRowOf, AreRowsOf};
-ghost use Rattle.dj_declared.specs.Tables.{AreMembers};
+ghost use Rattle.dj_declarations.specs.Texts.{number_in};
+ghost use Rattle.dj_declarations.specs.MemberRows.{native_body, IsRowOf, AreRowsOf};
+ghost use Rattle.dj_declarations.specs.Tables.{AreMembers};
 
 use crate::error::DeclareError;
 use crate::members::{MemberBody, MemberRow, MemberTable};
 use crate::spelling::spell_desc;
 use crate::tables::ClassMembers;
 use crate::texts::TextTable;
+use dj_library_types::LibMethod;
 use dj_names::{Name, NativeId};
-use dj_natives::LibMethod;
 use std::alloc::Global;
 
 // What a method of a library has: what answers a call, or nothing.

@@ -4,11 +4,11 @@ ghost use Rattle.std.specs.List.{flat_map};
 ghost use Rattle.std.specs.Option.{option_map};
 ghost use Rattle.dj_pool.specs.trusted.Pool.{class_name_at, class_text_of, constant_at, text_at};
 ghost use Rattle.dj_class.specs.trusted.Names.{names_in};
-ghost use Rattle.dj_declared.specs.Lists.{listed_at, AreListed, NamesKeep, AreCopies};
+ghost use Rattle.dj_declarations.specs.Lists.{listed_at, AreListed, NamesKeep, AreCopies};
 
 use crate::error::DeclareError;
+use dj_library_types::Names;
 use dj_names::Name;
-use dj_natives::Names;
 use dj_pool::{Entry, Pool};
 use std::alloc::Global;
 

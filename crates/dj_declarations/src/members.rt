@@ -3,7 +3,7 @@ ghost use Rattle.std.specs.Prelude.{◌≡◌, ◌+◌, ◌*◌, ◌<◌, ◌≤
 ghost use Rattle.std.specs.List.{list_any};
 ghost use Rattle.std.specs.List.Sorted.{IsPartitionPoint};
 ghost use Rattle.std.specs.Option.{option_map};
-ghost use Rattle.dj_declared.specs.MemberRows.{first_row, place_named, AreCounts, AreOrdered, AreCounted, pair_of, key_at, IsAnswer};
+ghost use Rattle.dj_declarations.specs.MemberRows.{first_row, place_named, AreCounts, AreOrdered, AreCounted, pair_of, key_at, IsAnswer};
 
 use crate::error::DeclareError;
 use crate::texts::TextTable;

@@ -1,7 +1,7 @@
 //! The texts that name the members of a class, by their numbers in it.
 ghost use Rattle.std.specs.Prelude.{◌≡◌, ◌<◌, length, IfSome, slice_get};
-ghost use Rattle.dj_declared.specs.Texts.{text_in};
-ghost use Rattle.dj_declared.specs.Named.{IsNamedBy};
+ghost use Rattle.dj_declarations.specs.Texts.{text_in};
+ghost use Rattle.dj_declarations.specs.Named.{IsNamedBy};
 
 use crate::tables::ClassMembers;
 use std::marker::Model;
@@ -13,8 +13,8 @@ pub struct MemberTexts<'a> {
 }
 
 impl<'a> Model for MemberTexts<'a> {
-    ghost use Rattle.dj_declared.specs.Named.{NamedMembers};
-    ghost use Rattle.dj_declared.specs.Tables.{methods_of, fields_of};
+    ghost use Rattle.dj_declarations.specs.Named.{NamedMembers};
+    ghost use Rattle.dj_declarations.specs.Tables.{methods_of, fields_of};
 
     ghost Value = { NamedMembers };
 

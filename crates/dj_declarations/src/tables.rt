@@ -1,5 +1,5 @@
 //! The members of a class, with the texts that name them.
-ghost use Rattle.dj_declared.specs.MemberRows.{AreSound, AreCounts};
+ghost use Rattle.dj_declarations.specs.MemberRows.{AreSound, AreCounts};
 
 use crate::members::{MemberBody, MemberTable};
 use crate::texts::TextTable;
@@ -23,11 +23,11 @@ impl ClassMembers {
     ghost use Rattle.dj_names.specs.trusted.Descriptors.{Describes};
     ghost use Rattle.dj_model.specs.trusted.Program.{method_in, field_in};
     ghost use Rattle.dj_model.specs.trusted.Linking.{count_fields, fields_before};
-    ghost use Rattle.dj_declared.specs.trusted.Files.{desc_in};
-    ghost use Rattle.dj_declared.specs.trusted.Members.{has_method_named};
-    ghost use Rattle.dj_declared.specs.Members.{IsDescriptor, method_flags, method_name, method_has_body, method_native, field_flags, field_name, method_place, field_place};
-    ghost use Rattle.dj_declared.specs.Named.{IsNamedBy};
-    ghost use Rattle.dj_declared.specs.Tables.{methods_of, fields_of};
+    ghost use Rattle.dj_declarations.specs.trusted.Files.{desc_in};
+    ghost use Rattle.dj_declarations.specs.trusted.Members.{has_method_named};
+    ghost use Rattle.dj_declarations.specs.Members.{IsDescriptor, method_flags, method_name, method_has_body, method_native, field_flags, field_name, method_place, field_place};
+    ghost use Rattle.dj_declarations.specs.Named.{IsNamedBy};
+    ghost use Rattle.dj_declarations.specs.Tables.{methods_of, fields_of};
 
     /// The place of the first method with this name and this descriptor.
     pub(crate) fn method_named(&self, name: &[u8], desc: &[u8]) -> Option<u32>

@@ -2,7 +2,7 @@
 ghost use Rattle.std.specs.Prelude.{◌≡◌, ◌+◌, ◌<◌, ◌≤◌, ◌^◌, ◌++◌, ◌∷◌, [], Some, None, IfOk, IfSome, IfNone, OnOk, OnErr, length};
 ghost use Rattle.std.specs.Cmp.Lexicographic.{slice_cmp};
 ghost use Rattle.std.specs.Ordering.{nat_cmp};
-ghost use Rattle.dj_declared.specs.Texts.{number_in, text_in, texts_from, start_at, AreAscending, AreBefore, AreEnds, NumbersKeep};
+ghost use Rattle.dj_declarations.specs.Texts.{number_in, text_in, texts_from, start_at, AreAscending, AreBefore, AreEnds, NumbersKeep};
 
 use crate::error::DeclareError;
 use std::alloc::Global;
@@ -22,7 +22,7 @@ pub(crate) struct TextTable {
 
 impl Model for TextTable {
     ghost use Rattle.std.specs.Prelude.{ℕ, List};
-    ghost use Rattle.dj_declared.specs.Texts.{texts_from};
+    ghost use Rattle.dj_declarations.specs.Texts.{texts_from};
 
     ghost Value = { List (List ℕ) };
 

@@ -3,7 +3,7 @@ use Rattle.std.proofs.Common.{◌≡◌, ℕ, ◌+◌, ◌*◌, ◌^◌, ◌<◌
 use Rattle.dj_ops.specs.declared.instruction.Instr.TheVariants as instrs
 use Rattle.dj_ops.specs.trusted.Forms.{form_of}
 use Rattle.dj_ops.specs.Mnemonics.{return}
-use Rattle.dj_bytes.specs.trusted.Spelling.{u2}
+use Rattle.dj_cursor.specs.trusted.Spelling.{u2}
 use Rattle.dj_pool.specs.trusted.Pool.{Constant, Utf8, Integer, Class, constant_at}
 use Rattle.dj_class.specs.trusted.ClassFile.{AttributeInfo, MemberInfo}
 use Rattle.dj_class.specs.trusted.Code.{CodeInfo, code_info_bytes, IsCode}
@@ -11,7 +11,7 @@ use Rattle.dj_class.proofs.CodeLaws.{one_code}
 use Rattle.dj_labels.specs.declared.labelled.Labelled.{Labelled}
 use Rattle.dj_labels.specs.trusted.Labels.{IsLabelled}
 use Rattle.dj_report.proofs.Sorted.{contains_none, contains_cases}
-use Rattle.dj_check.specs.trusted.Malformed.{IsNoBody, HasTwoMaps, IsFaultyCode, IsFaultyBody, IsFaultyMethod, FitsField, IsValueFor, IsFaultyField}
+use Rattle.dj_early_rules.specs.trusted.Malformed.{IsNoBody, HasTwoMaps, IsFaultyCode, IsFaultyBody, IsFaultyMethod, FitsField, IsValueFor, IsFaultyField}
 
 -- 1 to 3 are names of attributes, 4 and 7 descriptors of fields, 5 an int, 6 a class
 pool : List Constant

@@ -16,12 +16,12 @@ use Rattle.dj_labels.specs.declared.errors.CodeError.TheVariants as code_errors
 use Rattle.dj_labels.specs.trusted.Labels.{IsLabelled}
 use Rattle.dj_labels.specs.Faults.{Yields}
 use Rattle.dj_report.proofs.Sorted.{contains_none, contains_cases}
-use Rattle.dj_check.specs.declared.code.WholeCode.{WholeCode}
-use Rattle.dj_check.specs.declared.code.MethodBody.{MethodBody}
-use Rattle.dj_check.specs.declared.code.MethodBody.TheVariants as methods
-use Rattle.dj_check.specs.trusted.Attributes.{codes_of, maps_of}
-use Rattle.dj_check.specs.trusted.Malformed.{IsBodiless, IsFaultyCode, IsFaultyBody, IsFaultyMethod}
-use Rattle.dj_check.specs.Passes.{lacks_memory, bodies_in, IsWholeCode, IsMappedView, IsCodeView, IsWholeBody, IsWholeMethod, IsBodilessView, IsOwnView, IsMethodView}
+use Rattle.dj_early_rules.specs.declared.code.WholeCode.{WholeCode}
+use Rattle.dj_early_rules.specs.declared.code.MethodBody.{MethodBody}
+use Rattle.dj_early_rules.specs.declared.code.MethodBody.TheVariants as methods
+use Rattle.dj_early_rules.specs.trusted.Attributes.{codes_of, maps_of}
+use Rattle.dj_early_rules.specs.trusted.Malformed.{IsBodiless, IsFaultyCode, IsFaultyBody, IsFaultyMethod}
+use Rattle.dj_early_rules.specs.Passes.{lacks_memory, bodies_in, IsWholeCode, IsMappedView, IsCodeView, IsWholeBody, IsWholeMethod, IsBodilessView, IsOwnView, IsMethodView}
 
 -- ---- labels
 

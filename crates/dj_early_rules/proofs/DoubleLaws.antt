@@ -13,15 +13,15 @@ use Rattle.dj_report.specs.declared.report.PathFile.{PathFile}
 use Rattle.dj_report.specs.trusted.Lines.{file_line}
 use Rattle.dj_report.specs.Lines.{Gains, Adds, IsLineAmong}
 use Rattle.dj_report.proofs.Adding.{adds_same, adds_nothing}
-use Rattle.dj_rules.specs.trusted.Violations.{this_name}
-use Rattle.dj_rules.specs.Views.{path_file_view}
-use Rattle.dj_check.specs.declared.doubles.NamedFile.{NamedFile}
-use Rattle.dj_check.specs.trusted.Malformed.{IsGood}
-use Rattle.dj_check.specs.Passes.{SaysName}
-use Rattle.dj_check.specs.trusted.Rules.{HasDouble, IsDuplicateLine}
-use Rattle.dj_check.specs.Doubles.{IsText, IsBelow, IsNameAt, IsAgainAt, IsRepeated, IsNamedAmong, IsLineAmongNames, IsRepeatedLine, IsNamedAs, AreNamed}
-use Rattle.dj_check.proofs.Anys.{slice_get_push}
-use Rattle.dj_check.proofs.FileLaws.{refused_not_good}
+use Rattle.dj_file_rules.specs.trusted.Violations.{this_name}
+use Rattle.dj_file_rules.specs.Views.{path_file_view}
+use Rattle.dj_early_rules.specs.declared.doubles.NamedFile.{NamedFile}
+use Rattle.dj_early_rules.specs.trusted.Malformed.{IsGood}
+use Rattle.dj_early_rules.specs.Passes.{SaysName}
+use Rattle.dj_early_rules.specs.trusted.Rules.{HasDouble, IsDuplicateLine}
+use Rattle.dj_early_rules.specs.Doubles.{IsText, IsBelow, IsNameAt, IsAgainAt, IsRepeated, IsNamedAmong, IsLineAmongNames, IsRepeatedLine, IsNamedAs, AreNamed}
+use Rattle.dj_early_rules.proofs.Anys.{slice_get_push}
+use Rattle.dj_early_rules.proofs.FileLaws.{refused_not_good}
 
 -- ---- places below a number
 

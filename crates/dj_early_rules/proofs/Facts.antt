@@ -9,14 +9,14 @@ use Rattle.dj_ops.specs.declared.frames.VType.TheVariants as types
 use Rattle.dj_ops.specs.Mnemonics.{nop, ldc, ldc_w, ldc2_w, iload, fload, iadd, fadd, goto, jsr, ret, invokevirtual, anewarray, goto_w, jsr_w, breakpoint}
 use Rattle.dj_pool.specs.trusted.Pool.{Constant, Utf8, Integer, Float, Long, Double, Class, Text, Method, NameAndType, Handle, MethodType}
 use Rattle.dj_class.specs.trusted.ClassFile.{AttributeInfo, MemberInfo, ClassFile}
-use Rattle.dj_check.specs.trusted.Opcodes.{is_float_op, is_float_base, is_short_literal, is_subroutine_jump}
-use Rattle.dj_check.specs.trusted.Floats.{IsFloating, HasFloat, IsFloatArray}
-use Rattle.dj_check.specs.trusted.Malformed.{LacksCode, HasNeedlessCode, FitsField, NamesValue}
-use Rattle.dj_check.specs.trusted.Classes.{IsReserved, IsReflective, NamesGetClass}
-use Rattle.dj_check.specs.trusted.Code.{IsFloatType}
-use Rattle.dj_check.specs.trusted.Members.{IsFloatConstant, HasInterfaceCode}
-use Rattle.dj_check.specs.trusted.Instructions.{NamesSuchMember, IsDynamic, IsReflection, IsFloat, IsSubroutine, IsBreakpoint, IsMultiArray}
-use Rattle.dj_check.specs.trusted.Methods.{CatchesError}
+use Rattle.dj_early_rules.specs.trusted.Opcodes.{is_float_op, is_float_base, is_short_literal, is_subroutine_jump}
+use Rattle.dj_early_rules.specs.trusted.Floats.{IsFloating, HasFloat, IsFloatArray}
+use Rattle.dj_early_rules.specs.trusted.Malformed.{LacksCode, HasNeedlessCode, FitsField, NamesValue}
+use Rattle.dj_early_rules.specs.trusted.Classes.{IsReserved, IsReflective, NamesGetClass}
+use Rattle.dj_early_rules.specs.trusted.Code.{IsFloatType}
+use Rattle.dj_early_rules.specs.trusted.Members.{IsFloatConstant, HasInterfaceCode}
+use Rattle.dj_early_rules.specs.trusted.Instructions.{NamesSuchMember, IsDynamic, IsReflection, IsFloat, IsSubroutine, IsBreakpoint, IsMultiArray}
+use Rattle.dj_early_rules.specs.trusted.Methods.{CatchesError}
 
 -- ---- a pool
 

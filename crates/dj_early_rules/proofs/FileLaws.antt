@@ -8,17 +8,17 @@ use Rattle.dj_report.specs.declared.report.Violation.{Violation}
 use Rattle.dj_report.specs.trusted.Lines.{file_line}
 use Rattle.dj_report.specs.Lines.{Adds}
 use Rattle.dj_report.proofs.Adding.{adds_same, adds_both}
-use Rattle.dj_rules.specs.trusted.Violations.{member_text, this_name}
-use Rattle.dj_rules.specs.Lines.{pair_text}
-use Rattle.dj_check.specs.declared.judged.JudgedText.{JudgedText}
-use Rattle.dj_check.specs.declared.marks.MarkPlace.{MarkPlace}
-use Rattle.dj_check.specs.declared.marks.Mark.{Mark}
-use Rattle.dj_check.specs.Judged.{IsTextAt, AreTexts, first_in, first_of}
-use Rattle.dj_check.specs.trusted.Malformed.{IsFaulty, IsRefused, IsGood}
-use Rattle.dj_check.specs.trusted.Classes.{IsReserved}
-use Rattle.dj_check.specs.trusted.Members.{HasFloatConstant}
-use Rattle.dj_check.specs.trusted.Rules.{line_at, IsMemberLine, IsNamingLine}
-use Rattle.dj_check.specs.Marks.{place_of, AreMarksOf, names_in, IsMarkLine}
+use Rattle.dj_file_rules.specs.trusted.Violations.{member_text, this_name}
+use Rattle.dj_file_rules.specs.Lines.{pair_text}
+use Rattle.dj_early_rules.specs.declared.judged.JudgedText.{JudgedText}
+use Rattle.dj_early_rules.specs.declared.marks.MarkPlace.{MarkPlace}
+use Rattle.dj_early_rules.specs.declared.marks.Mark.{Mark}
+use Rattle.dj_early_rules.specs.Judged.{IsTextAt, AreTexts, first_in, first_of}
+use Rattle.dj_early_rules.specs.trusted.Malformed.{IsFaulty, IsRefused, IsGood}
+use Rattle.dj_early_rules.specs.trusted.Classes.{IsReserved}
+use Rattle.dj_early_rules.specs.trusted.Members.{HasFloatConstant}
+use Rattle.dj_early_rules.specs.trusted.Rules.{line_at, IsMemberLine, IsNamingLine}
+use Rattle.dj_early_rules.specs.Marks.{place_of, AreMarksOf, names_in, IsMarkLine}
 
 pub naming_lines : (path : List ℕ) (c : ClassFile) (reserved float : Bool) (x0 x1 x2 : List Violation) → (IsTrue reserved ↔ IsReserved (this_name c)) → (IsTrue float ↔ HasFloatConstant c)
     → Adds (λ v. IsTrue reserved × (v ≡ file_line path 4)) x0 x1 → Adds (λ v. IsTrue float × (v ≡ file_line path 12)) x1 x2 → Adds (IsNamingLine path c) x0 x2

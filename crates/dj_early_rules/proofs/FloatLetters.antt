@@ -11,8 +11,8 @@ use Rattle.dj_names.specs.declared.descriptor.Desc.{Desc}
 use Rattle.dj_names.specs.declared.descriptor.Desc.TheVariants as descs
 use Rattle.dj_names.specs.trusted.Descriptors.{of_text, type_text, return_text, desc_text}
 use Rattle.dj_report.proofs.Sorted.{contains_none, contains_cases}
-use Rattle.dj_check.specs.trusted.Floats.{IsFloating, HasFloating, MentionsFloat, HasFloat}
-use Rattle.dj_check.specs.Judged.{is_float_letter}
+use Rattle.dj_early_rules.specs.trusted.Floats.{IsFloating, HasFloating, MentionsFloat, HasFloat}
+use Rattle.dj_early_rules.specs.Judged.{is_float_letter}
 
 or_left : (a b : Bool) → a ≡ true → (a || b) ≡ true
 or_left true b e = refl

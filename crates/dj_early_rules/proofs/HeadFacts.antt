@@ -21,11 +21,11 @@ use Rattle.dj_report.specs.declared.report.Violation.{Violation}
 use Rattle.dj_report.specs.trusted.Lines.{file_line}
 use Rattle.dj_report.proofs.Sorted.{contains_none, contains_cases}
 use Rattle.dj_library.specs.trusted.Heads.{Head, library_heads}
-use Rattle.dj_hierarchy.specs.trusted.Hierarchy.{IsMissing, LacksSuperclass, IsBadSuperclass}
-use Rattle.dj_check.specs.trusted.Malformed.{IsNoBody, LacksLabels, IsRefused, IsGood}
-use Rattle.dj_check.specs.trusted.Heads.{head_of, StandsAmong, HasRepeats}
-use Rattle.dj_check.specs.trusted.Rules.{IsHierarchyLine}
-use Rattle.dj_check.proofs.FileLaws.{refused_not_good}
+use Rattle.dj_hierarchy_rule.specs.trusted.Hierarchy.{IsMissing, LacksSuperclass, IsBadSuperclass}
+use Rattle.dj_early_rules.specs.trusted.Malformed.{IsNoBody, LacksLabels, IsRefused, IsGood}
+use Rattle.dj_early_rules.specs.trusted.Heads.{head_of, StandsAmong, HasRepeats}
+use Rattle.dj_early_rules.specs.trusted.Rules.{IsHierarchyLine}
+use Rattle.dj_early_rules.proofs.FileLaws.{refused_not_good}
 
 -- ---- heads
 

@@ -10,11 +10,11 @@ use Rattle.dj_pool.specs.trusted.Pool.{Constant, class_text_of, constant_at, tex
 use Rattle.dj_report.specs.Lines.{Gains}
 use Rattle.dj_report.proofs.Sorted.{contains_none, contains_first, contains_cases}
 use Rattle.dj_report.proofs.Adding.{adds_same, adds_nothing, adds_one_more, once_members}
-use Rattle.dj_check.specs.declared.judged.JudgedText.{JudgedText}
-use Rattle.dj_check.specs.Judged.{AreTexts, first_in}
-use Rattle.dj_check.specs.trusted.Heads.{names_in}
-use Rattle.dj_check.specs.Gathered.{texts_of, IsOfOne, IsClassText, AreClassTexts, HasText, AreTextsAt}
-use Rattle.dj_check.proofs.FileLaws.{first_text}
+use Rattle.dj_early_rules.specs.declared.judged.JudgedText.{JudgedText}
+use Rattle.dj_early_rules.specs.Judged.{AreTexts, first_in}
+use Rattle.dj_early_rules.specs.trusted.Heads.{names_in}
+use Rattle.dj_early_rules.specs.Gathered.{texts_of, IsOfOne, IsClassText, AreClassTexts, HasText, AreTextsAt}
+use Rattle.dj_early_rules.proofs.FileLaws.{first_text}
 
 -- ---- one more
 

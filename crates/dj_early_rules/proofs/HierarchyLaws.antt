@@ -9,20 +9,20 @@ use Rattle.dj_report.specs.declared.report.PathFile.{PathFile}
 use Rattle.dj_report.specs.trusted.Lines.{file_line}
 use Rattle.dj_report.specs.Lines.{Adds}
 use Rattle.dj_report.proofs.Adding.{adds_same, adds_both, contains_map, from_contains_map}
-use Rattle.dj_rules.specs.Views.{path_file_view}
+use Rattle.dj_file_rules.specs.Views.{path_file_view}
 use Rattle.dj_library.specs.trusted.Heads.{Head}
-use Rattle.dj_hierarchy.specs.declared.head.ClassHead.{ClassHead}
-use Rattle.dj_hierarchy.specs.Hierarchy.{Stands}
-use Rattle.dj_hierarchy.specs.Judged.{AreJudged}
-use Rattle.dj_hierarchy.specs.Views.{text_of, head_view}
-use Rattle.dj_hierarchy.proofs.Alike.{IsAlike, HaveAlike, alike_itself, alike_back, alike_violate}
-use Rattle.dj_check.specs.declared.hierarchy.Owner.{Owner}
-use Rattle.dj_check.specs.trusted.Malformed.{IsGood}
-use Rattle.dj_check.specs.trusted.Heads.{head_of, StandsAmong}
-use Rattle.dj_check.specs.trusted.Rules.{IsHierarchyLine}
-use Rattle.dj_check.specs.Gathered.{IsHeadOf}
-use Rattle.dj_check.specs.Kept.{IsMarkedAt, IsMarkedLine, IsOwnersLine, IsOwned, AreOwned}
-use Rattle.dj_check.proofs.DoubleLaws.{more_below, beside, from_slice_get_map, to_slice_get_map}
+use Rattle.dj_hierarchy_rule.specs.declared.head.ClassHead.{ClassHead}
+use Rattle.dj_hierarchy_rule.specs.Hierarchy.{Stands}
+use Rattle.dj_hierarchy_rule.specs.Judged.{AreJudged}
+use Rattle.dj_hierarchy_rule.specs.Views.{text_of, head_view}
+use Rattle.dj_hierarchy_rule.proofs.Alike.{IsAlike, HaveAlike, alike_itself, alike_back, alike_violate}
+use Rattle.dj_early_rules.specs.declared.hierarchy.Owner.{Owner}
+use Rattle.dj_early_rules.specs.trusted.Malformed.{IsGood}
+use Rattle.dj_early_rules.specs.trusted.Heads.{head_of, StandsAmong}
+use Rattle.dj_early_rules.specs.trusted.Rules.{IsHierarchyLine}
+use Rattle.dj_early_rules.specs.Gathered.{IsHeadOf}
+use Rattle.dj_early_rules.specs.Kept.{IsMarkedAt, IsMarkedLine, IsOwnersLine, IsOwned, AreOwned}
+use Rattle.dj_early_rules.proofs.DoubleLaws.{more_below, beside, from_slice_get_map, to_slice_get_map}
 
 -- ---- lines of marks
 

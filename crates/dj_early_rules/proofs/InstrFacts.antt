@@ -4,10 +4,10 @@ use Rattle.dj_ops.specs.declared.instruction.Instr.{Instr}
 use Rattle.dj_ops.specs.declared.instruction.Instr.TheVariants as instrs
 use Rattle.dj_ops.specs.Mnemonics.{nop, bipush, ldc, ldc_w, ldc2_w, iload, fload, fadd, goto, jsr, ret, invokevirtual, new, jsr_w}
 use Rattle.dj_pool.specs.trusted.Pool.{Constant, Utf8, Integer, Float, Long, Double, Class, Text, Field, Method, InterfaceMethod, NameAndType, Handle, MethodType, Dynamic}
-use Rattle.dj_check.specs.trusted.Classes.{class_text_index, names_at}
-use Rattle.dj_check.specs.trusted.Instructions.{index_of, member_index_of, PushesSuch, IsHandleOrType, IsClass, IsFloatNumber}
-use Rattle.dj_check.specs.Instructions.{is_plain}
-use Rattle.dj_check.specs.trusted.Methods.{InstrViolates}
+use Rattle.dj_early_rules.specs.trusted.Classes.{class_text_index, names_at}
+use Rattle.dj_early_rules.specs.trusted.Instructions.{index_of, member_index_of, PushesSuch, IsHandleOrType, IsClass, IsFloatNumber}
+use Rattle.dj_early_rules.specs.Instructions.{is_plain}
+use Rattle.dj_early_rules.specs.trusted.Methods.{InstrViolates}
 
 -- ---- what they name
 

@@ -14,12 +14,12 @@ use Rattle.dj_names.proofs.DescLaws.{described_once}
 use Rattle.dj_pool.specs.trusted.Pool.{Constant, text_of, text_at}
 use Rattle.dj_class.specs.trusted.ClassFile.{MemberInfo, ClassFile}
 use Rattle.dj_report.proofs.Sorted.{contains_none, contains_cases}
-use Rattle.dj_check.specs.declared.judged.JudgedText.{JudgedText}
-use Rattle.dj_check.specs.trusted.Floats.{MentionsFloat, HasFloat}
-use Rattle.dj_check.specs.trusted.Attributes.{values_of}
-use Rattle.dj_check.specs.trusted.Malformed.{IsValueFor, IsFaultyField}
-use Rattle.dj_check.specs.Judged.{BeginsFloat, IsTextAt, first_in, first_of, AreTexts, AreNumbered, IsMarked, AreMembersMarked, Indexes, noted_at, number_in, IsNumberedBy, IsJudgedText, AreFirstTexts}
-use Rattle.dj_check.proofs.Anys.{slice_get_push}
+use Rattle.dj_early_rules.specs.declared.judged.JudgedText.{JudgedText}
+use Rattle.dj_early_rules.specs.trusted.Floats.{MentionsFloat, HasFloat}
+use Rattle.dj_early_rules.specs.trusted.Attributes.{values_of}
+use Rattle.dj_early_rules.specs.trusted.Malformed.{IsValueFor, IsFaultyField}
+use Rattle.dj_early_rules.specs.Judged.{BeginsFloat, IsTextAt, first_in, first_of, AreTexts, AreNumbered, IsMarked, AreMembersMarked, Indexes, noted_at, number_in, IsNumberedBy, IsJudgedText, AreFirstTexts}
+use Rattle.dj_early_rules.proofs.Anys.{slice_get_push}
 
 -- ---- descriptors
 

@@ -8,7 +8,7 @@ use Rattle.std.specs.Ordering.{nat_cmp, is_eq}
 use Rattle.std.specs.BTreeSet.{BTreeSet, insert_key}
 use Rattle.std.specs.BTreeMap.{is_at}
 use Rattle.std.specs.List.{list_any}
-use Rattle.dj_check.specs.Doubles.{texts_in}
+use Rattle.dj_early_rules.specs.Doubles.{texts_in}
 use Rattle.dj_report.specs.Lines.{Gains}
 use Rattle.dj_report.proofs.Sorted.{contains_first, contains_later, contains_none, contains_cases}
 

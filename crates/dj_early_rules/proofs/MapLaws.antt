@@ -16,9 +16,9 @@ use Rattle.dj_frames.specs.Answers.{ReadsFrames}
 use Rattle.dj_frames.proofs.WholeFaults.{no_stack_map_where_fault}
 use Rattle.dj_frames.proofs.WholeLaws.{one_stack_map}
 use Rattle.dj_report.proofs.Sorted.{contains_none, contains_cases}
-use Rattle.dj_check.specs.declared.code.WholeCode.{WholeCode}
-use Rattle.dj_check.specs.trusted.Code.{HaveFloats, HaveFloatType, IsFloatMapAt, IsFloatMap, AreFramesAt, HasFrames}
-use Rattle.dj_check.specs.Passes.{lacks_memory_of_frames, bodies_in, HasFramesAt, HasFloatFrames, HasMapOf}
+use Rattle.dj_early_rules.specs.declared.code.WholeCode.{WholeCode}
+use Rattle.dj_early_rules.specs.trusted.Code.{HaveFloats, HaveFloatType, IsFloatMapAt, IsFloatMap, AreFramesAt, HasFrames}
+use Rattle.dj_early_rules.specs.Passes.{lacks_memory_of_frames, bodies_in, HasFramesAt, HasFloatFrames, HasMapOf}
 
 -- two lists of types, of which the first has none
 pub floats_of_both : (first second : List VType) (b : Bool) → (HaveFloats first → ⊥) → (IsTrue b ↔ HaveFloats second) → IsTrue b ↔ HaveFloats (first ++ second)

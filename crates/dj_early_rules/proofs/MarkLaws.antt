@@ -14,13 +14,13 @@ use Rattle.dj_report.proofs.Adding.{IsAmong, adds_same, adds_nothing, adds_both}
 use Rattle.dj_class.specs.declared.class.MemberView.{MemberView}
 use Rattle.dj_class.specs.Members.{member_of}
 use Rattle.dj_class.specs.trusted.ClassFile.{MemberInfo, IsMethod}
-use Rattle.dj_check.specs.declared.judged.JudgedText.{JudgedText}
-use Rattle.dj_check.proofs.Anys.{seen_any, from_seen_any}
-use Rattle.dj_check.specs.declared.marks.MarkPlace.{MarkPlace}
-use Rattle.dj_check.specs.declared.marks.Mark.{Mark}
-use Rattle.dj_check.specs.trusted.Methods.{InstrViolates, CatchesError}
-use Rattle.dj_check.specs.trusted.Instructions.{IsDynamic, IsReflection, IsFloat, IsSubroutine, IsBreakpoint, IsMultiArray}
-use Rattle.dj_check.specs.Marks.{mark_at, place_of, MarksAt, MarksOf, ViolatesBelow, RangeViolates, IsAmongRanges, CodeMark, AreMarksOf, names_in}
+use Rattle.dj_early_rules.specs.declared.judged.JudgedText.{JudgedText}
+use Rattle.dj_early_rules.proofs.Anys.{seen_any, from_seen_any}
+use Rattle.dj_early_rules.specs.declared.marks.MarkPlace.{MarkPlace}
+use Rattle.dj_early_rules.specs.declared.marks.Mark.{Mark}
+use Rattle.dj_early_rules.specs.trusted.Methods.{InstrViolates, CatchesError}
+use Rattle.dj_early_rules.specs.trusted.Instructions.{IsDynamic, IsReflection, IsFloat, IsSubroutine, IsBreakpoint, IsMultiArray}
+use Rattle.dj_early_rules.specs.Marks.{mark_at, place_of, MarksAt, MarksOf, ViolatesBelow, RangeViolates, IsAmongRanges, CodeMark, AreMarksOf, names_in}
 
 -- the marks of one rule at a place
 pub at_rule : (place : MarkPlace) (rule : ℕ) (b : Bool) (P : Type 0) (a c : List Mark) → (IsTrue b ↔ P) → Gains (λ mark. IsTrue b × (mark ≡ mark_at place rule)) a c

@@ -6,8 +6,8 @@ use Rattle.std.specs.Cmp.{and_equiv, on_equiv, nat_eq_equiv}
 use Rattle.std.specs.Cmp.Lexicographic.{options_equiv}
 use Rattle.std.proofs.lemmas.Bool.{eqb-true}
 use Rattle.dj_report.proofs.Adding.{once_members}
-use Rattle.dj_check.specs.declared.marks.MarkPlace.{MarkPlace}
-use Rattle.dj_check.specs.declared.marks.Mark.{Mark}
+use Rattle.dj_early_rules.specs.declared.marks.MarkPlace.{MarkPlace}
+use Rattle.dj_early_rules.specs.declared.marks.Mark.{Mark}
 
 abbrev pub same_place_test : MarkPlace → MarkPlace → Bool
 same_place_test p q = nat_eq p.name q.name && (nat_eq p.desc q.desc && option_eq nat_eq p.number q.number)

@@ -7,7 +7,7 @@ use Rattle.dj_class.specs.trusted.ClassFile.{MemberInfo, ClassFile}
 use Rattle.dj_class.specs.Members.{member_of}
 use Rattle.dj_report.proofs.Sorted.{contains_none}
 use Rattle.dj_report.proofs.Adding.{from_contains_map}
-use Rattle.dj_check.specs.Judged.{IsMarked, StayMarked, AreNamesMarked, AreMembersMarked}
+use Rattle.dj_early_rules.specs.Judged.{IsMarked, StayMarked, AreNamesMarked, AreMembersMarked}
 
 kept_set : (marks : List Bool) (i j : ℕ) → IsMarked marks j → IsMarked (set marks i true) j
 kept_set [] i j e = e

@@ -13,18 +13,18 @@ use Rattle.dj_labels.proofs.Whole.{few}
 use Rattle.dj_report.specs.Lines.{Gains}
 use Rattle.dj_report.proofs.Sorted.{contains_none, contains_cases}
 use Rattle.dj_report.proofs.Adding.{adds_same, adds_both}
-use Rattle.dj_check.specs.declared.code.WholeCode.{WholeCode}
-use Rattle.dj_check.specs.declared.marks.MarkPlace.{MarkPlace}
-use Rattle.dj_check.specs.declared.marks.Mark.{Mark}
-use Rattle.dj_check.specs.trusted.Attributes.{codes_of, maps_of}
-use Rattle.dj_check.specs.trusted.Code.{IsCodeOf, IsLabelledOf, IsFloatMap, HasFloatMap}
-use Rattle.dj_check.specs.trusted.Floats.{NamesFloat}
-use Rattle.dj_check.specs.trusted.Members.{IsFloatMethod, IsInterfaceMethod}
-use Rattle.dj_check.specs.trusted.Methods.{CodeViolates, ViolatesWithin, MethodViolates}
-use Rattle.dj_check.specs.trusted.Rules.{FieldViolates}
-use Rattle.dj_check.specs.Passes.{bodies_in, IsWholeMethod, IsShortCode, HasMapOf}
-use Rattle.dj_check.specs.Marks.{mark_at, place_of, MarksOf, RuledWhole, CodeViolatesAt, CodeMark}
-use Rattle.dj_check.proofs.NamedBodies.{maps_short}
+use Rattle.dj_early_rules.specs.declared.code.WholeCode.{WholeCode}
+use Rattle.dj_early_rules.specs.declared.marks.MarkPlace.{MarkPlace}
+use Rattle.dj_early_rules.specs.declared.marks.Mark.{Mark}
+use Rattle.dj_early_rules.specs.trusted.Attributes.{codes_of, maps_of}
+use Rattle.dj_early_rules.specs.trusted.Code.{IsCodeOf, IsLabelledOf, IsFloatMap, HasFloatMap}
+use Rattle.dj_early_rules.specs.trusted.Floats.{NamesFloat}
+use Rattle.dj_early_rules.specs.trusted.Members.{IsFloatMethod, IsInterfaceMethod}
+use Rattle.dj_early_rules.specs.trusted.Methods.{CodeViolates, ViolatesWithin, MethodViolates}
+use Rattle.dj_early_rules.specs.trusted.Rules.{FieldViolates}
+use Rattle.dj_early_rules.specs.Passes.{bodies_in, IsWholeMethod, IsShortCode, HasMapOf}
+use Rattle.dj_early_rules.specs.Marks.{mark_at, place_of, MarksOf, RuledWhole, CodeViolatesAt, CodeMark}
+use Rattle.dj_early_rules.proofs.NamedBodies.{maps_short}
 
 -- ---- whole code is short
 

@@ -18,11 +18,11 @@ use Rattle.dj_pool.proofs.Decides.{tests_decide}
 use Rattle.dj_pool.specs.trusted.Pool.{Constant, Utf8, Class, Method, NameAndType}
 use Rattle.dj_report.specs.declared.report.Violation.{Violation}
 use Rattle.dj_report.specs.trusted.Lines.{file_line}
-use Rattle.dj_rules.specs.trusted.Violations.{this_name}
-use Rattle.dj_check.specs.trusted.Malformed.{IsGood, IsRefused}
-use Rattle.dj_check.specs.trusted.Classes.{IsReflective, IsReflectiveText, NamesReflective, element_class}
-use Rattle.dj_check.specs.trusted.Rules.{IsDuplicateLine}
-use Rattle.dj_check.proofs.FileLaws.{refused_not_good}
+use Rattle.dj_file_rules.specs.trusted.Violations.{this_name}
+use Rattle.dj_early_rules.specs.trusted.Malformed.{IsGood, IsRefused}
+use Rattle.dj_early_rules.specs.trusted.Classes.{IsReflective, IsReflectiveText, NamesReflective, element_class}
+use Rattle.dj_early_rules.specs.trusted.Rules.{IsDuplicateLine}
+use Rattle.dj_early_rules.proofs.FileLaws.{refused_not_good}
 
 -- ---- rule 5
 

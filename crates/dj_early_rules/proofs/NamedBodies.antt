@@ -8,7 +8,7 @@ use Rattle.dj_pool.specs.trusted.Pool.{Constant}
 use Rattle.dj_class.specs.trusted.ClassFile.{AttributeInfo, IsAttribute}
 use Rattle.dj_class.specs.trusted.Code.{CodeInfo, IsCodeAttribute}
 use Rattle.dj_class.specs.Parts.{attribute_of}
-use Rattle.dj_check.specs.trusted.Attributes.{is_named, bodies_of, maps_of}
+use Rattle.dj_early_rules.specs.trusted.Attributes.{is_named, bodies_of, maps_of}
 
 abbrev pub now_of : Bor (List ℕ) → List ℕ
 now_of b = b.now

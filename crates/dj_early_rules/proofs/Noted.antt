@@ -8,11 +8,11 @@ use Rattle.std.specs.BTreeMap.{is_at}
 use Rattle.std.specs.FinMap.{slice_cmp-IsAntisymmetric, nat_cmp-IsAntisymmetric}
 use Rattle.std.proofs.lemmas.Cmp.{nat_list_cmp_total, tied_itself}
 use Rattle.dj_pool.specs.trusted.Pool.{Constant, text_at}
-use Rattle.dj_check.specs.declared.judged.JudgedText.{JudgedText}
-use Rattle.dj_check.specs.trusted.Floats.{HasFloat, NamesFloat}
-use Rattle.dj_check.specs.trusted.Classes.{IsReflectiveText, NamesReflectiveText}
-use Rattle.dj_check.specs.Judged.{Indexes, noted_at, AreRight, Notes, IsReportedText, IsJudgedText, AreFirstTexts}
-use Rattle.dj_check.proofs.Judging.{not_reported}
+use Rattle.dj_early_rules.specs.declared.judged.JudgedText.{JudgedText}
+use Rattle.dj_early_rules.specs.trusted.Floats.{HasFloat, NamesFloat}
+use Rattle.dj_early_rules.specs.trusted.Classes.{IsReflectiveText, NamesReflectiveText}
+use Rattle.dj_early_rules.specs.Judged.{Indexes, noted_at, AreRight, Notes, IsReportedText, IsJudgedText, AreFirstTexts}
+use Rattle.dj_early_rules.proofs.Judging.{not_reported}
 
 abbrev pub bor : List ℕ → Bor (List ℕ)
 bor text = record { ref_ptr = (0, 0); now = text }

@@ -7,14 +7,14 @@ use Rattle.std.specs.Prelude.{bytes_eq}
 use Rattle.std.proofs.lemmas.Slice.Eq.{bytes_eq-Decides}
 use Rattle.dj_pool.specs.trusted.Pool.{Constant, text_at}
 use Rattle.dj_class.specs.trusted.ClassFile.{ClassFile}
-use Rattle.dj_check.specs.declared.judged.JudgedText.{JudgedText}
-use Rattle.dj_check.specs.trusted.Floats.{HasFloat, NamesFloat}
-use Rattle.dj_check.specs.trusted.Classes.{IsReflectiveText, NamesReflectiveText}
-use Rattle.dj_check.specs.Judged.{first_of, first_in, AreTexts, AreNumbered, IsMarked, AreMembersMarked, IsOwnText, AreOwnTexts}
-use Rattle.dj_check.specs.Prints.{AreDistinct}
-use Rattle.dj_check.proofs.Anys.{slice_get_push}
-use Rattle.dj_check.proofs.Judging.{not_reported, within_pool}
-use Rattle.dj_check.proofs.Noted.{reported_some}
+use Rattle.dj_early_rules.specs.declared.judged.JudgedText.{JudgedText}
+use Rattle.dj_early_rules.specs.trusted.Floats.{HasFloat, NamesFloat}
+use Rattle.dj_early_rules.specs.trusted.Classes.{IsReflectiveText, NamesReflectiveText}
+use Rattle.dj_early_rules.specs.Judged.{first_of, first_in, AreTexts, AreNumbered, IsMarked, AreMembersMarked, IsOwnText, AreOwnTexts}
+use Rattle.dj_early_rules.specs.Prints.{AreDistinct}
+use Rattle.dj_early_rules.proofs.Anys.{slice_get_push}
+use Rattle.dj_early_rules.proofs.Judging.{not_reported, within_pool}
+use Rattle.dj_early_rules.proofs.Noted.{reported_some}
 
 -- the index has this text
 pub own_some : (pool : List Constant) (index : ℕ) (key : List ℕ) (text : JudgedText) → text_at pool index ≡ Some key → (IsTrue text.float ↔ HasFloat key) → (IsTrue text.reflective ↔ IsReflectiveText key) → text.first ≡ index

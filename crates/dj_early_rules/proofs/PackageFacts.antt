@@ -3,7 +3,7 @@ use Rattle.std.proofs.Common.{◌≡◌, ℕ, ◌⊎◌, Bool, true, false, ◌&
 use Rattle.std.specs.Prelude.{◌||◌}
 use Rattle.std.specs.List.{starts_with}
 use Rattle.std.proofs.lemmas.Bool.{eqb-true, eq-eqb}
-use Rattle.dj_check.specs.trusted.Classes.{BeginsWith, IsReserved, IsReflective}
+use Rattle.dj_early_rules.specs.trusted.Classes.{BeginsWith, IsReserved, IsReflective}
 
 -- the text is the prefix and something after it, maybe nothing
 abbrev GoesOn : List ℕ → List ℕ → Type 0

@@ -6,12 +6,12 @@ use Rattle.dj_ops.specs.declared.instruction.Instr.TheVariants as instrs
 use Rattle.dj_pool.specs.trusted.Pool.{Constant}
 use Rattle.dj_report.specs.Lines.{Gains}
 use Rattle.dj_report.proofs.Adding.{adds_nothing}
-use Rattle.dj_check.specs.declared.marks.MarkPlace.{MarkPlace}
-use Rattle.dj_check.specs.declared.marks.Mark.{Mark}
-use Rattle.dj_check.specs.trusted.Opcodes.{is_float_op, is_subroutine_jump}
-use Rattle.dj_check.specs.Instructions.{is_plain}
-use Rattle.dj_check.specs.trusted.Methods.{InstrViolates}
-use Rattle.dj_check.specs.Marks.{MarksAt}
+use Rattle.dj_early_rules.specs.declared.marks.MarkPlace.{MarkPlace}
+use Rattle.dj_early_rules.specs.declared.marks.Mark.{Mark}
+use Rattle.dj_early_rules.specs.trusted.Opcodes.{is_float_op, is_subroutine_jump}
+use Rattle.dj_early_rules.specs.Instructions.{is_plain}
+use Rattle.dj_early_rules.specs.trusted.Methods.{InstrViolates}
+use Rattle.dj_early_rules.specs.Marks.{MarksAt}
 
 -- neither of the two is so
 neither : (a b : Bool) → (not a && not b) ≡ true → (a ≡ false) × (b ≡ false)

@@ -3,8 +3,8 @@ use Rattle.std.proofs.Common.{◌≡◌, ℕ, zero, suc, ◌+◌, ◌<◌, ◌�
 use Rattle.std.proofs.lemmas.Bool.{cases_lt}
 use Rattle.std.specs.BTreeSet.{BTreeSet}
 use Rattle.dj_pool.specs.trusted.Pool.{Constant, text_at}
-use Rattle.dj_check.specs.Judged.{IsMarked}
-use Rattle.dj_check.specs.Prints.{print_of, NotesPrint, AreDistinct, AreNoted}
+use Rattle.dj_early_rules.specs.Judged.{IsMarked}
+use Rattle.dj_early_rules.specs.Prints.{print_of, NotesPrint, AreDistinct, AreNoted}
 
 -- ---- indexes
 

@@ -16,14 +16,14 @@ use Rattle.dj_class.specs.declared.class.MemberView.{MemberView}
 use Rattle.dj_class.specs.trusted.ClassFile.{MemberInfo, ClassFile, IsMember}
 use Rattle.dj_labels.proofs.Lists.{contains_at}
 use Rattle.dj_class.specs.Members.{member_of}
-use Rattle.dj_check.specs.declared.judged.JudgedText.{JudgedText}
-use Rattle.dj_check.specs.Judged.{AreTexts, AreNumbered, IsMemberOf}
-use Rattle.dj_check.specs.Marks.{names_in}
-use Rattle.dj_check.specs.trusted.Heads.{AreRepeated}
-use Rattle.dj_check.specs.Gathered.{names_of, HasAgain}
-use Rattle.dj_check.specs.Doubles.{IsBelow}
-use Rattle.dj_check.proofs.FileLaws.{first_text}
-use Rattle.dj_check.proofs.DoubleLaws.{none_below, more_below, from_some, from_slice_get_map, to_slice_get_map}
+use Rattle.dj_early_rules.specs.declared.judged.JudgedText.{JudgedText}
+use Rattle.dj_early_rules.specs.Judged.{AreTexts, AreNumbered, IsMemberOf}
+use Rattle.dj_early_rules.specs.Marks.{names_in}
+use Rattle.dj_early_rules.specs.trusted.Heads.{AreRepeated}
+use Rattle.dj_early_rules.specs.Gathered.{names_of, HasAgain}
+use Rattle.dj_early_rules.specs.Doubles.{IsBelow}
+use Rattle.dj_early_rules.proofs.FileLaws.{first_text}
+use Rattle.dj_early_rules.proofs.DoubleLaws.{none_below, more_below, from_some, from_slice_get_map, to_slice_get_map}
 
 abbrev pub Pair : Type 0
 Pair = ℕ × ℕ

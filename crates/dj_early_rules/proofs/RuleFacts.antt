@@ -18,15 +18,15 @@ use Rattle.dj_class.specs.trusted.ClassFile.{AttributeInfo, MemberInfo, ClassFil
 use Rattle.dj_report.specs.declared.report.Violation.{Violation}
 use Rattle.dj_report.specs.trusted.Lines.{file_line}
 use Rattle.dj_report.proofs.Sorted.{contains_none}
-use Rattle.dj_rules.specs.trusted.Violations.{this_name}
-use Rattle.dj_check.specs.trusted.Malformed.{IsRefused}
-use Rattle.dj_check.specs.trusted.Classes.{IsReserved, IsReflective, IsGetClass, IsUncatchable}
-use Rattle.dj_check.specs.trusted.Floats.{MentionsFloat, HasFloat}
-use Rattle.dj_check.specs.trusted.Code.{HasFloatType}
-use Rattle.dj_check.specs.trusted.Members.{IsFloatConstant, IsFloatField, IsFloatMethod, IsInterfaceMethod}
-use Rattle.dj_check.specs.trusted.Methods.{CodeViolates}
-use Rattle.dj_check.specs.trusted.Rules.{IsMemberLine, IsNamingLine, IsLoneLine, FieldViolates}
-use Rattle.dj_check.proofs.FileLaws.{refused_not_good}
+use Rattle.dj_file_rules.specs.trusted.Violations.{this_name}
+use Rattle.dj_early_rules.specs.trusted.Malformed.{IsRefused}
+use Rattle.dj_early_rules.specs.trusted.Classes.{IsReserved, IsReflective, IsGetClass, IsUncatchable}
+use Rattle.dj_early_rules.specs.trusted.Floats.{MentionsFloat, HasFloat}
+use Rattle.dj_early_rules.specs.trusted.Code.{HasFloatType}
+use Rattle.dj_early_rules.specs.trusted.Members.{IsFloatConstant, IsFloatField, IsFloatMethod, IsInterfaceMethod}
+use Rattle.dj_early_rules.specs.trusted.Methods.{CodeViolates}
+use Rattle.dj_early_rules.specs.trusted.Rules.{IsMemberLine, IsNamingLine, IsLoneLine, FieldViolates}
+use Rattle.dj_early_rules.proofs.FileLaws.{refused_not_good}
 
 -- ---- names
 

@@ -10,7 +10,7 @@ use Rattle.dj_names.specs.Tests.{class_name_test}
 use Rattle.dj_names.specs.trusted.NameReading.{reads_class_name}
 use Rattle.dj_names.proofs.TestLaws.{class_name_test-decides}
 use Rattle.dj_names.proofs.DescLaws.{described_once}
-use Rattle.dj_check.specs.trusted.Classes.{element_class, IsArrayOf, IsReflective, IsReflectiveText}
+use Rattle.dj_early_rules.specs.trusted.Classes.{element_class, IsArrayOf, IsReflective, IsReflectiveText}
 
 bracket_no_name : (rest : List ℕ) → IsTrue (class_name_test (91 ∷ rest)) → ⊥
 unfolding class_name_test reads_class_name

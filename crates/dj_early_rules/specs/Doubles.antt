@@ -5,8 +5,8 @@ use Rattle.std.specs.BTreeSet.{BTreeSet}
 use Rattle.dj_report.specs.declared.report.Violation.{Violation}
 use Rattle.dj_report.specs.declared.report.PathFile.{PathFile}
 use Rattle.dj_report.specs.trusted.Lines.{file_line}
-use Rattle.dj_check.specs.declared.doubles.NamedFile.{NamedFile}
-use Rattle.dj_check.specs.Passes.{SaysName}
+use Rattle.dj_early_rules.specs.declared.doubles.NamedFile.{NamedFile}
+use Rattle.dj_early_rules.specs.Passes.{SaysName}
 
 -- the texts of the set
 abbrev pub texts_in : BTreeSet (Bor (List ℕ)) → List (List ℕ)

@@ -4,12 +4,12 @@ use Rattle.std.specs.Option.{option_copied}
 use Rattle.std.specs.Borrow.{Bor}
 use Rattle.dj_pool.specs.trusted.Pool.{Constant, class_text_of, constant_at, text_at, class_name_at}
 use Rattle.dj_class.specs.trusted.ClassFile.{MemberInfo, ClassFile}
-use Rattle.dj_rules.specs.trusted.Violations.{this_name}
-use Rattle.dj_hierarchy.specs.declared.head.ClassHead.{ClassHead}
-use Rattle.dj_check.specs.declared.judged.JudgedText.{JudgedText}
-use Rattle.dj_check.specs.trusted.Heads.{interface_names}
-use Rattle.dj_check.specs.Judged.{first_in}
-use Rattle.dj_check.specs.Marks.{names_in}
+use Rattle.dj_file_rules.specs.trusted.Violations.{this_name}
+use Rattle.dj_hierarchy_rule.specs.declared.head.ClassHead.{ClassHead}
+use Rattle.dj_early_rules.specs.declared.judged.JudgedText.{JudgedText}
+use Rattle.dj_early_rules.specs.trusted.Heads.{interface_names}
+use Rattle.dj_early_rules.specs.Judged.{first_in}
+use Rattle.dj_early_rules.specs.Marks.{names_in}
 
 -- ---- the names of interfaces
 

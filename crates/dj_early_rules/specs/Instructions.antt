@@ -2,7 +2,7 @@
 use Rattle.std.specs.Prelude.{Bool, true, false, not, ◌&&◌, nat_eq}
 use Rattle.dj_ops.specs.declared.instruction.Instr.{Instr}
 use Rattle.dj_ops.specs.declared.instruction.Instr.TheVariants as instrs
-use Rattle.dj_check.specs.trusted.Opcodes.{is_float_op, is_subroutine_jump}
+use Rattle.dj_early_rules.specs.trusted.Opcodes.{is_float_op, is_subroutine_jump}
 
 -- ---- instructions of no rule
 

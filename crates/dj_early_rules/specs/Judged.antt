@@ -6,9 +6,9 @@ use Rattle.std.specs.Cmp.Lexicographic.{slice_cmp}
 use Rattle.std.specs.BTreeMap.{BTreeMap, get_by}
 use Rattle.dj_pool.specs.trusted.Pool.{Constant, text_at}
 use Rattle.dj_class.specs.trusted.ClassFile.{MemberInfo, ClassFile}
-use Rattle.dj_check.specs.declared.judged.JudgedText.{JudgedText}
-use Rattle.dj_check.specs.trusted.Floats.{HasFloat, NamesFloat}
-use Rattle.dj_check.specs.trusted.Classes.{IsReflectiveText, NamesReflectiveText}
+use Rattle.dj_early_rules.specs.declared.judged.JudgedText.{JudgedText}
+use Rattle.dj_early_rules.specs.trusted.Floats.{HasFloat, NamesFloat}
+use Rattle.dj_early_rules.specs.trusted.Classes.{IsReflectiveText, NamesReflectiveText}
 
 -- the letter of a float or of a double
 abbrev pub is_float_letter : ℕ → Bool

@@ -5,14 +5,14 @@ use Rattle.dj_report.specs.declared.report.Violation.{Violation}
 use Rattle.dj_report.specs.declared.report.PathFile.{PathFile}
 use Rattle.dj_report.specs.trusted.Lines.{file_line}
 use Rattle.dj_library.specs.trusted.Heads.{Head}
-use Rattle.dj_hierarchy.specs.declared.head.ClassHead.{ClassHead}
-use Rattle.dj_hierarchy.specs.trusted.Hierarchy.{ViolatesHierarchy}
-use Rattle.dj_hierarchy.specs.Hierarchy.{Stands}
-use Rattle.dj_check.specs.declared.hierarchy.Owner.{Owner}
-use Rattle.dj_check.specs.trusted.Malformed.{IsGood}
-use Rattle.dj_check.specs.trusted.Heads.{HasRepeats}
-use Rattle.dj_check.specs.Gathered.{IsHeadOf}
-use Rattle.dj_check.specs.Doubles.{IsBelow}
+use Rattle.dj_hierarchy_rule.specs.declared.head.ClassHead.{ClassHead}
+use Rattle.dj_hierarchy_rule.specs.trusted.Hierarchy.{ViolatesHierarchy}
+use Rattle.dj_hierarchy_rule.specs.Hierarchy.{Stands}
+use Rattle.dj_early_rules.specs.declared.hierarchy.Owner.{Owner}
+use Rattle.dj_early_rules.specs.trusted.Malformed.{IsGood}
+use Rattle.dj_early_rules.specs.trusted.Heads.{HasRepeats}
+use Rattle.dj_early_rules.specs.Gathered.{IsHeadOf}
+use Rattle.dj_early_rules.specs.Doubles.{IsBelow}
 
 -- ---- heads and their files
 

@@ -6,13 +6,13 @@ use Rattle.dj_class.specs.trusted.ClassFile.{MemberInfo}
 use Rattle.dj_labels.specs.declared.labelled.Protected.{Protected}
 use Rattle.dj_labels.specs.declared.labelled.Labelled.{Labelled}
 use Rattle.dj_report.specs.declared.report.Violation.{Violation}
-use Rattle.dj_rules.specs.Lines.{pair_text}
-use Rattle.dj_check.specs.declared.marks.MarkPlace.{MarkPlace}
-use Rattle.dj_check.specs.declared.marks.Mark.{Mark}
-use Rattle.dj_check.specs.declared.judged.JudgedText.{JudgedText}
-use Rattle.dj_check.specs.Judged.{first_in}
-use Rattle.dj_check.specs.trusted.Methods.{InstrViolates, CatchesError, CodeViolates}
-use Rattle.dj_check.specs.trusted.Rules.{line_at}
+use Rattle.dj_file_rules.specs.Lines.{pair_text}
+use Rattle.dj_early_rules.specs.declared.marks.MarkPlace.{MarkPlace}
+use Rattle.dj_early_rules.specs.declared.marks.Mark.{Mark}
+use Rattle.dj_early_rules.specs.declared.judged.JudgedText.{JudgedText}
+use Rattle.dj_early_rules.specs.Judged.{first_in}
+use Rattle.dj_early_rules.specs.trusted.Methods.{InstrViolates, CatchesError, CodeViolates}
+use Rattle.dj_early_rules.specs.trusted.Rules.{line_at}
 
 abbrev pub mark_at : MarkPlace → ℕ → Mark
 mark_at place rule = record { place = place; rule = rule }

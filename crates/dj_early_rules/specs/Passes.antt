@@ -7,7 +7,7 @@ use Rattle.dj_ops.specs.declared.rows.CatchRow.{CatchRow}
 use Rattle.dj_pool.specs.trusted.Pool.{Constant}
 use Rattle.dj_class.specs.trusted.ClassFile.{MemberInfo, ClassFile}
 use Rattle.dj_report.specs.declared.report.PathFile.{PathFile}
-use Rattle.dj_rules.specs.trusted.Violations.{this_name}
+use Rattle.dj_file_rules.specs.trusted.Violations.{this_name}
 use Rattle.dj_class.specs.trusted.Code.{CodeInfo, IsCode}
 use Rattle.dj_labels.specs.declared.labelled.Labelled.{Labelled}
 use Rattle.dj_labels.specs.declared.labelled.Labelling.{Labelling}
@@ -17,15 +17,15 @@ use Rattle.dj_frames.specs.declared.read.FrameError.{FrameError}
 use Rattle.dj_frames.specs.declared.read.FrameError.TheVariants as frame_errors
 use Rattle.dj_labels.specs.trusted.Labels.{IsLabelled}
 use Rattle.dj_labels.specs.Passes.{AreStarts}
-use Rattle.dj_check.specs.declared.code.WholeCode.{WholeCode}
-use Rattle.dj_check.specs.declared.code.MethodBody.{MethodBody}
-use Rattle.dj_check.specs.declared.code.MethodBody.TheVariants as methods
-use Rattle.dj_check.specs.declared.good.GoodFile.{GoodFile}
-use Rattle.dj_check.specs.trusted.Heads.{HasRepeats}
-use Rattle.dj_check.specs.Gathered.{IsHeadOf}
-use Rattle.dj_check.specs.trusted.Attributes.{codes_of, maps_of}
-use Rattle.dj_check.specs.trusted.Code.{HaveFloatType, IsFloatMap, AreFramesAt, HasFrames}
-use Rattle.dj_check.specs.trusted.Malformed.{IsRefused, IsGood, LacksLabels, IsFaultyCode, IsFaultyBody, IsFaultyMethod}
+use Rattle.dj_early_rules.specs.declared.code.WholeCode.{WholeCode}
+use Rattle.dj_early_rules.specs.declared.code.MethodBody.{MethodBody}
+use Rattle.dj_early_rules.specs.declared.code.MethodBody.TheVariants as methods
+use Rattle.dj_early_rules.specs.declared.good.GoodFile.{GoodFile}
+use Rattle.dj_early_rules.specs.trusted.Heads.{HasRepeats}
+use Rattle.dj_early_rules.specs.Gathered.{IsHeadOf}
+use Rattle.dj_early_rules.specs.trusted.Attributes.{codes_of, maps_of}
+use Rattle.dj_early_rules.specs.trusted.Code.{HaveFloatType, IsFloatMap, AreFramesAt, HasFrames}
+use Rattle.dj_early_rules.specs.trusted.Malformed.{IsRefused, IsGood, LacksLabels, IsFaultyCode, IsFaultyBody, IsFaultyMethod}
 
 -- ---- code
 

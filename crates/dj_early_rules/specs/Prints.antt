@@ -3,7 +3,7 @@ use Rattle.std.specs.Prelude.{◌≡◌, ℕ, ◌+◌, ◌*◌, ◌%◌, ◌<◌
 use Rattle.std.specs.Ordering.{nat_cmp}
 use Rattle.std.specs.BTreeSet.{BTreeSet, contains}
 use Rattle.dj_pool.specs.trusted.Pool.{Constant, text_at}
-use Rattle.dj_check.specs.Judged.{IsMarked}
+use Rattle.dj_early_rules.specs.Judged.{IsMarked}
 
 -- the number of a text, after the number of what comes before it
 abbrev pub print_of : ℕ → List ℕ → ℕ

@@ -3,7 +3,7 @@ use Rattle.std.specs.Prelude.{List}
 use Rattle.dj_edge.specs.trusted.Held.{File}
 use Rattle.dj_report.specs.declared.report.Violation.{Violation}
 use Rattle.dj_report.specs.trusted.Lines.{AreExactly}
-use Rattle.dj_check.specs.trusted.Rules.{IsEarlyLine}
+use Rattle.dj_early_rules.specs.trusted.Rules.{IsEarlyLine}
 
 -- ---- lines of files
 

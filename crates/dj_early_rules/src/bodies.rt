@@ -1,6 +1,6 @@
 ghost use Rattle.std.specs.Prelude.{◌≡◌, map, IfOk};
 ghost use Rattle.dj_class.specs.Parts.{attribute_of};
-ghost use Rattle.dj_check.specs.trusted.Attributes.{is_named, bodies_of};
+ghost use Rattle.dj_early_rules.specs.trusted.Attributes.{is_named, bodies_of};
 
 use dj_class::Attribute;
 use dj_pool::Pool;

@@ -3,12 +3,12 @@ ghost use Rattle.dj_pool.specs.Views.{constant_of};
 ghost use Rattle.dj_class.specs.trusted.ClassFile.{IsValid};
 ghost use Rattle.dj_class.specs.Views.{class_of};
 ghost use Rattle.dj_report.specs.Lines.{Adds};
-ghost use Rattle.dj_rules.specs.trusted.Violations.{this_name};
-ghost use Rattle.dj_check.specs.Judged.{AreTexts};
-ghost use Rattle.dj_check.specs.trusted.Classes.{IsReserved};
-ghost use Rattle.dj_check.specs.trusted.Floats.{NamesFloatArray};
-ghost use Rattle.dj_check.specs.trusted.Members.{IsFloatConstant, HasFloatConstant};
-ghost use Rattle.dj_check.specs.trusted.Rules.{IsNamingLine};
+ghost use Rattle.dj_file_rules.specs.trusted.Violations.{this_name};
+ghost use Rattle.dj_early_rules.specs.Judged.{AreTexts};
+ghost use Rattle.dj_early_rules.specs.trusted.Classes.{IsReserved};
+ghost use Rattle.dj_early_rules.specs.trusted.Floats.{NamesFloatArray};
+ghost use Rattle.dj_early_rules.specs.trusted.Members.{IsFloatConstant, HasFloatConstant};
+ghost use Rattle.dj_early_rules.specs.trusted.Rules.{IsNamingLine};
 
 use crate::judged::{JudgedText, text_in};
 use crate::lines::add_file_line_if;

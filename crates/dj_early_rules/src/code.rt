@@ -4,16 +4,16 @@ ghost use Rattle.dj_class.specs.trusted.ClassFile.{IsAttribute};
 ghost use Rattle.dj_class.specs.Members.{member_of};
 ghost use Rattle.dj_class.specs.trusted.Code.{IsCodeAttribute};
 ghost use Rattle.dj_class.specs.CodeViews.{code_of};
-ghost use Rattle.dj_check.specs.trusted.Malformed.{IsBodiless};
-ghost use Rattle.dj_check.specs.Passes.{lacks_memory, IsLabellingOf, IsLabelling, bodies_in, IsMappedCode, IsMappedView, IsCodeView, IsBodyView, IsBodilessView, IsOwnView, IsMethodView};
+ghost use Rattle.dj_early_rules.specs.trusted.Malformed.{IsBodiless};
+ghost use Rattle.dj_early_rules.specs.Passes.{lacks_memory, IsLabellingOf, IsLabelling, bodies_in, IsMappedCode, IsMappedView, IsCodeView, IsBodyView, IsBodilessView, IsOwnView, IsMethodView};
 
 use crate::bodies::bodies_named;
 use crate::maps::frames_in;
 use dj_class::{CodeView, MemberView, read_code};
+use dj_file_rules::is_memory;
 use dj_labels::{CodeError, Labelled, Labelling, label_with_starts};
 use dj_ops::{CatchRow, Frames};
 use dj_pool::Pool;
-use dj_rules::is_memory;
 use std::alloc::{AllocError, Global};
 
 /// Code without a fault: its room, its bytes, its labelled form, and its stack map.

@@ -1,6 +1,6 @@
 ghost use Rattle.std.specs.Prelude.{◌≡◌, ◌↔◌, List, ℕ, Contains, IsTrue, OnOk, IfOk};
 ghost use Rattle.dj_report.specs.Lines.{Adds, Gains, IsLineAmong};
-ghost use Rattle.dj_check.specs.Doubles.{texts_in, IsText, IsRepeated, IsNamedAmong, IsLineAmongNames, IsRepeatedLine};
+ghost use Rattle.dj_early_rules.specs.Doubles.{texts_in, IsText, IsRepeated, IsNamedAmong, IsLineAmongNames, IsRepeatedLine};
 
 use crate::lines::add_file_line_if;
 use dj_report::Violation;

@@ -2,7 +2,7 @@ ghost use Rattle.std.specs.Prelude.{◌≡◌, ◌↔◌, IsTrue, IfOk};
 ghost use Rattle.dj_pool.specs.Views.{constant_of};
 ghost use Rattle.dj_class.specs.Members.{member_of};
 ghost use Rattle.dj_class.specs.Views.{class_of};
-ghost use Rattle.dj_check.specs.trusted.Malformed.{IsIntText, FitsField, NamesValue, IsValueFor, IsFaultyField, HasFaultyField};
+ghost use Rattle.dj_early_rules.specs.trusted.Malformed.{IsIntText, FitsField, NamesValue, IsValueFor, IsFaultyField, HasFaultyField};
 
 use crate::bodies::bodies_named;
 use dj_class::{ClassView, MemberView};

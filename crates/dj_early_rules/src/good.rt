@@ -1,14 +1,14 @@
 ghost use Rattle.std.specs.Prelude.{IfOk};
 ghost use Rattle.dj_class.specs.trusted.ClassFile.{IsValid};
 ghost use Rattle.dj_class.specs.Views.{class_of};
-ghost use Rattle.dj_check.specs.Judged.{AreTexts, AreNumbered};
-ghost use Rattle.dj_check.specs.Passes.{IsGoodPart};
+ghost use Rattle.dj_early_rules.specs.Judged.{AreTexts, AreNumbered};
+ghost use Rattle.dj_early_rules.specs.Passes.{IsGoodPart};
 
 use crate::heads::class_head;
 use crate::judged::JudgedText;
 use crate::repeats::has_repeats;
 use dj_class::ClassView;
-use dj_hierarchy::ClassHead;
+use dj_hierarchy_rule::ClassHead;
 use std::alloc::{AllocError, Global};
 
 /// What is kept of a class file that doesn't violate rule 1.

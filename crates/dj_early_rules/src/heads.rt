@@ -2,14 +2,14 @@ ghost use Rattle.std.specs.Prelude.{◌≡◌, ◌↔◌, ℕ, List, option_and_
 ghost use Rattle.dj_pool.specs.trusted.Pool.{class_text_of, constant_at};
 ghost use Rattle.dj_class.specs.Views.{class_of};
 ghost use Rattle.dj_report.specs.Lines.{Gains};
-ghost use Rattle.dj_check.specs.Judged.{AreTexts};
-ghost use Rattle.dj_check.specs.trusted.Heads.{interface_names};
-ghost use Rattle.dj_check.specs.Gathered.{texts_of, IsClassText, HasText, AreClassTexts, AreTextsAt, IsHeadOf};
+ghost use Rattle.dj_early_rules.specs.Judged.{AreTexts};
+ghost use Rattle.dj_early_rules.specs.trusted.Heads.{interface_names};
+ghost use Rattle.dj_early_rules.specs.Gathered.{texts_of, IsClassText, HasText, AreClassTexts, AreTextsAt, IsHeadOf};
 
 use crate::classes::class_name;
 use crate::judged::{JudgedText, text_in};
 use dj_class::ClassView;
-use dj_hierarchy::ClassHead;
+use dj_hierarchy_rule::ClassHead;
 use dj_pool::{Entry, Pool};
 use std::alloc::{AllocError, Global};
 

@@ -1,12 +1,12 @@
 ghost use Rattle.std.specs.Prelude.{◌≡◌, ◌↔◌, ◌⊎◌, ◌<◌, map, length, slice_get, Some, IsTrue, OnOk, IfOk};
 ghost use Rattle.dj_report.specs.trusted.Lines.{file_line};
 ghost use Rattle.dj_report.specs.Lines.{Adds};
-ghost use Rattle.dj_hierarchy.specs.Views.{head_view};
-ghost use Rattle.dj_hierarchy.specs.Judged.{AreJudged};
-ghost use Rattle.dj_check.specs.Kept.{IsMarkedLine, IsOwnersLine};
+ghost use Rattle.dj_hierarchy_rule.specs.Views.{head_view};
+ghost use Rattle.dj_hierarchy_rule.specs.Judged.{AreJudged};
+ghost use Rattle.dj_early_rules.specs.Kept.{IsMarkedLine, IsOwnersLine};
 
 use crate::lines::add_file_line_if;
-use dj_hierarchy::{ClassHead, judge_heads};
+use dj_hierarchy_rule::{ClassHead, judge_heads};
 use dj_report::Violation;
 use std::alloc::{AllocError, Global};
 

@@ -1,11 +1,11 @@
 ghost use Rattle.std.specs.Prelude.{◌≡◌, ◌↔◌, ◌⊎◌, ℕ, IsTrue, IsSomeAnd};
 ghost use Rattle.dj_pool.specs.trusted.Pool.{constant_at};
 ghost use Rattle.dj_pool.specs.Views.{constant_of};
-ghost use Rattle.dj_check.specs.trusted.Classes.{IsGetClass, NamesGetClass, NamesReflective, class_text_index, names_at};
-ghost use Rattle.dj_check.specs.trusted.Instructions.{index_of, member_index_of, IsHandleOrType, IsClass, IsFloatNumber, NamesSuch, NamesSuchMember, PushesSuch, IsDynamic, IsReflection, IsFloat, IsSubroutine, IsBreakpoint, IsMultiArray};
-ghost use Rattle.dj_check.specs.Instructions.{is_plain};
-ghost use Rattle.dj_check.specs.Judged.{AreTexts};
-ghost use Rattle.dj_check.specs.trusted.Methods.{InstrViolates};
+ghost use Rattle.dj_early_rules.specs.trusted.Classes.{IsGetClass, NamesGetClass, NamesReflective, class_text_index, names_at};
+ghost use Rattle.dj_early_rules.specs.trusted.Instructions.{index_of, member_index_of, IsHandleOrType, IsClass, IsFloatNumber, NamesSuch, NamesSuchMember, PushesSuch, IsDynamic, IsReflection, IsFloat, IsSubroutine, IsBreakpoint, IsMultiArray};
+ghost use Rattle.dj_early_rules.specs.Instructions.{is_plain};
+ghost use Rattle.dj_early_rules.specs.Judged.{AreTexts};
+ghost use Rattle.dj_early_rules.specs.trusted.Methods.{InstrViolates};
 
 use crate::judged::{JudgedText, text_in};
 use crate::opcodes::{is_float_base, is_float_op, is_short_literal, is_subroutine_jump};

@@ -4,9 +4,9 @@ ghost use Rattle.dj_names.specs.trusted.Names.{IsClassName};
 ghost use Rattle.dj_class.specs.trusted.ClassFile.{MemberInfo};
 ghost use Rattle.dj_class.specs.Members.{member_of};
 ghost use Rattle.dj_class.specs.Views.{class_of};
-ghost use Rattle.dj_check.specs.trusted.Floats.{HasFloat, IsFloating, HasFloating, MentionsFloat};
-ghost use Rattle.dj_check.specs.trusted.Classes.{IsReflective, IsReflectiveText, element_class};
-ghost use Rattle.dj_check.specs.Judged.{IsTextAt, AreTexts, first_in, BeginsFloat, is_float_letter, AreNumbered, IsMarked, StayMarked, AreNamesMarked, AreMembersMarked, AreRight, Notes, IsReportedText, IsJudgedText, IsOwnText, AreOwnTexts};
+ghost use Rattle.dj_early_rules.specs.trusted.Floats.{HasFloat, IsFloating, HasFloating, MentionsFloat};
+ghost use Rattle.dj_early_rules.specs.trusted.Classes.{IsReflective, IsReflectiveText, element_class};
+ghost use Rattle.dj_early_rules.specs.Judged.{IsTextAt, AreTexts, first_in, BeginsFloat, is_float_letter, AreNumbered, IsMarked, StayMarked, AreNamesMarked, AreMembersMarked, AreRight, Notes, IsReportedText, IsJudgedText, IsOwnText, AreOwnTexts};
 
 use crate::prints::are_distinct;
 use dj_class::{ClassView, MemberView};

@@ -1,9 +1,9 @@
 ghost use Rattle.std.specs.Prelude.{◌≡◌, ◌↔◌, Contains, IsTrue, OnOk, IfOk};
 ghost use Rattle.dj_report.specs.trusted.Lines.{file_line};
 ghost use Rattle.dj_report.specs.Lines.{Adds, IsLineAmong};
-ghost use Rattle.dj_rules.specs.Lines.{pair_text};
-ghost use Rattle.dj_check.specs.declared.marks.Mark.{Mark};
-ghost use Rattle.dj_check.specs.Marks.{IsMarkLine};
+ghost use Rattle.dj_file_rules.specs.Lines.{pair_text};
+ghost use Rattle.dj_early_rules.specs.declared.marks.Mark.{Mark};
+ghost use Rattle.dj_early_rules.specs.Marks.{IsMarkLine};
 
 use crate::marks::Mark;
 use dj_names::Name;

@@ -1,8 +1,8 @@
 ghost use Rattle.std.specs.Prelude.{◌≡◌, ◌↔◌, ◌<◌, ◌^◌, length, IsTrue, IfOk};
 ghost use Rattle.std.specs.List.{AllByRecursion};
 ghost use Rattle.std.specs.List.Sorted.{IsStrictlyIncreasing};
-ghost use Rattle.dj_check.specs.trusted.Code.{IsFloatType, HaveFloats, HasFloatType, HaveFloatType, AreFramesAt};
-ghost use Rattle.dj_check.specs.Passes.{lacks_memory_of_frames, bodies_in, HasFramesAt};
+ghost use Rattle.dj_early_rules.specs.trusted.Code.{IsFloatType, HaveFloats, HasFloatType, HaveFloatType, AreFramesAt};
+ghost use Rattle.dj_early_rules.specs.Passes.{lacks_memory_of_frames, bodies_in, HasFramesAt};
 
 use dj_frames::{FrameError, read_frames};
 use dj_ops::{Form, Frame, Frames, VType};

@@ -1,6 +1,6 @@
 ghost use Rattle.std.specs.Prelude.{◌≡◌, ◌↔◌, IsTrue, OnOk};
 ghost use Rattle.dj_report.specs.Lines.{Gains};
-ghost use Rattle.dj_check.specs.Marks.{mark_at};
+ghost use Rattle.dj_early_rules.specs.Marks.{mark_at};
 
 use std::alloc::AllocError;
 

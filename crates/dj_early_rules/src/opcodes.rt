@@ -1,5 +1,5 @@
 ghost use Rattle.std.specs.Prelude.{◌≡◌};
-ghost use Rattle.dj_check.specs.trusted.Opcodes.{within, pushes_float, loads_float, stores_float, adds_float, divides_float, converts_float, ends_float, is_float_op, is_float_base, is_short_literal, is_subroutine_jump};
+ghost use Rattle.dj_early_rules.specs.trusted.Opcodes.{within, pushes_float, loads_float, stores_float, adds_float, divides_float, converts_float, ends_float, is_float_op, is_float_base, is_short_literal, is_subroutine_jump};
 
 fn within(low: u8, high: u8, op: u8) -> bool
     ensures { result ≡ within low high op }

@@ -1,9 +1,9 @@
 ghost use Rattle.std.specs.Prelude.{◌≡◌, ◌↔◌, ◌<◌, ◌^◌, length, IsTrue, OnOk};
 ghost use Rattle.dj_report.specs.Lines.{Gains};
-ghost use Rattle.dj_check.specs.Judged.{AreTexts};
-ghost use Rattle.dj_check.specs.trusted.Classes.{IsUncatchable};
-ghost use Rattle.dj_check.specs.trusted.Methods.{InstrViolates, CatchesError};
-ghost use Rattle.dj_check.specs.Marks.{place_of, MarksAt, MarksOf, ViolatesBelow, RangeViolates, IsAmongRanges, CodeMark};
+ghost use Rattle.dj_early_rules.specs.Judged.{AreTexts};
+ghost use Rattle.dj_early_rules.specs.trusted.Classes.{IsUncatchable};
+ghost use Rattle.dj_early_rules.specs.trusted.Methods.{InstrViolates, CatchesError};
+ghost use Rattle.dj_early_rules.specs.Marks.{place_of, MarksAt, MarksOf, ViolatesBelow, RangeViolates, IsAmongRanges, CodeMark};
 
 use crate::instructions::{
     is_breakpoint, is_dynamic, is_float, is_multi_array, is_plain, is_reflection, is_subroutine,

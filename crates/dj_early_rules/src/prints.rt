@@ -1,6 +1,6 @@
 //! Whether the texts that name the members of a class differ, as they do in most class files.
 ghost use Rattle.std.specs.Prelude.{◌≡◌, ◌≤◌, ◌^◌, true, length, IsTrue, IfOk};
-ghost use Rattle.dj_check.specs.Prints.{print_of, NotesPrint, AreDistinct};
+ghost use Rattle.dj_early_rules.specs.Prints.{print_of, NotesPrint, AreDistinct};
 
 use dj_pool::Pool;
 use std::alloc::{AllocError, Global};

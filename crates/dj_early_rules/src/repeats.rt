@@ -2,9 +2,9 @@ ghost use Rattle.std.specs.Prelude.{◌≡◌, ◌↔◌, map, IsTrue, IfOk};
 ghost use Rattle.dj_class.specs.trusted.ClassFile.{IsValid};
 ghost use Rattle.dj_class.specs.Members.{member_of};
 ghost use Rattle.dj_class.specs.Views.{class_of};
-ghost use Rattle.dj_check.specs.Judged.{AreTexts, AreNumbered};
-ghost use Rattle.dj_check.specs.trusted.Heads.{HasRepeats};
-ghost use Rattle.dj_check.specs.Gathered.{names_of, HasAgain};
+ghost use Rattle.dj_early_rules.specs.Judged.{AreTexts, AreNumbered};
+ghost use Rattle.dj_early_rules.specs.trusted.Heads.{HasRepeats};
+ghost use Rattle.dj_early_rules.specs.Gathered.{names_of, HasAgain};
 
 use crate::judged::JudgedText;
 use crate::methods::names_of;

@@ -5,7 +5,7 @@ use Rattle.dj_names.specs.trusted.Types.{Name, base_array}
 use Rattle.dj_model.specs.trusted.Linking.{chain_of, most_classes}
 use Rattle.dj_image.specs.Sources.{Source, class_of_source}
 use Rattle.dj_image.specs.Imaged.{Imaged}
-use Rattle.dj_standing.specs.Holders.{holds}
+use Rattle.dj_field_holders.specs.Holders.{holds}
 
 abbrev source : Name → Option Name → Source
 source name above = record {

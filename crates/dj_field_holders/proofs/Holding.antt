@@ -11,17 +11,17 @@ use Rattle.dj_names.specs.declared.descriptor.Ty.{Ty}
 use Rattle.dj_names.specs.trusted.Types.{Name, class_type}
 use Rattle.dj_model.specs.trusted.Program.{Program, Class, class_at, superclass_of}
 use Rattle.dj_model.specs.trusted.Linking.{chain, chain_of, is_among, most_classes}
-use Rattle.dj_declared.specs.Files.{bare_class}
-use Rattle.dj_classes.specs.Tables.{name_at, name_of}
-use Rattle.dj_linking.specs.Linked.{Linked, class_name}
-use Rattle.dj_types.specs.Typed.{types_of, is_known_of, AreArrays}
-use Rattle.dj_types.proofs.Reported.{types_among, type_among, type_of_class, known_at}
-use Rattle.dj_members.specs.Numbering.{among_above}
+use Rattle.dj_declarations.specs.Files.{bare_class}
+use Rattle.dj_class_table.specs.Tables.{name_at, name_of}
+use Rattle.dj_resolution.specs.Linked.{Linked, class_name}
+use Rattle.dj_numbering.specs.Typed.{types_of, is_known_of, AreArrays}
+use Rattle.dj_numbering.proofs.Reported.{types_among, type_among, type_of_class, known_at}
+use Rattle.dj_member_effects.specs.Numbering.{among_above}
 use Rattle.dj_image.specs.Imaged.{Imaged, program_of, typed_of}
 use Rattle.dj_image.specs.Numbering.{AreSettled}
 use Rattle.dj_image.proofs.Bare.{class_bare}
 use Rattle.dj_image.proofs.BareTyped.{name_at_bare}
-use Rattle.dj_standing.specs.Holders.{has_named, holds}
+use Rattle.dj_field_holders.specs.Holders.{has_named, holds}
 
 -- ---- superclasses in the program without code
 

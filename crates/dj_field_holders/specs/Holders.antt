@@ -2,9 +2,9 @@
 use Rattle.std.specs.Prelude.{ℕ, Bool, false, Option, Some, None}
 use Rattle.dj_names.specs.trusted.Types.{Name}
 use Rattle.dj_model.specs.trusted.Linking.{most_classes}
-use Rattle.dj_classes.specs.Tables.{name_at}
-use Rattle.dj_types.specs.Typed.{types_of}
-use Rattle.dj_members.specs.Numbering.{has_of}
+use Rattle.dj_class_table.specs.Tables.{name_at}
+use Rattle.dj_numbering.specs.Typed.{types_of}
+use Rattle.dj_member_effects.specs.Numbering.{has_of}
 use Rattle.dj_image.specs.Imaged.{Imaged, program_of, typed_of}
 
 -- whether the class of a number, or one of its superclasses, has the name; no array has one, and where there is no name no class has it

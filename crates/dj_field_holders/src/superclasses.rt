@@ -1,5 +1,5 @@
 use dj_image::Image;
-use dj_members::Holders;
+use dj_member_effects::Holders;
 
 /// The classes of an image by their superclasses: one look shows which of them have the fields that a class declares.
 #[derive(Clone, Copy)]
@@ -10,9 +10,9 @@ pub struct Superclasses<'i> {
 
 impl Holders for Superclasses<'_> {
     ghost use Rattle.std.specs.Prelude.{length};
-    ghost use Rattle.dj_types.specs.Typed.{types_of};
+    ghost use Rattle.dj_numbering.specs.Typed.{types_of};
     ghost use Rattle.dj_image.specs.Imaged.{typed_of};
-    ghost use Rattle.dj_standing.specs.Holders.{holds};
+    ghost use Rattle.dj_field_holders.specs.Holders.{holds};
 
     ghost count = { λ classes. length (types_of (typed_of classes.image.now)) };
 

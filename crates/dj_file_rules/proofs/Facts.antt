@@ -5,7 +5,7 @@ use Rattle.dj_pool.specs.trusted.Pool.{Constant, Utf8, Class}
 use Rattle.dj_class.specs.trusted.ClassFile.{MemberInfo, ClassFile, IsClassFile, IsMalformed}
 use Rattle.dj_report.specs.declared.report.Violation.{Violation}
 use Rattle.dj_report.specs.trusted.Lines.{file_line, member_line}
-use Rattle.dj_rules.specs.trusted.Violations.{member_text, path_units, IsNamedAs, this_name, IsNative, IsFinalizer, HasOtherVersion, IsClassLine, IsLineOf}
+use Rattle.dj_file_rules.specs.trusted.Violations.{member_text, path_units, IsNamedAs, this_name, IsNative, IsFinalizer, HasOtherVersion, IsClassLine, IsLineOf}
 
 -- ---- a class with two methods
 

@@ -10,10 +10,10 @@ use Rattle.dj_class.specs.Faults.{IsFault}
 use Rattle.dj_pool.proofs.Decides.{tests_decide}
 use Rattle.dj_class.proofs.AnswerLaws.{faulty_is_malformed}
 use Rattle.dj_report.specs.declared.report.PathFile.{PathFile}
-use Rattle.dj_rules.specs.Views.{path_file_view}
+use Rattle.dj_file_rules.specs.Views.{path_file_view}
 use Rattle.dj_class.specs.Memory.{is_memory}
-use Rattle.dj_rules.specs.Reads.{IsOnlyView}
-use Rattle.dj_rules.specs.trusted.Violations.{this_name}
+use Rattle.dj_file_rules.specs.Reads.{IsOnlyView}
+use Rattle.dj_file_rules.specs.trusted.Violations.{this_name}
 
 -- the text of a class is short
 pub short_name : (bytes : List ℕ) (c : ClassFile) → IsClassFile bytes c → length (this_name c) < 2 ^ 32

@@ -13,10 +13,10 @@ use Rattle.dj_report.specs.Lines.{Adds, Gains, IsLineAmong}
 use Rattle.dj_report.specs.trusted.Order.{IsInOrder}
 use Rattle.dj_report.proofs.Sorted.{contains_none}
 use Rattle.dj_report.proofs.Adding.{IsAmong, adds_same, adds_both, among_map, contains_map, from_contains_map, adds_none_yet, adds_one_more, exactly_found, exactly_same}
-use Rattle.dj_rules.specs.Lines.{IsPairLine, pair_of}
+use Rattle.dj_file_rules.specs.Lines.{IsPairLine, pair_of}
 use Rattle.std.proofs.lemmas.List.{take_all}
-use Rattle.dj_rules.specs.trusted.Violations.{member_text, this_name, IsNative, IsFinalizer, HasOtherVersion, IsNamedAs, IsMethodLine, IsClassLine, IsLineOf, IsViolation, AreViolations}
-use Rattle.dj_rules.specs.Views.{path_file_view}
+use Rattle.dj_file_rules.specs.trusted.Violations.{member_text, this_name, IsNative, IsFinalizer, HasOtherVersion, IsNamedAs, IsMethodLine, IsClassLine, IsLineOf, IsViolation, AreViolations}
+use Rattle.dj_file_rules.specs.Views.{path_file_view}
 
 -- the pair of a method of the condition
 abbrev pub IsOwnPair : (List Constant → MemberInfo → Type 0) → List Constant → MemberView → ℕ × ℕ → Type 0

@@ -10,7 +10,7 @@ use Rattle.dj_names.specs.trusted.ModifiedUtf8.{unit_text, units_text, SpellsUni
 use Rattle.dj_names.specs.ModifiedUtf8.{BeginsNoUnit, BreaksAt}
 use Rattle.dj_names.specs.trusted.UnitReading.{unit_read}
 use Rattle.dj_names.proofs.UnitLaws.{unit_again, one_prefix, spelled_once}
-use Rattle.dj_rules.specs.trusted.Violations.{path_units, IsNamedAs}
+use Rattle.dj_file_rules.specs.trusted.Violations.{path_units, IsNamedAs}
 
 -- all ends in the suffix, and what stands before is compared
 pub cut_is : (all prefix units suffix : List ℕ) (r : Bool) → all ≡ prefix ++ suffix → r ≡ pointwise eqb prefix units → IsTrue r ↔ (all ≡ units ++ suffix)

@@ -6,7 +6,7 @@ use Rattle.dj_report.specs.declared.report.Violation.{Violation}
 use Rattle.dj_report.specs.trusted.Lines.{member_line}
 use Rattle.dj_report.specs.Lines.{Adds, IsLineAmong}
 use Rattle.dj_report.proofs.Adding.{contains_map, from_contains_map, adds_same}
-use Rattle.dj_rules.specs.Lines.{IsPairLine, texts_of, turned_texts_of, HaveSameTexts}
+use Rattle.dj_file_rules.specs.Lines.{IsPairLine, texts_of, turned_texts_of, HaveSameTexts}
 
 -- both directions, one after the other
 in_turn : {A B C : Type 0} → (A ↔ B) → (B ↔ C) → (A ↔ C)

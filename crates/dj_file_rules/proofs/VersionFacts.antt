@@ -2,7 +2,7 @@
 use Rattle.std.proofs.Common.{◌≡◌, ◌≢◌, ℕ, ◌≤◌, [], refl, inl, inr, arith}
 use Rattle.std.proofs.lemmas.Bool.{cases_lt}
 use Rattle.dj_class.specs.trusted.ClassFile.{ClassFile}
-use Rattle.dj_rules.specs.trusted.Violations.{HasOtherVersion}
+use Rattle.dj_file_rules.specs.trusted.Violations.{HasOtherVersion}
 
 -- each of the three, of any file
 java_6 : (c : ClassFile) → c.major ≡ 50 → HasOtherVersion c → ⊥

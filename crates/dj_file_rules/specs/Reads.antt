@@ -3,10 +3,10 @@ use Rattle.std.specs.Prelude.{ℕ, ⊤, List, [], ◌∷◌, Option, Some, None}
 use Rattle.dj_edge.specs.trusted.Held.{File}
 use Rattle.dj_class.specs.trusted.ClassFile.{IsClassFile, IsMalformed}
 use Rattle.dj_class.specs.Views.{class_of}
-use Rattle.dj_rules.specs.declared.view.FileView.{FileView}
-use Rattle.dj_rules.specs.declared.view.FileView.TheVariants as views
-use Rattle.dj_rules.specs.declared.judge.Judged.{Judged}
-use Rattle.dj_rules.specs.trusted.Violations.{AreViolations}
+use Rattle.dj_file_rules.specs.declared.view.FileView.{FileView}
+use Rattle.dj_file_rules.specs.declared.view.FileView.TheVariants as views
+use Rattle.dj_file_rules.specs.declared.judge.Judged.{Judged}
+use Rattle.dj_file_rules.specs.trusted.Violations.{AreViolations}
 
 -- the view shows the class file that the bytes are
 abbrev pub IsViewOf : List ℕ → FileView → Type 0

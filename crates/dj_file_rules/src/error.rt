@@ -12,7 +12,7 @@ pub enum RulesError {
 }
 
 impl From<AllocError> for RulesError {
-    ghost use Rattle.dj_rules.specs.declared.error.RulesError.TheVariants.{Memory};
+    ghost use Rattle.dj_file_rules.specs.declared.error.RulesError.TheVariants.{Memory};
 
     ghost from_gives = { λ _ e. e ≡ Memory };
 
@@ -22,7 +22,7 @@ impl From<AllocError> for RulesError {
 }
 
 impl<T: Drop> From<AllocFailed<T>> for RulesError {
-    ghost use Rattle.dj_rules.specs.declared.error.RulesError.TheVariants.{Memory};
+    ghost use Rattle.dj_file_rules.specs.declared.error.RulesError.TheVariants.{Memory};
 
     ghost from_gives = { λ _ e. e ≡ Memory };
 

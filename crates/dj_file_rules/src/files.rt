@@ -1,8 +1,8 @@
 ghost use Rattle.std.specs.Prelude.{◌≡◌, ◌<◌, ◌^◌, length, map, All, IfOk, OnOk};
 ghost use Rattle.dj_report.specs.Lines.{Adds};
-ghost use Rattle.dj_rules.specs.Reads.{IsViewOf};
-ghost use Rattle.dj_rules.specs.trusted.Violations.{AreViolations, IsLineOf};
-ghost use Rattle.dj_rules.specs.Views.{path_file_view};
+ghost use Rattle.dj_file_rules.specs.Reads.{IsViewOf};
+ghost use Rattle.dj_file_rules.specs.trusted.Violations.{AreViolations, IsLineOf};
+ghost use Rattle.dj_file_rules.specs.Views.{path_file_view};
 
 use crate::error::RulesError;
 use crate::view::{FileView, view_file};

@@ -1,6 +1,6 @@
 ghost use Rattle.std.specs.Prelude.{◌≡◌, ◌<◌, ◌^◌, [], ◌∷◌, length, map, All, IfOk};
-ghost use Rattle.dj_rules.specs.Reads.{AreJudgedAs};
-ghost use Rattle.dj_rules.specs.Views.{path_file_view};
+ghost use Rattle.dj_file_rules.specs.Reads.{AreJudgedAs};
+ghost use Rattle.dj_file_rules.specs.Views.{path_file_view};
 
 use crate::error::RulesError;
 use crate::files::{add_file_lines, rules};

@@ -1,6 +1,6 @@
 ghost use Rattle.std.specs.Prelude.{◌≡◌, OnOk, IfOk};
 ghost use Rattle.dj_report.specs.Lines.{Adds};
-ghost use Rattle.dj_rules.specs.Lines.{IsPairLine, pair_text};
+ghost use Rattle.dj_file_rules.specs.Lines.{IsPairLine, pair_text};
 
 use crate::error::RulesError;
 use dj_names::Name;

@@ -3,8 +3,8 @@ ghost use Rattle.dj_pool.specs.trusted.Pool.{text_at};
 ghost use Rattle.dj_class.specs.Members.{member_of};
 ghost use Rattle.dj_class.specs.Views.{class_of};
 ghost use Rattle.dj_report.specs.Lines.{Adds, Gains, IsLineAmong};
-ghost use Rattle.dj_rules.specs.Lines.{IsPairLine, pair_of};
-ghost use Rattle.dj_rules.specs.trusted.Violations.{IsNative, IsFinalizer, IsMethodLine};
+ghost use Rattle.dj_file_rules.specs.Lines.{IsPairLine, pair_of};
+ghost use Rattle.dj_file_rules.specs.trusted.Violations.{IsNative, IsFinalizer, IsMethodLine};
 
 use crate::error::RulesError;
 use crate::lines::{MemberLines, add_member_line};

@@ -1,5 +1,5 @@
 ghost use Rattle.std.specs.Prelude.{◌≡◌, ◌↔◌, ◌<◌, ◌^◌, ◌++◌, length, codes, IsTrue, IfOk};
-ghost use Rattle.dj_rules.specs.trusted.Violations.{path_units, IsNamedAs};
+ghost use Rattle.dj_file_rules.specs.trusted.Violations.{path_units, IsNamedAs};
 
 use crate::error::RulesError;
 use dj_names::{TextError, units_of};

@@ -1,6 +1,6 @@
 ghost use Rattle.std.specs.Prelude.{◌≡◌, ℕ, ◌↔◌, map, Contains, IfOk};
 ghost use Rattle.dj_pool.specs.trusted.Pool.{text_at};
-ghost use Rattle.dj_rules.specs.Lines.{texts_of, turned_texts_of, HaveSameTexts};
+ghost use Rattle.dj_file_rules.specs.Lines.{texts_of, turned_texts_of, HaveSameTexts};
 
 use crate::error::RulesError;
 use dj_pool::Pool;

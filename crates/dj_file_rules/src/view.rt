@@ -1,6 +1,6 @@
 ghost use Rattle.std.specs.Prelude.{◌≡◌, ◌<◌, ◌^◌, length, Err, IfOk};
 ghost use Rattle.dj_class.specs.Views.{ReadsClass};
-ghost use Rattle.dj_rules.specs.Reads.{IsViewOf};
+ghost use Rattle.dj_file_rules.specs.Reads.{IsViewOf};
 
 use crate::error::RulesError;
 use crate::faults::is_memory;

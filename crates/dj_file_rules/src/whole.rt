@@ -3,7 +3,7 @@ ghost use Rattle.dj_report.specs.declared.report.Violation.{Violation};
 ghost use Rattle.dj_class.specs.Views.{class_of};
 ghost use Rattle.dj_report.specs.trusted.Lines.{file_line};
 ghost use Rattle.dj_report.specs.Lines.{Adds};
-ghost use Rattle.dj_rules.specs.trusted.Violations.{this_name, HasOtherVersion, IsNamedAs, IsClassLine};
+ghost use Rattle.dj_file_rules.specs.trusted.Violations.{this_name, HasOtherVersion, IsNamedAs, IsClassLine};
 
 use crate::error::RulesError;
 use crate::members::{add_finalizer_lines, add_native_lines};

@@ -1,9 +1,9 @@
 ghost use Rattle.std.specs.Prelude.{◌<◌, ◌^◌, ◌↔◌, length, All, IsTrue};
 
 use dj_class::ClassError;
+use dj_file_rules::{RulesError, is_memory, rules, units_of_path};
 use dj_pool::PoolError;
 use dj_report::{PathFile, Violation};
-use dj_rules::{RulesError, is_memory, rules, units_of_path};
 use dj_test_files::{A, FileText, NATIVE, PathText, TWICE, build, lend};
 use std::alloc::Global;
 

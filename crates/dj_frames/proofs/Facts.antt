@@ -4,10 +4,10 @@ use Rattle.std.specs.Prelude.{⊤}
 use Rattle.std.specs.List.{AllByRecursion}
 use Rattle.std.specs.List.Sorted.{IsStrictlyIncreasing}
 use Rattle.std.proofs.lemmas.List.Elements.{All-from_recursion}
-use Rattle.dj_bytes.specs.Reading.{many_at, table_at}
+use Rattle.dj_cursor.specs.Reading.{many_at, table_at}
 use Rattle.std.proofs.lemmas.Bool.{ltb-true}
-use Rattle.dj_bytes.proofs.Bytes.{IsBytes}
-use Rattle.dj_bytes.proofs.Steps.{cond_either}
+use Rattle.dj_cursor.proofs.Bytes.{IsBytes}
+use Rattle.dj_cursor.proofs.Steps.{cond_either}
 use Rattle.dj_ops.specs.declared.frames.VType.{VType}
 use Rattle.dj_ops.specs.declared.frames.VType.TheVariants as types
 use Rattle.dj_ops.specs.declared.frames.Form.{Form}

@@ -4,13 +4,13 @@ use Rattle.std.specs.List.{AllByRecursion}
 use Rattle.std.specs.List.Sorted.{IsStrictlyIncreasing}
 use Rattle.std.proofs.lemmas.Bool.{eqb-true, ltb-true, lt-ltb, le-ltb}
 use Rattle.std.proofs.lemmas.Bool.Decides.{nat_tests}
-use Rattle.dj_bytes.specs.trusted.Spelling.{table_bytes}
-use Rattle.dj_bytes.specs.Reading.{Cursor}
-use Rattle.dj_bytes.proofs.Bytes.{IsBytes}
-use Rattle.dj_bytes.proofs.Steps.{bind_again, cond_either, cond_true, cond_false}
-use Rattle.dj_bytes.proofs.Spans.{Spans, Spans-none, Spans-then, Spans-stay, step_takes, step_again}
-use Rattle.dj_bytes.specs.Faults.{AreFew}
-use Rattle.dj_bytes.proofs.Parts.{many_reads, table_reads}
+use Rattle.dj_cursor.specs.trusted.Spelling.{table_bytes}
+use Rattle.dj_cursor.specs.Reading.{Cursor}
+use Rattle.dj_cursor.proofs.Bytes.{IsBytes}
+use Rattle.dj_cursor.proofs.Steps.{bind_again, cond_either, cond_true, cond_false}
+use Rattle.dj_cursor.proofs.Spans.{Spans, Spans-none, Spans-then, Spans-stay, step_takes, step_again}
+use Rattle.dj_cursor.specs.Faults.{AreFew}
+use Rattle.dj_cursor.proofs.Parts.{many_reads, table_reads}
 use Rattle.dj_ops.specs.declared.frames.VType.{VType}
 use Rattle.dj_ops.specs.declared.frames.Form.{Form}
 use Rattle.dj_ops.specs.declared.frames.Form.TheVariants as forms

@@ -4,13 +4,13 @@ use Rattle.std.specs.Prelude.{slice_index, Contains}
 use Rattle.std.specs.List.Sorted.{IsStrictlyIncreasing}
 use Rattle.std.proofs.lemmas.Bool.{eqb-true, eq-eqb, ltb-true, ltb-false, lt-ltb, le-ltb}
 use Rattle.std.proofs.lemmas.Bool.Decides.{nat_tests}
-use Rattle.dj_bytes.specs.trusted.Spelling.{table_bytes}
-use Rattle.dj_bytes.specs.Reading.{Cursor}
-use Rattle.dj_bytes.proofs.Bytes.{IsBytes}
-use Rattle.dj_bytes.proofs.Steps.{bind_again, bind_err, bind_fails, never_err, cond_either, cond_true, cond_false}
-use Rattle.dj_bytes.proofs.Spans.{Spans, Spans-none, Spans-then, Spans-split, Spans-stay, IsBytes-Spans}
-use Rattle.dj_bytes.proofs.Numbers.{u1_reads}
-use Rattle.dj_bytes.proofs.Parts.{table_reads}
+use Rattle.dj_cursor.specs.trusted.Spelling.{table_bytes}
+use Rattle.dj_cursor.specs.Reading.{Cursor}
+use Rattle.dj_cursor.proofs.Bytes.{IsBytes}
+use Rattle.dj_cursor.proofs.Steps.{bind_again, bind_err, bind_fails, never_err, cond_either, cond_true, cond_false}
+use Rattle.dj_cursor.proofs.Spans.{Spans, Spans-none, Spans-then, Spans-split, Spans-stay, IsBytes-Spans}
+use Rattle.dj_cursor.proofs.Numbers.{u1_reads}
+use Rattle.dj_cursor.proofs.Parts.{table_reads}
 use Rattle.dj_ops.specs.declared.frames.Frame.{Frame}
 use Rattle.dj_frames.specs.declared.read.FrameError.{FrameError}
 use Rattle.dj_frames.specs.declared.read.FrameError.TheVariants as errors

@@ -4,12 +4,12 @@ use Rattle.std.specs.Prelude.{slice_index}
 use Rattle.std.specs.List.{AllByRecursion}
 use Rattle.std.specs.List.Sorted.{IsStrictlyIncreasing}
 use Rattle.std.proofs.lemmas.Bool.{ltb-true, ltb-false, lt-ltb, le-ltb}
-use Rattle.dj_bytes.specs.trusted.Spelling.{u1, u2}
-use Rattle.dj_bytes.specs.Reading.{Cursor}
-use Rattle.dj_bytes.proofs.Bytes.{IsBytes}
-use Rattle.dj_bytes.proofs.Steps.{bind_ok, bind_again, cond_either, cond_true, cond_false}
-use Rattle.dj_bytes.proofs.Spans.{Spans, Spans-none, Spans-then, Spans-split, Spans-stay, IsBytes-Spans, step_takes, step_again}
-use Rattle.dj_bytes.proofs.Numbers.{u1_reads, u2_reads}
+use Rattle.dj_cursor.specs.trusted.Spelling.{u1, u2}
+use Rattle.dj_cursor.specs.Reading.{Cursor}
+use Rattle.dj_cursor.proofs.Bytes.{IsBytes}
+use Rattle.dj_cursor.proofs.Steps.{bind_ok, bind_again, cond_either, cond_true, cond_false}
+use Rattle.dj_cursor.proofs.Spans.{Spans, Spans-none, Spans-then, Spans-split, Spans-stay, IsBytes-Spans, step_takes, step_again}
+use Rattle.dj_cursor.proofs.Numbers.{u1_reads, u2_reads}
 use Rattle.dj_ops.specs.declared.frames.Form.{Form}
 use Rattle.dj_ops.specs.declared.frames.Form.TheVariants as forms
 use Rattle.dj_ops.specs.declared.frames.Frame.{Frame}

@@ -2,10 +2,10 @@
 use Rattle.std.proofs.Common.{◌≡◌, ℕ, suc, ◌-◌, ◌+◌, ◌≤◌, ◌<◌, List, [], ◌∷◌, ◌++◌, Result, Ok, sym, ap, subst, ◌∙◌, arith}
 use Rattle.std.specs.Prelude.{slice_index}
 use Rattle.std.proofs.lemmas.List.{append-nil}
-use Rattle.dj_bytes.proofs.Steps.{fails_then}
-use Rattle.dj_bytes.proofs.Loop.{with_prefix, with_prefix-next}
-use Rattle.dj_bytes.specs.Steps.{◌>>=◌, Fails}
-use Rattle.dj_bytes.specs.Reading.{Cursor}
+use Rattle.dj_cursor.proofs.Steps.{fails_then}
+use Rattle.dj_cursor.proofs.Loop.{with_prefix, with_prefix-next}
+use Rattle.dj_cursor.specs.Steps.{◌>>=◌, Fails}
+use Rattle.dj_cursor.specs.Reading.{Cursor}
 use Rattle.dj_ops.specs.declared.frames.Frame.{Frame}
 use Rattle.dj_frames.specs.declared.read.FrameError.{FrameError}
 use Rattle.dj_frames.specs.Reading.{is_memory, frame_at, frames_at}

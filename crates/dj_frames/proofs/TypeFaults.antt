@@ -6,14 +6,14 @@ use Rattle.std.specs.Int.{w8, w16}
 use Rattle.std.proofs.lemmas.Bool.{eqb-true, eq-eqb}
 use Rattle.std.proofs.lemmas.Bool.Decides.{nat_tests}
 use Rattle.std.proofs.lemmas.List.{nil_from_length}
-use Rattle.dj_bytes.specs.declared.cursor.Cut.{Cut}
-use Rattle.dj_bytes.specs.Steps.{lifted}
-use Rattle.dj_bytes.specs.Reading.{Cursor, u1_at, u2_at, many_at, table_at}
-use Rattle.dj_bytes.proofs.Bytes.{IsBytes}
-use Rattle.dj_bytes.proofs.Steps.{bind_again, bind_err, bind_fails, lifted_err, never_err, cond_either, cond_true, cond_false}
-use Rattle.dj_bytes.proofs.Spans.{Spans, IsBytes-Spans}
-use Rattle.dj_bytes.proofs.Numbers.{u1_reads, u2_reads, bytes_reads, number_cut, number_short}
-use Rattle.dj_bytes.proofs.Parts.{many_stops, many_halt}
+use Rattle.dj_cursor.specs.declared.cursor.Cut.{Cut}
+use Rattle.dj_cursor.specs.Steps.{lifted}
+use Rattle.dj_cursor.specs.Reading.{Cursor, u1_at, u2_at, many_at, table_at}
+use Rattle.dj_cursor.proofs.Bytes.{IsBytes}
+use Rattle.dj_cursor.proofs.Steps.{bind_again, bind_err, bind_fails, lifted_err, never_err, cond_either, cond_true, cond_false}
+use Rattle.dj_cursor.proofs.Spans.{Spans, IsBytes-Spans}
+use Rattle.dj_cursor.proofs.Numbers.{u1_reads, u2_reads, bytes_reads, number_cut, number_short}
+use Rattle.dj_cursor.proofs.Parts.{many_stops, many_halt}
 use Rattle.dj_frames.specs.declared.read.FrameError.{FrameError}
 use Rattle.dj_frames.specs.declared.read.FrameError.TheVariants as errors
 use Rattle.dj_frames.specs.trusted.StackMaps.{type_bytes}

@@ -5,9 +5,9 @@ use Rattle.std.specs.List.Sorted.{IsStrictlyIncreasing}
 use Rattle.std.proofs.lemmas.Bool.Decides.{nat_tests}
 use Rattle.std.proofs.lemmas.Bool.{cases_lt}
 use Rattle.std.proofs.lemmas.List.{get_or_past}
-use Rattle.dj_bytes.specs.Reading.{Cursor, start_of}
-use Rattle.dj_bytes.proofs.Bytes.{IsBytes}
-use Rattle.dj_bytes.proofs.Steps.{bind_again, bind_err, bind_fails, never_err, cond_either, cond_false}
+use Rattle.dj_cursor.specs.Reading.{Cursor, start_of}
+use Rattle.dj_cursor.proofs.Bytes.{IsBytes}
+use Rattle.dj_cursor.proofs.Steps.{bind_again, bind_err, bind_fails, never_err, cond_either, cond_false}
 use Rattle.dj_ops.specs.declared.frames.Frame.{Frame}
 use Rattle.dj_frames.specs.declared.read.FrameError.{FrameError}
 use Rattle.dj_frames.specs.declared.read.FrameError.TheVariants as errors
@@ -15,7 +15,7 @@ use Rattle.dj_frames.specs.trusted.StackMaps.{IsStackMap}
 use Rattle.dj_frames.specs.Refusals.{IsFault, IsFaultyFrame, least_after}
 use Rattle.dj_frames.specs.Reading.{is_memory, frames_at, frames_read}
 use Rattle.dj_frames.specs.Answers.{ReadsFrames}
-use Rattle.dj_bytes.specs.Steps.{Gives}
+use Rattle.dj_cursor.specs.Steps.{Gives}
 use Rattle.dj_frames.proofs.FrameLaws.{frames_take, frames_again}
 use Rattle.dj_frames.proofs.WholeLaws.{map_takes, map_again}
 use Rattle.dj_frames.proofs.TypeFaults.{after, begins, u2_stops, u2_halts, u2_is}

@@ -3,12 +3,12 @@ use Rattle.std.proofs.Common.{◌≡◌, ℕ, List, [], ◌++◌, length, Ok, re
 use Rattle.std.specs.List.Sorted.{IsStrictlyIncreasing}
 use Rattle.std.proofs.lemmas.Bool.{eqb-true}
 use Rattle.std.proofs.lemmas.List.{nil_from_length}
-use Rattle.dj_bytes.specs.trusted.Spelling.{u2}
-use Rattle.dj_bytes.specs.Reading.{Cursor, start_of}
-use Rattle.dj_bytes.proofs.Bytes.{IsBytes}
-use Rattle.dj_bytes.proofs.Steps.{bind_ok, bind_again, guard_ok, guard_again}
-use Rattle.dj_bytes.proofs.Spans.{Spans, Spans-then, Spans-end, step_takes, step_again}
-use Rattle.dj_bytes.proofs.Numbers.{u2_reads}
+use Rattle.dj_cursor.specs.trusted.Spelling.{u2}
+use Rattle.dj_cursor.specs.Reading.{Cursor, start_of}
+use Rattle.dj_cursor.proofs.Bytes.{IsBytes}
+use Rattle.dj_cursor.proofs.Steps.{bind_ok, bind_again, guard_ok, guard_again}
+use Rattle.dj_cursor.proofs.Spans.{Spans, Spans-then, Spans-end, step_takes, step_again}
+use Rattle.dj_cursor.proofs.Numbers.{u2_reads}
 use Rattle.dj_ops.specs.declared.frames.Frame.{Frame}
 use Rattle.dj_frames.specs.declared.read.FrameError.TheVariants as errors
 use Rattle.dj_frames.specs.trusted.StackMaps.{IsStackMap}

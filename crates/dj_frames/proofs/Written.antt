@@ -5,7 +5,7 @@ use Rattle.std.specs.List.Sorted.{IsStrictlyIncreasing}
 use Rattle.std.proofs.lemmas.Bool.{leb-true}
 use Rattle.std.proofs.lemmas.List.{drop_more, nil_from_length, length-drop}
 use Rattle.std.proofs.lemmas.List.Elements.{All-tail, recursion_from_All, All-from_recursion}
-use Rattle.dj_bytes.proofs.Steps.{cond_either}
+use Rattle.dj_cursor.proofs.Steps.{cond_either}
 use Rattle.dj_ops.specs.declared.frames.Form.{Form}
 use Rattle.dj_ops.specs.declared.frames.Form.TheVariants as forms
 use Rattle.dj_ops.specs.declared.frames.Frame.{Frame}

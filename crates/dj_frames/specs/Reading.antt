@@ -1,8 +1,8 @@
 -- The reader's own: reading a stack map from left to right, with the first fault that is met.
 use Rattle.std.specs.Prelude.{ℕ, zero, suc, ◌+◌, ◌-◌, ◌==◌, Bool, true, false, List, [], ◌∷◌, Option, Some, None, Result, Ok, Err, nat_eq, nat_lt, slice_index, if◌then◌else◌}
 use Rattle.std.specs.List.{position}
-use Rattle.dj_bytes.specs.Steps.{◌>>=◌}
-use Rattle.dj_bytes.specs.Reading.{Cursor, start_of, at_end, u1_at, u2_at, many_at, table_at}
+use Rattle.dj_cursor.specs.Steps.{◌>>=◌}
+use Rattle.dj_cursor.specs.Reading.{Cursor, start_of, at_end, u1_at, u2_at, many_at, table_at}
 use Rattle.dj_ops.specs.declared.frames.VType.{VType}
 use Rattle.dj_ops.specs.declared.frames.VType.TheVariants as types
 use Rattle.dj_ops.specs.declared.frames.Form.{Form}

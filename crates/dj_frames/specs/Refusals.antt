@@ -2,7 +2,7 @@
 -- gives an address where no instruction starts; or bytes after the last item.
 use Rattle.std.specs.Prelude.{◌≡◌, ℕ, ◌+◌, ◌-◌, ◌^◌, ◌<◌, ◌≤◌, ◌⊎◌, List, [], ◌∷◌, ◌++◌, length, slice_index, Contains}
 use Rattle.std.specs.List.{flat_map, AllByRecursion}
-use Rattle.dj_bytes.specs.trusted.Spelling.{u2, table_bytes}
+use Rattle.dj_cursor.specs.trusted.Spelling.{u2, table_bytes}
 use Rattle.dj_ops.specs.declared.frames.VType.{VType}
 use Rattle.dj_ops.specs.declared.frames.Frame.{Frame}
 use Rattle.dj_frames.specs.declared.read.FrameError.{FrameError}

@@ -1,13 +1,13 @@
 ghost use Rattle.std.specs.Prelude.{◌≡◌, ◌+◌, ◌-◌, ◌^◌, ◌<◌, ◌≤◌, ℕ, length, IfOk};
 ghost use Rattle.std.specs.List.Sorted.{IsStrictlyIncreasing};
-ghost use Rattle.dj_bytes.specs.Steps.{Gives};
-ghost use Rattle.dj_bytes.specs.Reading.{many_at, table_at};
-ghost use Rattle.dj_bytes.specs.Views.{cursor_of};
+ghost use Rattle.dj_cursor.specs.Steps.{Gives};
+ghost use Rattle.dj_cursor.specs.Reading.{many_at, table_at};
+ghost use Rattle.dj_cursor.specs.Views.{cursor_of};
 ghost use Rattle.dj_frames.specs.Reading.{is_memory, number_at, offset_at, plain_type_at, bare_type_at, object_at, uninitialized_at, type_at, stack1_at, append_at, full_at, form_at, long_frame_at, same_frame_at, stack1_frame_at, frame_at, frames_at, frames_read};
 ghost use Rattle.dj_frames.specs.Answers.{ReadsFrames};
 ghost use Rattle.dj_frames.specs.declared.read.FrameError.TheVariants as errors;
 
-use dj_bytes::{Cursor, Cut};
+use dj_cursor::{Cursor, Cut};
 use dj_ops::{Form, Frame, Frames, VType, VTypes};
 use std::alloc::{AllocError, AllocFailed, Global};
 use thiserror::Error;
@@ -158,7 +158,7 @@ fn read_types<'a>(
     Ok((types, after))
 }
 
-#[tactic(auto, unfolding(dj_bytes::specs::Reading::table_at))]
+#[tactic(auto, unfolding(dj_cursor::specs::Reading::table_at))]
 fn read_type_table<'a>(
     alloc: Global,
     starts: &[u32],

@@ -1,6 +1,6 @@
 ghost use Rattle.std.specs.Prelude.{◌≡◌, ◌+◌, ◌-◌, ◌^◌, ◌<◌, ◌≤◌, ◌++◌, ◌∷◌, [], length, All, AllPairs, slice_index, OnOk, IfOk, IfErr};
 ghost use Rattle.std.specs.List.{flat_map};
-ghost use Rattle.dj_bytes.specs.trusted.Spelling.{u1, u2, table_bytes};
+ghost use Rattle.dj_cursor.specs.trusted.Spelling.{u1, u2, table_bytes};
 ghost use Rattle.dj_frames.specs.trusted.StackMaps.{long_tag, type_bytes, form_bytes, types_of, HasCounts, IsType, IsStackMap};
 ghost use Rattle.dj_frames.specs.StackMaps.{AreWellFormed};
 ghost use Rattle.dj_frames.specs.trusted.Written.{short_tag, head_bytes, frames_bytes, stack_map_bytes};

@@ -4,7 +4,7 @@ use Rattle.std.specs.Prelude.{◌⊎◌, ⊤, IsSomeAnd}
 use Rattle.std.specs.Int.{IsBitSet}
 use Rattle.dj_class.specs.trusted.Access as access
 use Rattle.dj_library.specs.trusted.Heads.{Head}
-use Rattle.dj_hierarchy.specs.trusted.Hierarchy.{IsFinal, IsInterface, HasSuch, IsMissing, IsAbove, Climbs, Stays, Rises, IsBadSuperclass, IsOffObject, IsBadInterface, ViolatesHierarchy}
+use Rattle.dj_hierarchy_rule.specs.trusted.Hierarchy.{IsFinal, IsInterface, HasSuch, IsMissing, IsAbove, Climbs, Stays, Rises, IsBadSuperclass, IsOffObject, IsBadInterface, ViolatesHierarchy}
 
 -- the same class, but for the order of its interfaces and how often it lists each
 pub record IsAlike (a b : Head) : Type 0 where

@@ -5,8 +5,8 @@ use Rattle.std.proofs.lemmas.List.{take_more, take_all, get_or-map, length-map, 
 use Rattle.std.proofs.lemmas.List.Elements.{Contains-get_or, Contains-push_cases}
 use Rattle.std.proofs.lemmas.Option.{same_Some, slice_get-map, slice_get_read}
 use Rattle.dj_library.specs.trusted.Heads.{Head}
-use Rattle.dj_hierarchy.specs.trusted.Hierarchy.{ViolatesHierarchy}
-use Rattle.dj_hierarchy.specs.Judged.{AreMarks}
+use Rattle.dj_hierarchy_rule.specs.trusted.Hierarchy.{ViolatesHierarchy}
+use Rattle.dj_hierarchy_rule.specs.Judged.{AreMarks}
 
 -- ---- lists that are seen
 

@@ -5,10 +5,10 @@ use Rattle.std.proofs.lemmas.List.Elements.{Contains-get_or}
 use Rattle.std.proofs.lemmas.Option.{same_Some, slice_get_within, get_or_from_slice_get, slice_get-get_or}
 use Rattle.dj_graph.specs.Graphs.{Edges, HasEdge, Reaches, Here, Along, AreComponents, IsInside}
 use Rattle.dj_library.specs.trusted.Heads.{Head}
-use Rattle.dj_hierarchy.specs.declared.names.Known.{Known}
-use Rattle.dj_hierarchy.specs.trusted.Hierarchy.{HasSuch, IsMissing, Climbs, Stays, Rises}
-use Rattle.dj_hierarchy.specs.Names.{IsNamedAt, IsKnown, Names, known_at, place_of, AreNames}
-use Rattle.dj_hierarchy.specs.Edges.{AreEdges, AreJoined}
+use Rattle.dj_hierarchy_rule.specs.declared.names.Known.{Known}
+use Rattle.dj_hierarchy_rule.specs.trusted.Hierarchy.{HasSuch, IsMissing, Climbs, Stays, Rises}
+use Rattle.dj_hierarchy_rule.specs.Names.{IsNamedAt, IsKnown, Names, known_at, place_of, AreNames}
+use Rattle.dj_hierarchy_rule.specs.Edges.{AreEdges, AreJoined}
 
 -- ---- places
 

@@ -8,12 +8,12 @@ use Rattle.std.proofs.lemmas.Option.{same_Some, none-some, slice_get_read, slice
 use Rattle.std.proofs.lemmas.List.Elements.{Contains-append_left, Contains-push, Contains-push_cases}
 use Rattle.dj_graph.specs.Graphs.{Edges, HasEdge, edges_of}
 use Rattle.dj_library.specs.trusted.Heads.{Head}
-use Rattle.dj_hierarchy.specs.declared.names.Known.{Known}
-use Rattle.dj_hierarchy.specs.trusted.Hierarchy.{IsAbove}
-use Rattle.dj_hierarchy.specs.Names.{Names, known_at, place_of}
-use Rattle.dj_hierarchy.specs.Edges.{IsPlaceAbove, GainsPlaces, GainsEdges, IsMadeEdge, AreEdges}
-use Rattle.dj_hierarchy.specs.Views.{text_of}
-use Rattle.dj_hierarchy.proofs.Anys.{seen_more}
+use Rattle.dj_hierarchy_rule.specs.declared.names.Known.{Known}
+use Rattle.dj_hierarchy_rule.specs.trusted.Hierarchy.{IsAbove}
+use Rattle.dj_hierarchy_rule.specs.Names.{Names, known_at, place_of}
+use Rattle.dj_hierarchy_rule.specs.Edges.{IsPlaceAbove, GainsPlaces, GainsEdges, IsMadeEdge, AreEdges}
+use Rattle.dj_hierarchy_rule.specs.Views.{text_of}
+use Rattle.dj_hierarchy_rule.proofs.Anys.{seen_more}
 
 pub ok_then : {T E P Q : Type 0} (r : Result T E) → (P → Q) → OnOk r P → OnOk r Q
 ok_then (Ok x) f p = f p

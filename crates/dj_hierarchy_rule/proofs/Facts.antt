@@ -6,7 +6,7 @@ use Rattle.std.proofs.lemmas.Bool.{both_ways}
 use Rattle.std.proofs.lemmas.List.Elements.{All-contains, All-from_recursion}
 use Rattle.std.proofs.lemmas.Slice.Eq.{bytes_eq-Decides}
 use Rattle.dj_library.specs.trusted.Heads.{Head}
-use Rattle.dj_hierarchy.specs.trusted.Hierarchy.{IsFinal, IsInterface, HasSuch, IsAbove, Climbs, Stays, Rises, LacksSuperclass, IsBadSuperclass, IsOffObject, IsBadInterface, HasBadInterface, IsOwnAncestor, ViolatesHierarchy}
+use Rattle.dj_hierarchy_rule.specs.trusted.Hierarchy.{IsFinal, IsInterface, HasSuch, IsAbove, Climbs, Stays, Rises, LacksSuperclass, IsBadSuperclass, IsOffObject, IsBadInterface, HasBadInterface, IsOwnAncestor, ViolatesHierarchy}
 
 -- ---- heads
 

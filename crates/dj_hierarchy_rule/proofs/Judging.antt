@@ -5,15 +5,15 @@ use Rattle.std.proofs.lemmas.Bool.{or_cases, or_left, or_right, eqb-true, eq-eqb
 use Rattle.std.proofs.lemmas.Option.{same_Some, none-some, slice_get_cases}
 use Rattle.std.proofs.lemmas.List.Elements.{Contains-append_left, Contains-append_right, Contains-append_cases}
 use Rattle.dj_library.specs.trusted.Heads.{Head, library_heads}
-use Rattle.dj_hierarchy.specs.declared.names.Known.{Known}
-use Rattle.dj_hierarchy.specs.declared.judge.Hierarchy.{Hierarchy}
-use Rattle.dj_hierarchy.specs.trusted.Hierarchy.{IsFinal, IsInterface, HasSuch, IsMissing, IsAbove, Climbs, Stays, Rises, IsBadSuperclass, IsBadInterface}
-use Rattle.dj_hierarchy.specs.Hierarchy.{Stands}
-use Rattle.dj_hierarchy.specs.Names.{IsKnownAs, IsKnown, Names, known_at, place_of, AreNames}
-use Rattle.dj_hierarchy.specs.Known.{heads_of, IsIn, number_of, IsHierarchy}
-use Rattle.dj_hierarchy.specs.Judged.{AreJudged, AreMarks}
-use Rattle.dj_hierarchy.proofs.Alike.{same_violate}
-use Rattle.dj_hierarchy.proofs.Climbing.{is_within, stays_missing, has_name, missing_or_placed, placed_is_there}
+use Rattle.dj_hierarchy_rule.specs.declared.names.Known.{Known}
+use Rattle.dj_hierarchy_rule.specs.declared.judge.Hierarchy.{Hierarchy}
+use Rattle.dj_hierarchy_rule.specs.trusted.Hierarchy.{IsFinal, IsInterface, HasSuch, IsMissing, IsAbove, Climbs, Stays, Rises, IsBadSuperclass, IsBadInterface}
+use Rattle.dj_hierarchy_rule.specs.Hierarchy.{Stands}
+use Rattle.dj_hierarchy_rule.specs.Names.{IsKnownAs, IsKnown, Names, known_at, place_of, AreNames}
+use Rattle.dj_hierarchy_rule.specs.Known.{heads_of, IsIn, number_of, IsHierarchy}
+use Rattle.dj_hierarchy_rule.specs.Judged.{AreJudged, AreMarks}
+use Rattle.dj_hierarchy_rule.proofs.Alike.{same_violate}
+use Rattle.dj_hierarchy_rule.proofs.Climbing.{is_within, stays_missing, has_name, missing_or_placed, placed_is_there}
 
 -- ---- superclasses and interfaces
 

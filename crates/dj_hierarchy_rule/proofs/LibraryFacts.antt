@@ -1,8 +1,8 @@
 -- The rule at a class with a name of the library.
 use Rattle.std.proofs.Common.{◌≡◌, ℕ, ◌<◌, List, [], ◌∷◌, length, Some, refl, inl, inr, Contains, lit<, codes}
 use Rattle.dj_library.specs.trusted.Heads.{Head, library_heads}
-use Rattle.dj_hierarchy.specs.trusted.Hierarchy.{IsBadSuperclass, IsBadInterface}
-use Rattle.dj_hierarchy.specs.Hierarchy.{Stands}
+use Rattle.dj_hierarchy_rule.specs.trusted.Hierarchy.{IsBadSuperclass, IsBadInterface}
+use Rattle.dj_hierarchy_rule.specs.Hierarchy.{Stands}
 
 abbrev object : List ℕ
 object = codes "java/lang/Object"

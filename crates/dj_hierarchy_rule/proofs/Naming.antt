@@ -10,9 +10,9 @@ use Rattle.std.proofs.lemmas.Slice.Eq.{bytes_eq-Decides}
 use Rattle.std.proofs.lemmas.Map.Text.{btree_map_updates_str}
 use Rattle.std.proofs.lemmas.List.Elements.{Contains-append_left, Contains-push, Contains-push_cases}
 use Rattle.dj_library.specs.trusted.Heads.{Head}
-use Rattle.dj_hierarchy.specs.declared.names.Known.{Known}
-use Rattle.dj_hierarchy.specs.trusted.Hierarchy.{HasSuch, IsMissing, IsInterface, IsFinal}
-use Rattle.dj_hierarchy.specs.Names.{IsNamedAt, IsKnownAs, IsKnown, Names, known_at, AreNames, widened_known}
+use Rattle.dj_hierarchy_rule.specs.declared.names.Known.{Known}
+use Rattle.dj_hierarchy_rule.specs.trusted.Hierarchy.{HasSuch, IsMissing, IsInterface, IsFinal}
+use Rattle.dj_hierarchy_rule.specs.Names.{IsNamedAt, IsKnownAs, IsKnown, Names, known_at, AreNames, widened_known}
 
 -- ---- lists
 

@@ -2,8 +2,8 @@
 use Rattle.std.specs.Prelude.{◌≡◌, ◌↔◌, ◌⊎◌, ℕ, List, [], ◌∷◌, ◌++◌, length, Some, Contains, slice_get}
 use Rattle.dj_graph.specs.Graphs.{Edges, HasEdge}
 use Rattle.dj_library.specs.trusted.Heads.{Head}
-use Rattle.dj_hierarchy.specs.trusted.Hierarchy.{IsAbove, Climbs}
-use Rattle.dj_hierarchy.specs.Names.{Names, place_of}
+use Rattle.dj_hierarchy_rule.specs.trusted.Hierarchy.{IsAbove, Climbs}
+use Rattle.dj_hierarchy_rule.specs.Names.{Names, place_of}
 
 -- the place represents a name directly above the class
 abbrev pub IsPlaceAbove : Names → Head → ℕ → Type 0

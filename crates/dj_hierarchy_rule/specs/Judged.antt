@@ -1,8 +1,8 @@
 -- What the call that judges heads returns.
 use Rattle.std.specs.Prelude.{◌≡◌, ◌↔◌, ℕ, Bool, IsTrue, List, length, Some, Contains, slice_get}
 use Rattle.dj_library.specs.trusted.Heads.{Head}
-use Rattle.dj_hierarchy.specs.trusted.Hierarchy.{ViolatesHierarchy}
-use Rattle.dj_hierarchy.specs.Hierarchy.{Stands}
+use Rattle.dj_hierarchy_rule.specs.trusted.Hierarchy.{ViolatesHierarchy}
+use Rattle.dj_hierarchy_rule.specs.Hierarchy.{Stands}
 
 -- each mark says whether the head at its place violates the rule, among all the heads and those of the library
 pub record AreJudged (heads : List Head) (marks : List Bool) : Type 0 where

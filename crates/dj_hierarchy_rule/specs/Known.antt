@@ -1,10 +1,10 @@
 -- All that is known of the classes of a set and of the library.
 use Rattle.std.specs.Prelude.{ℕ, List, map, Option, Contains, slice_get, option_and_then}
 use Rattle.dj_library.specs.trusted.Heads.{Head}
-use Rattle.dj_hierarchy.specs.declared.judge.Hierarchy.{Hierarchy}
-use Rattle.dj_hierarchy.specs.Views.{seen_view}
-use Rattle.dj_hierarchy.specs.Names.{AreNames, place_of}
-use Rattle.dj_hierarchy.specs.Edges.{AreJoined}
+use Rattle.dj_hierarchy_rule.specs.declared.judge.Hierarchy.{Hierarchy}
+use Rattle.dj_hierarchy_rule.specs.Views.{seen_view}
+use Rattle.dj_hierarchy_rule.specs.Names.{AreNames, place_of}
+use Rattle.dj_hierarchy_rule.specs.Edges.{AreJoined}
 
 abbrev pub heads_of : Hierarchy → List Head
 heads_of hierarchy = map seen_view hierarchy.heads.items

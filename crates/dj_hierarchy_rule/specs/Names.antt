@@ -6,8 +6,8 @@ use Rattle.std.specs.Ordering.{nat_cmp}
 use Rattle.std.specs.Cmp.Lexicographic.{slice_cmp}
 use Rattle.std.specs.BTreeMap.{BTreeMap, get_by}
 use Rattle.dj_library.specs.trusted.Heads.{Head}
-use Rattle.dj_hierarchy.specs.declared.names.Known.{Known}
-use Rattle.dj_hierarchy.specs.trusted.Hierarchy.{HasSuch, IsMissing, IsInterface, IsFinal}
+use Rattle.dj_hierarchy_rule.specs.declared.names.Known.{Known}
+use Rattle.dj_hierarchy_rule.specs.trusted.Hierarchy.{HasSuch, IsMissing, IsInterface, IsFinal}
 
 -- the class at the place has the name
 abbrev pub IsNamedAt : List Head → ℕ → List ℕ → Type 0

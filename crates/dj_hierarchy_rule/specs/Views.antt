@@ -3,8 +3,8 @@ use Rattle.std.specs.Prelude.{ℕ, List, map}
 use Rattle.std.specs.Option.{option_map}
 use Rattle.std.specs.Borrow.{Bor}
 use Rattle.dj_library.specs.trusted.Heads.{Head}
-use Rattle.dj_hierarchy.specs.declared.head.ClassHead.{ClassHead}
-use Rattle.dj_hierarchy.specs.declared.head.Seen.{Seen}
+use Rattle.dj_hierarchy_rule.specs.declared.head.ClassHead.{ClassHead}
+use Rattle.dj_hierarchy_rule.specs.declared.head.Seen.{Seen}
 
 abbrev pub text_of : Bor (List ℕ) → List ℕ
 text_of text = text.now

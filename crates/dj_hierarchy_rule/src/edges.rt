@@ -1,9 +1,9 @@
 ghost use Rattle.std.specs.Prelude.{◌≡◌, ℕ, ◌<◌, ◌^◌, List, [], IfOk, IfSome, OnOk, Contains, length, map, replicate};
 ghost use Rattle.dj_graph.specs.Graphs.{edges_of};
-ghost use Rattle.dj_hierarchy.specs.trusted.Hierarchy.{IsAbove};
-ghost use Rattle.dj_hierarchy.specs.Names.{AreNames, place_of};
-ghost use Rattle.dj_hierarchy.specs.Edges.{GainsPlaces, GainsEdges, AreEdges, AreJoined};
-ghost use Rattle.dj_hierarchy.specs.Views.{seen_view, text_of};
+ghost use Rattle.dj_hierarchy_rule.specs.trusted.Hierarchy.{IsAbove};
+ghost use Rattle.dj_hierarchy_rule.specs.Names.{AreNames, place_of};
+ghost use Rattle.dj_hierarchy_rule.specs.Edges.{GainsPlaces, GainsEdges, AreEdges, AreJoined};
+ghost use Rattle.dj_hierarchy_rule.specs.Views.{seen_view, text_of};
 
 use crate::error::HierarchyError;
 use crate::head::Seen;

@@ -13,7 +13,7 @@ pub enum HierarchyError {
 }
 
 impl From<AllocError> for HierarchyError {
-    ghost use Rattle.dj_hierarchy.specs.declared.error.HierarchyError.TheVariants.{Memory};
+    ghost use Rattle.dj_hierarchy_rule.specs.declared.error.HierarchyError.TheVariants.{Memory};
 
     ghost from_gives = { λ _ e. e ≡ Memory };
 
@@ -23,7 +23,7 @@ impl From<AllocError> for HierarchyError {
 }
 
 impl<T: Drop> From<AllocFailed<T>> for HierarchyError {
-    ghost use Rattle.dj_hierarchy.specs.declared.error.HierarchyError.TheVariants.{Memory};
+    ghost use Rattle.dj_hierarchy_rule.specs.declared.error.HierarchyError.TheVariants.{Memory};
 
     ghost from_gives = { λ _ e. e ≡ Memory };
 
@@ -33,7 +33,7 @@ impl<T: Drop> From<AllocFailed<T>> for HierarchyError {
 }
 
 impl From<GraphError> for HierarchyError {
-    ghost use Rattle.dj_hierarchy.specs.declared.error.HierarchyError.TheVariants.{Memory};
+    ghost use Rattle.dj_hierarchy_rule.specs.declared.error.HierarchyError.TheVariants.{Memory};
 
     ghost from_gives = { λ _ e. e ≡ Memory };
 

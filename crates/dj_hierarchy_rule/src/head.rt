@@ -3,7 +3,7 @@ ghost use Rattle.std.specs.Int.{IsBitSet};
 ghost use Rattle.dj_class.specs.trusted.Access as access;
 ghost use Rattle.dj_library.specs.trusted.Heads.{library_heads};
 ghost use Rattle.dj_library.specs.TableRows as rows;
-ghost use Rattle.dj_hierarchy.specs.Views.{head_view, seen_view};
+ghost use Rattle.dj_hierarchy_rule.specs.Views.{head_view, seen_view};
 
 use crate::error::HierarchyError;
 use dj_class::AccessFlags;

@@ -1,8 +1,8 @@
 ghost use Rattle.std.specs.Prelude.{◌≡◌, ℕ, ◌<◌, ◌≤◌, ◌^◌, ◌↔◌, ◌⊎◌, IsTrue, IfOk, Some, IsSomeAnd, List, Contains, length, map};
-ghost use Rattle.dj_hierarchy.specs.trusted.Hierarchy.{LacksSuperclass, IsBadSuperclass, IsBadInterface, HasBadInterface, IsOffObject, IsAbove, Climbs, IsOwnAncestor, ViolatesHierarchy};
-ghost use Rattle.dj_hierarchy.specs.Judged.{AreJudged, AreMarks};
-ghost use Rattle.dj_hierarchy.specs.Known.{IsHierarchy, IsIn, heads_of, number_of};
-ghost use Rattle.dj_hierarchy.specs.Views.{head_view, seen_view, text_of};
+ghost use Rattle.dj_hierarchy_rule.specs.trusted.Hierarchy.{LacksSuperclass, IsBadSuperclass, IsBadInterface, HasBadInterface, IsOffObject, IsAbove, Climbs, IsOwnAncestor, ViolatesHierarchy};
+ghost use Rattle.dj_hierarchy_rule.specs.Judged.{AreJudged, AreMarks};
+ghost use Rattle.dj_hierarchy_rule.specs.Known.{IsHierarchy, IsIn, heads_of, number_of};
+ghost use Rattle.dj_hierarchy_rule.specs.Views.{head_view, seen_view, text_of};
 
 use crate::edges::join;
 use crate::error::HierarchyError;

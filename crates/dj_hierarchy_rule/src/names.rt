@@ -1,6 +1,6 @@
 ghost use Rattle.std.specs.Prelude.{◌≡◌, ◌<◌, ◌^◌, ◌↔◌, IfOk, length, map};
-ghost use Rattle.dj_hierarchy.specs.Names.{AreNames, widened_known};
-ghost use Rattle.dj_hierarchy.specs.Views.{seen_view};
+ghost use Rattle.dj_hierarchy_rule.specs.Names.{AreNames, widened_known};
+ghost use Rattle.dj_hierarchy_rule.specs.Views.{seen_view};
 
 use crate::error::HierarchyError;
 use crate::head::Seen;

@@ -1,4 +1,4 @@
-use dj_hierarchy::{ClassHead, HierarchyError, judge_heads};
+use dj_hierarchy_rule::{ClassHead, HierarchyError, judge_heads};
 use std::alloc::Global;
 
 // A head, and whether it violates the rule.

@@ -17,8 +17,8 @@ use Rattle.dj_model.specs.trusted.State.{Part, Effect, Goes, Next}
 use Rattle.dj_model.specs.trusted.Charging.{new_account}
 use Rattle.dj_model.specs.trusted.Natives.{Word, Nanos, Millis, answer, host_answer}
 use Rattle.dj_model.specs.trusted.Performing.{native, perform}
-use Rattle.dj_calls.specs.declared.answer.NativeAnswer.TheVariants as reported
-use Rattle.dj_calls.specs.Known.{AreKnown, IsKnown}
+use Rattle.dj_natives.specs.declared.answer.NativeAnswer.TheVariants as reported
+use Rattle.dj_natives.specs.Known.{AreKnown, IsKnown}
 use Rattle.dj_host.specs.trusted.Hosted.{given_since}
 use Rattle.dj_host.specs.Hosted.{is_hosted, AreOfKind, with_answers, Takes, CallsHost, Passes}
 

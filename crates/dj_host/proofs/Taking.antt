@@ -17,14 +17,14 @@ use Rattle.dj_model.specs.trusted.Program.{Program}
 use Rattle.dj_model.specs.trusted.State.{Terms, Part, Flow}
 use Rattle.dj_model.specs.trusted.Natives.{Answer, Returns, MakesText, Question, Word, Nanos, Millis, object_text, reference, asks, answered, answer, host_answer}
 use Rattle.dj_model.specs.trusted.Performing.{seen, native, native_asked, with_answer, perform}
-use Rattle.dj_calls.specs.declared.answer.NativeAnswer.{NativeAnswer}
-use Rattle.dj_calls.specs.declared.answer.NativeAnswer.TheVariants as reported
-use Rattle.dj_calls.specs.Calls.{seen_of, terms_of, part_with, flow_of, flow_reported, Performs, Done}
-use Rattle.dj_calls.specs.Known.{AreKnown}
-use Rattle.dj_calls.specs.Names.{shown_at}
-use Rattle.dj_calls.proofs.SeenFacts.{shown_alike}
-use Rattle.dj_calls.proofs.Counted.{DoesPlainly, native_does}
-use Rattle.dj_calls.proofs.Performed.{returns_done}
+use Rattle.dj_natives.specs.declared.answer.NativeAnswer.{NativeAnswer}
+use Rattle.dj_natives.specs.declared.answer.NativeAnswer.TheVariants as reported
+use Rattle.dj_natives.specs.Calls.{seen_of, terms_of, part_with, flow_of, flow_reported, Performs, Done}
+use Rattle.dj_natives.specs.Known.{AreKnown}
+use Rattle.dj_natives.specs.Names.{shown_at}
+use Rattle.dj_natives.proofs.SeenFacts.{shown_alike}
+use Rattle.dj_natives.proofs.Counted.{DoesPlainly, native_does}
+use Rattle.dj_natives.proofs.Performed.{returns_done}
 use Rattle.dj_host.specs.trusted.Hosted.{given_since}
 use Rattle.dj_host.specs.Hosted.{AreOfKind, with_answers, Takes, CallsHost, Passes}
 

@@ -11,10 +11,10 @@ use Rattle.dj_model.specs.trusted.Program.{Program}
 use Rattle.dj_model.specs.trusted.State.{Part, Flow}
 use Rattle.dj_model.specs.trusted.Natives.{Question, asks, answered}
 use Rattle.dj_model.specs.trusted.Performing.{native}
-use Rattle.dj_calls.specs.declared.answer.NativeAnswer.{NativeAnswer}
-use Rattle.dj_calls.specs.declared.answer.NativeAnswer.TheVariants as reported
-use Rattle.dj_calls.specs.Calls.{terms_of, part_with, effect_with, flow_reported, KeepsHeap}
-use Rattle.dj_calls.specs.Known.{AreKnown}
+use Rattle.dj_natives.specs.declared.answer.NativeAnswer.{NativeAnswer}
+use Rattle.dj_natives.specs.declared.answer.NativeAnswer.TheVariants as reported
+use Rattle.dj_natives.specs.Calls.{terms_of, part_with, effect_with, flow_reported, KeepsHeap}
+use Rattle.dj_natives.specs.Known.{AreKnown}
 use Rattle.dj_host.specs.trusted.Hosted.{given_since}
 
 -- the native methods of the raw library that the host answers

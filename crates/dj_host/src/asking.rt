@@ -2,9 +2,9 @@ ghost use Rattle.dj_names.specs.declared.run.Value.TheVariants as values;
 ghost use Rattle.dj_edge.specs.declared.host.HostAnswer.TheVariants.{Word, Nanos, Millis};
 ghost use Rattle.dj_host.specs.Hosted.{Passes};
 
-use dj_calls::NativeAnswer;
 use dj_edge::Host;
 use dj_names::Value;
+use dj_natives::NativeAnswer;
 
 /// The method returns a word of the host.
 pub fn give_word<H: Host>(host: &mut H) -> NativeAnswer

@@ -1,14 +1,14 @@
 ghost use Rattle.std.specs.Prelude.{◌≡◌, true};
 ghost use Rattle.dj_names.specs.declared.native.NativeId.TheVariants.{HostIdentityHashCode, HostToString};
-ghost use Rattle.dj_calls.specs.Known.{AreKnown};
+ghost use Rattle.dj_natives.specs.Known.{AreKnown};
 ghost use Rattle.dj_host.specs.Hosted.{CallsHost, is_hosted};
 
 use crate::asking::{give_millis, give_nanos, give_word};
-use dj_calls::{NativeAnswer, make_object_text, reference};
 use dj_edge::Host;
 use dj_heap::Heap;
+use dj_library_types::Classes;
 use dj_names::{NativeId, Value};
-use dj_natives::Classes;
+use dj_natives::{NativeAnswer, make_object_text, reference};
 use std::alloc::Global;
 
 /// Calls a native method that the host answers. The host is asked once; for the identity hash of null it isn't asked.

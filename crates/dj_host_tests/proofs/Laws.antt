@@ -5,7 +5,7 @@ use Rattle.dj_names.specs.trusted.Types.{component_type}
 use Rattle.dj_model.specs.trusted.Linking.{is_subtype, is_subclass, chain_of, interfaces_from, interfaces_above, most_classes}
 use Rattle.dj_model.specs.trusted.Natives.{class_name}
 use Rattle.dj_model.specs.trusted.Types.{is_stop}
-use Rattle.dj_natives.specs.Numbered.{type_at, holds_references, begins_array, ArePlain, HasNumber, HaveComponents, SaysStop}
+use Rattle.dj_library_types.specs.Numbered.{type_at, holds_references, begins_array, ArePlain, HasNumber, HaveComponents, SaysStop}
 use Rattle.dj_host_tests.specs.Three.{three_types, three_program}
 
 -- of five numbers

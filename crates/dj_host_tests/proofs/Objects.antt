@@ -4,8 +4,8 @@ use Rattle.std.specs.Prelude.{pos, codes}
 use Rattle.dj_names.specs.declared.run.Element.TheVariants as elements
 use Rattle.dj_names.specs.trusted.Heaps.{Instance, Array}
 use Rattle.dj_heap.specs.Heaps.{LimitedHeap, Makes}
-use Rattle.dj_calls.specs.Known.{AreKnown}
-use Rattle.dj_calls.proofs.Performed.{known_made}
+use Rattle.dj_natives.specs.Known.{AreKnown}
+use Rattle.dj_natives.proofs.Performed.{known_made}
 use Rattle.dj_host_tests.specs.Three.{three_types}
 
 pub own_made : (old new : LimitedHeap) (r : ℕ) → Makes old new (Instance 2 (replicate 0 0)) r → AreKnown three_types old → AreKnown three_types new

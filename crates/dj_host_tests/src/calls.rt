@@ -1,17 +1,17 @@
 ghost use Rattle.std.specs.Prelude.{IfSome};
-ghost use Rattle.dj_calls.specs.Known.{AreKnown};
+ghost use Rattle.dj_natives.specs.Known.{AreKnown};
 ghost use Rattle.dj_host_tests.specs.Three.{three_types};
 
 use crate::counted::Counted;
 use crate::texts::is_text;
 use crate::three::{INTS, OWN, Three};
-use dj_calls::NativeAnswer;
 use dj_heap::Heap;
 use dj_host::{call_host, is_hosted};
 use dj_names::NativeId::{
     CurrentTimeMillis, HostHashCode, HostIdentityHashCode, HostToString, IdentityHashCode, NanoTime,
 };
 use dj_names::{Element, NativeId, Value};
+use dj_natives::NativeAnswer;
 use std::alloc::Global;
 
 /// What a method is called on.

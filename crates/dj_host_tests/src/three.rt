@@ -1,4 +1,4 @@
-use dj_natives::Classes;
+use dj_library_types::Classes;
 
 /// A program of three classes, with arrays of chars and of ints.
 pub struct Three;

@@ -15,9 +15,9 @@ use Rattle.dj_names.specs.declared.descriptor.Ty.{Ty}
 use Rattle.dj_names.specs.trusted.Types.{Name, base_array}
 use Rattle.dj_names.specs.trusted.Descriptors.{of_text}
 use Rattle.dj_model.specs.trusted.Program.{Program}
-use Rattle.dj_types.specs.declared.shapes.Shape.{Shape}
-use Rattle.dj_types.specs.Shapes.{AreElements, shape_in, shape_type}
-use Rattle.dj_types.specs.Typed.{is_known_of, is_array_of, arrays_rise, AreArrays}
+use Rattle.dj_numbering.specs.declared.shapes.Shape.{Shape}
+use Rattle.dj_numbering.specs.Shapes.{AreElements, shape_in, shape_type}
+use Rattle.dj_numbering.specs.Typed.{is_known_of, is_array_of, arrays_rise, AreArrays}
 use Rattle.dj_image.specs.Imaged.{IsPartOf}
 use Rattle.dj_image.specs.declared.parts.ClassParts.{ClassParts}
 use Rattle.dj_image.specs.Uses.{used_types}

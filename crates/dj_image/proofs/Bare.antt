@@ -10,7 +10,7 @@ use Rattle.dj_names.specs.trusted.Types.{Name, same_name}
 use Rattle.dj_model.specs.trusted.Types.{Prefix, Member, constructor_name}
 use Rattle.dj_model.specs.trusted.Program.{Program, Class, Method, Field, Body, Abstract, Native, Runs, class_at, method_in, field_in, is_named, superclass_of, interfaces_of, flags_of, method_of, field_of, is_private}
 use Rattle.dj_model.specs.trusted.Linking.{most_classes, option_list, chain_of, chain, superclasses, interfaces_from, interfaces_above, is_subclass, is_below, is_subtype, FoundMethod, FoundField, method_or, first_method, field_or, first_field, field_order, any_method, is_plain, is_not_static, is_among, member_class, method_chain, or_else, resolve_method, resolve_field, with_body, select, special_method, count_fields, fields_before, own_field_count, fields_in, field_count, own_place, place_of}
-use Rattle.dj_declared.specs.Files.{bare_method, bare_field, bare_class}
+use Rattle.dj_declarations.specs.Files.{bare_method, bare_field, bare_class}
 
 pub either : (b : Bool) → (b ≡ true) ⊎ (b ≡ false)
 either true = inl refl

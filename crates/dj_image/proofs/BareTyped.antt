@@ -14,11 +14,11 @@ use Rattle.dj_names.specs.trusted.Library.{stop_class}
 use Rattle.dj_model.specs.trusted.Types.{Prefix, string_name}
 use Rattle.dj_model.specs.trusted.Program.{Program, Class, Method, Field, Body, Abstract, Native, Runs, flags_of, superclass_of, interfaces_of, fields_of}
 use Rattle.dj_model.specs.trusted.Linking.{FoundMethod, FoundField, resolve_method, resolve_field, select, special_method, is_subtype, field_count, place_of}
-use Rattle.dj_declared.specs.Files.{bare_method, bare_field, bare_class}
-use Rattle.dj_classes.specs.Tables.{name_of, name_at, class_number, class_numbers, methods_of, methods_at, fields_at}
-use Rattle.dj_types.specs.Links.{class_name}
-use Rattle.dj_types.specs.Typed.{Typed, texts_of, types_of, text_number, type_at, flags_at, super_at, interfaces_at, component_at, is_subtype_at, string_at, chars_at, stop_under, stop_at, is_known_of, is_array_of}
-use Rattle.dj_types.specs.Members.{methods_in, fields_in, all_methods, all_fields, member_at, resolved_method, resolved_field, selected, special_of, method_number, field_number, found_method_number, found_field_number, methods_before, fields_before, native_of, native_at}
+use Rattle.dj_declarations.specs.Files.{bare_method, bare_field, bare_class}
+use Rattle.dj_class_table.specs.Tables.{name_of, name_at, class_number, class_numbers, methods_of, methods_at, fields_at}
+use Rattle.dj_numbering.specs.Links.{class_name}
+use Rattle.dj_numbering.specs.Typed.{Typed, texts_of, types_of, text_number, type_at, flags_at, super_at, interfaces_at, component_at, is_subtype_at, string_at, chars_at, stop_under, stop_at, is_known_of, is_array_of}
+use Rattle.dj_numbering.specs.Members.{methods_in, fields_in, all_methods, all_fields, member_at, resolved_method, resolved_field, selected, special_of, method_number, field_number, found_method_number, found_field_number, methods_before, fields_before, native_of, native_at}
 use Rattle.dj_image.proofs.Bare.{bare_program, bare_found, bare_found_field, superclass_bare, interfaces_bare, flags_bare, subtype_bare, resolve_method_bare, resolve_field_bare, select_bare, special_bare, field_count_bare, place_of_bare}
 
 -- ---- classes

@@ -14,13 +14,13 @@ use Rattle.dj_pool.specs.trusted.Pool.{Constant, Utf8, Integer, Class}
 use Rattle.dj_model.specs.trusted.Linking.{FoundMethod}
 use Rattle.dj_model.specs.trusted.Program as programs
 use Rattle.dj_model.specs.trusted.Program.{Abstract, Native, Runs}
-use Rattle.dj_check.specs.trusted.Instructions.{index_of}
-use Rattle.dj_declared.specs.trusted.Files.{desc_in, type_in, no_code}
+use Rattle.dj_early_rules.specs.trusted.Instructions.{index_of}
+use Rattle.dj_declarations.specs.trusted.Files.{desc_in, type_in, no_code}
 use Rattle.dj_program.specs.trusted.Naming.{named_at, named_by, named_if}
 use Rattle.dj_program.specs.trusted.Codes.{CodeParts, code_in}
 use Rattle.dj_program.specs.Views.{parts_of}
 use Rattle.dj_program.specs.declared.code.MethodCode.{MethodCode}
-use Rattle.dj_types.specs.Members.{all_methods}
+use Rattle.dj_numbering.specs.Members.{all_methods}
 use Rattle.dj_image.specs.declared.operand.Operand.TheVariants as operands
 use Rattle.dj_image.specs.declared.image.Body.{Body}
 use Rattle.dj_image.specs.declared.image.Body.TheVariants as variants

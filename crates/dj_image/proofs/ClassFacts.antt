@@ -9,7 +9,7 @@ use Rattle.dj_names.specs.Types.{sandbox_prefix}
 use Rattle.dj_names.specs.trusted.Library.{object, object_class}
 use Rattle.dj_model.specs.trusted.Types.{is_stop}
 use Rattle.dj_model.specs.trusted.Program.{Program, Class}
-use Rattle.dj_natives.specs.Numbered.{type_at, IsNumberOf, superclass_type, component_of, holds_references, is_number, SaysStop}
+use Rattle.dj_library_types.specs.Numbered.{type_at, IsNumberOf, superclass_type, component_of, holds_references, is_number, SaysStop}
 use Rattle.dj_image.proofs.TypeFacts.{other_type, a, b, ints, longs, a_arrays}
 
 -- ---- numbers

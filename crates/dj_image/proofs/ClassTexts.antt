@@ -19,7 +19,7 @@ use Rattle.dj_names.proofs.TestLaws.{class_name_test-decides}
 use Rattle.dj_names.proofs.DescLaws.{desc_again}
 use Rattle.dj_pool.specs.trusted.Pool.{Constant, text_at, IsClassText, NamesText}
 use Rattle.dj_model.specs.trusted.Types.{no_parameters}
-use Rattle.dj_declared.specs.trusted.Files.{desc_in, type_in, name_in, field_type}
+use Rattle.dj_declarations.specs.trusted.Files.{desc_in, type_in, name_in, field_type}
 use Rattle.dj_image.specs.Indexed.{is_array}
 use Rattle.dj_image.specs.ArrayRows.{brackets}
 

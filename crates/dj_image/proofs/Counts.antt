@@ -12,7 +12,7 @@ use Rattle.dj_pool.specs.trusted.Pool.{Constant}
 use Rattle.dj_model.specs.trusted.Program as programs
 use Rattle.dj_model.specs.trusted.Program.{Program, Method, Field}
 use Rattle.dj_program.specs.trusted.Codes.{CodeParts}
-use Rattle.dj_types.specs.Members.{methods_in, fields_in, all_methods, all_fields}
+use Rattle.dj_numbering.specs.Members.{methods_in, fields_in, all_methods, all_fields}
 use Rattle.dj_image.specs.declared.parts.ClassParts.{ClassParts}
 use Rattle.dj_image.specs.Sources.{with_codes, with_values, class_of_source, program_of_sources}
 use Rattle.dj_image.specs.Parts.{source_of, sources_of, FitClasses}

@@ -18,11 +18,11 @@ use Rattle.dj_model.specs.trusted.Opcodes.{instruction_of, simple}
 use Rattle.dj_model.specs.trusted.Program as programs
 use Rattle.dj_model.specs.trusted.Program.{Abstract, Runs}
 use Rattle.dj_model.specs.trusted.Linking.{FoundMethod, most_classes, chain_of, interfaces_from, interfaces_above, field_order, resolve_method, resolve_field}
-use Rattle.dj_check.specs.trusted.Instructions.{index_of}
-use Rattle.dj_declared.specs.trusted.Files.{desc_in, type_in, no_code}
+use Rattle.dj_early_rules.specs.trusted.Instructions.{index_of}
+use Rattle.dj_declarations.specs.trusted.Files.{desc_in, type_in, no_code}
 use Rattle.dj_program.specs.trusted.Naming.{units_in, named_at, named_by, named_if}
 use Rattle.dj_program.specs.trusted.Codes.{CodeParts, code_in}
-use Rattle.dj_types.specs.Members.{all_methods, all_fields}
+use Rattle.dj_numbering.specs.Members.{all_methods, all_fields}
 use Rattle.dj_image.specs.declared.operand.Operand.{Operand}
 use Rattle.dj_image.specs.declared.operand.Operand.TheVariants as operands
 use Rattle.dj_image.specs.declared.image.Body.TheVariants as variants

@@ -19,16 +19,16 @@ use Rattle.dj_model.specs.trusted.Kinds.{Signature, call_signature}
 use Rattle.dj_model.specs.trusted.Linking.{FoundMethod, FoundField}
 use Rattle.dj_model.specs.trusted.Program as programs
 use Rattle.dj_model.specs.trusted.Program.{Abstract, Runs, has_code}
-use Rattle.dj_declared.specs.trusted.Files.{desc_in, name_in, no_code}
-use Rattle.dj_declared.specs.Members.{IsDescriptor}
+use Rattle.dj_declarations.specs.trusted.Files.{desc_in, name_in, no_code}
+use Rattle.dj_declarations.specs.Members.{IsDescriptor}
 use Rattle.dj_program.specs.trusted.Codes.{CodeParts}
 use Rattle.dj_program.specs.trusted.Naming.{units_in, named_at, named_by}
 use Rattle.dj_program.specs.Views.{parts_of}
 use Rattle.dj_program.specs.declared.code.MethodCode.{MethodCode}
-use Rattle.dj_shape.specs.declared.pool.ConstantKind.TheVariants as constants
-use Rattle.dj_shape.specs.Kept.{KeptKinds}
-use Rattle.dj_shape.specs.Pools.{call_at, SaysKind, ArePoolKinds}
-use Rattle.dj_types.specs.Members.{all_methods, all_fields}
+use Rattle.dj_shape_rule.specs.declared.pool.ConstantKind.TheVariants as constants
+use Rattle.dj_shape_rule.specs.Kept.{KeptKinds}
+use Rattle.dj_shape_rule.specs.Pools.{call_at, SaysKind, ArePoolKinds}
+use Rattle.dj_numbering.specs.Members.{all_methods, all_fields}
 use Rattle.dj_image.specs.declared.parts.ClassParts.{ClassParts}
 use Rattle.dj_image.specs.declared.parts.FieldValue.{FieldValue}
 use Rattle.dj_image.specs.declared.parts.FieldValue.TheVariants as begins

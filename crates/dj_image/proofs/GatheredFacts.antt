@@ -6,7 +6,7 @@ use Rattle.dj_names.specs.trusted.Tests.{units_read}
 use Rattle.dj_names.specs.trusted.Types.{class_type, array_type}
 use Rattle.dj_names.specs.trusted.UnitReading.{unit_read, long_read, two_read}
 use Rattle.dj_pool.specs.trusted.Pool.{Constant, Utf8, Class}
-use Rattle.dj_declared.specs.trusted.Files.{type_in}
+use Rattle.dj_declarations.specs.trusted.Files.{type_in}
 use Rattle.dj_program.specs.trusted.Naming.{units_in, named_at, named_by}
 use Rattle.dj_image.specs.declared.operand.Operand.{Operand}
 use Rattle.dj_image.specs.declared.operand.Operand.TheVariants as operands

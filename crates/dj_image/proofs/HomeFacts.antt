@@ -11,9 +11,9 @@ use Rattle.dj_pool.specs.trusted.Pool.{Constant, Utf8, Integer, Long, Float, Cla
 use Rattle.dj_model.specs.trusted.Program as programs
 use Rattle.dj_model.specs.trusted.Program.{Runs}
 use Rattle.dj_model.specs.trusted.Linking.{most_classes, chain_of, interfaces_from, interfaces_above, field_order, resolve_method, resolve_field}
-use Rattle.dj_declared.specs.trusted.Files.{desc_in, no_code}
-use Rattle.dj_types.specs.Typed.{Typed}
-use Rattle.dj_types.specs.Members.{all_methods, all_fields}
+use Rattle.dj_declarations.specs.trusted.Files.{desc_in, no_code}
+use Rattle.dj_numbering.specs.Typed.{Typed}
+use Rattle.dj_numbering.specs.Members.{all_methods, all_fields}
 use Rattle.dj_image.specs.declared.operand.Operand.{Operand}
 use Rattle.dj_image.specs.declared.operand.Operand.TheVariants as operands
 use Rattle.dj_image.specs.Homes.{AreHomes, IsDescribed, method_reported, field_reported, constant_operand, operand_if, operand_at}

@@ -9,7 +9,7 @@ use Rattle.dj_names.specs.trusted.UnitReading.{unit_read, long_read, two_read}
 use Rattle.dj_pool.specs.trusted.Pool.{Constant, Utf8, Integer, Class, Text, Field, Method, NameAndType}
 use Rattle.dj_model.specs.trusted.Program as programs
 use Rattle.dj_program.specs.trusted.Naming.{units_in}
-use Rattle.dj_types.specs.Typed.{Typed}
+use Rattle.dj_numbering.specs.Typed.{Typed}
 use Rattle.dj_image.specs.Operands.{units_number}
 use Rattle.dj_image.specs.Indexed.{Holds, text_class, is_array, array_text, text_array, text_place, number_kept, class_index, kept_class, kept_array}
 use Rattle.dj_image.specs.Homes.{home_by, kept_home, IsHome, IsDescribed}

@@ -7,7 +7,7 @@ use Rattle.std.specs.Prelude.{nat_eq, if◌then◌else◌}
 use Rattle.std.specs.Cmp.Lexicographic.{pointwise}
 use Rattle.std.specs.Option.{option_map}
 use Rattle.dj_names.specs.trusted.Types.{Name}
-use Rattle.dj_types.specs.Typed.{place_of_text}
+use Rattle.dj_numbering.specs.Typed.{place_of_text}
 use Rattle.dj_image.specs.Indexed.{Holds}
 use Rattle.dj_image.specs.Operands.{units_number}
 

@@ -10,15 +10,15 @@ use Rattle.dj_ops.specs.declared.instruction.Instr.{Instr}
 use Rattle.dj_labels.specs.declared.labelled.Protected.{Protected}
 use Rattle.dj_pool.specs.trusted.Pool.{Constant}
 use Rattle.dj_model.specs.trusted.Program.{Program, Method, Body, Abstract, Native, Runs, has_code}
-use Rattle.dj_check.specs.trusted.Instructions.{index_of}
-use Rattle.dj_declared.specs.Members.{native_in}
-use Rattle.dj_classes.specs.declared.place.Place.{Place}
+use Rattle.dj_early_rules.specs.trusted.Instructions.{index_of}
+use Rattle.dj_declarations.specs.Members.{native_in}
+use Rattle.dj_class_table.specs.declared.place.Place.{Place}
 use Rattle.dj_program.specs.trusted.Naming.{named_at, named_if}
 use Rattle.dj_program.specs.trusted.Codes.{code_in, catches_in}
 use Rattle.dj_program.specs.Views.{parts_of}
 use Rattle.dj_program.specs.declared.code.MethodCode.{MethodCode}
-use Rattle.dj_types.specs.Typed.{Typed}
-use Rattle.dj_types.specs.Members.{methods_in, all_methods, all_fields, IsMethodPlace, IsFieldPlace, native_of, native_at}
+use Rattle.dj_numbering.specs.Typed.{Typed}
+use Rattle.dj_numbering.specs.Members.{methods_in, all_methods, all_fields, IsMethodPlace, IsFieldPlace, native_of, native_at}
 use Rattle.dj_image.specs.declared.operand.Operand.{Operand}
 use Rattle.dj_image.specs.declared.image.Body as bodies
 use Rattle.dj_image.specs.declared.image.Body.TheVariants as variants

@@ -13,8 +13,8 @@ use Rattle.dj_names.specs.declared.descriptor.Ty.{Ty}
 use Rattle.dj_names.specs.trusted.Types.{Name, base_array, array_type}
 use Rattle.dj_names.specs.trusted.Descriptors.{of_text, type_text}
 use Rattle.dj_pool.specs.trusted.Pool.{Integer}
-use Rattle.dj_types.specs.declared.shapes.ElementType.TheVariants as elements
-use Rattle.dj_types.specs.declared.shapes.Shape.{Shape}
+use Rattle.dj_numbering.specs.declared.shapes.ElementType.TheVariants as elements
+use Rattle.dj_numbering.specs.declared.shapes.Shape.{Shape}
 use Rattle.dj_image.specs.declared.lent_type.LentOf.TheVariants as lents
 use Rattle.dj_image.specs.declared.uses.Use.TheVariants as uses
 use Rattle.dj_image.specs.Imaged.{IsPartOf}

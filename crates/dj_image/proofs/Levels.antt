@@ -22,11 +22,11 @@ use Rattle.dj_names.specs.declared.descriptor.Ty.{Ty}
 use Rattle.dj_names.specs.trusted.Descriptors.{of_text, type_text}
 use Rattle.dj_model.specs.trusted.Program.{Program}
 use Rattle.dj_model.specs.trusted.Libraries.{is_name_before}
-use Rattle.dj_classes.proofs.Orders.{is_name_before-cmp}
-use Rattle.dj_types.proofs.Reported.{element_reported}
-use Rattle.dj_types.specs.declared.shapes.Shape.{Shape}
-use Rattle.dj_types.specs.Shapes.{AreElements, shape_in, shape_type}
-use Rattle.dj_types.specs.Typed.{is_known_of, arrays_rise}
+use Rattle.dj_class_table.proofs.Orders.{is_name_before-cmp}
+use Rattle.dj_numbering.proofs.Reported.{element_reported}
+use Rattle.dj_numbering.specs.declared.shapes.Shape.{Shape}
+use Rattle.dj_numbering.specs.Shapes.{AreElements, shape_in, shape_type}
+use Rattle.dj_numbering.specs.Typed.{is_known_of, arrays_rise}
 use Rattle.dj_image.specs.ArrayRows.{RowsRiseStrictly, IsKeyed, AreAllKnown, at_level, level, levels}
 use Rattle.dj_image.proofs.RowFacts.{Entries, found_in, order, both}
 use Rattle.dj_image.proofs.Wholes.{filter_map_more}

@@ -11,13 +11,13 @@ use Rattle.dj_names.specs.declared.descriptor.Ty.{Ty}
 use Rattle.dj_names.specs.trusted.Types.{Name, same_name, base_array, component_type}
 use Rattle.dj_names.specs.trusted.Descriptors.{type_text}
 use Rattle.dj_pool.specs.trusted.Pool.{Constant, IsPool, text_at}
-use Rattle.dj_declared.specs.trusted.Files.{name_in}
+use Rattle.dj_declarations.specs.trusted.Files.{name_in}
 use Rattle.dj_program.specs.trusted.Naming.{units_in}
 use Rattle.dj_model.specs.trusted.Types.{Prefix, object_name}
 use Rattle.dj_model.specs.trusted.Program.{Program}
-use Rattle.dj_classes.specs.Tables.{class_number, name_of}
-use Rattle.dj_classes.proofs.Orders.{same_from_names}
-use Rattle.dj_types.specs.Typed.{Typed, AreArrays, arrays_rise, texts_of, place_of_text, chars_at}
+use Rattle.dj_class_table.specs.Tables.{class_number, name_of}
+use Rattle.dj_class_table.proofs.Orders.{same_from_names}
+use Rattle.dj_numbering.specs.Typed.{Typed, AreArrays, arrays_rise, texts_of, place_of_text, chars_at}
 use Rattle.dj_image.specs.declared.operand.Operand.{Operand}
 use Rattle.dj_image.specs.declared.parts.ClassParts.{ClassParts}
 use Rattle.dj_image.specs.declared.parts.FieldValue.{FieldValue}

@@ -15,17 +15,17 @@ use Rattle.dj_model.specs.trusted.Types.{Member, Prefix, object_name}
 use Rattle.dj_model.specs.trusted.Program.{Program, Class as Declared}
 use Rattle.dj_model.specs.trusted.Instructions.{AField, AMethod, AnInterfaceMethod}
 use Rattle.dj_model.specs.trusted.Linking.{most_classes, interfaces_above, first_method, first_field, field_order, any_method, is_plain, method_chain, or_else, member_class, class_or_object, resolve_method, resolve_field}
-use Rattle.dj_declared.specs.trusted.Files.{desc_in, type_in}
-use Rattle.dj_declared.specs.Members.{IsDescriptor}
-use Rattle.dj_classes.specs.Tables.{class_number, name_of}
-use Rattle.dj_classes.proofs.Numbered.{name_at-number, class_number-within}
-use Rattle.dj_classes.proofs.Orders.{names_from_same}
+use Rattle.dj_declarations.specs.trusted.Files.{desc_in, type_in}
+use Rattle.dj_declarations.specs.Members.{IsDescriptor}
+use Rattle.dj_class_table.specs.Tables.{class_number, name_of}
+use Rattle.dj_class_table.proofs.Numbered.{name_at-number, class_number-within}
+use Rattle.dj_class_table.proofs.Orders.{names_from_same}
 use Rattle.dj_program.specs.trusted.Naming.{units_in, named_by, named_at, named_or_another}
-use Rattle.dj_types.specs.Typed.{Typed, AreArrays, is_array_of, texts_of, types_of, type_at, text_number, place_of_text}
-use Rattle.dj_types.specs.Members.{resolved_method, resolved_field, found_method_number, found_field_number}
-use Rattle.dj_types.proofs.Homes.{no_method_resolved, no_field_resolved}
-use Rattle.dj_types.proofs.Numbers.{number_of_class, number_of_none, place_within}
-use Rattle.dj_types.proofs.Reported.{type_there, type_of_class}
+use Rattle.dj_numbering.specs.Typed.{Typed, AreArrays, is_array_of, texts_of, types_of, type_at, text_number, place_of_text}
+use Rattle.dj_numbering.specs.Members.{resolved_method, resolved_field, found_method_number, found_field_number}
+use Rattle.dj_numbering.proofs.Homes.{no_method_resolved, no_field_resolved}
+use Rattle.dj_numbering.proofs.Numbers.{number_of_class, number_of_none, place_within}
+use Rattle.dj_numbering.proofs.Reported.{type_there, type_of_class}
 use Rattle.dj_image.specs.Imaged.{Imaged, typed_of}
 use Rattle.dj_image.specs.Operands.{class_operand, text_operand, method_operand, field_operand, resolved_method_number, resolved_field_number, named_operand, units_number}
 use Rattle.dj_image.specs.Indexed.{Holds, text_class, text_place, is_array}

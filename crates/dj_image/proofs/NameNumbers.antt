@@ -1,10 +1,10 @@
 -- Names of members, with their numbers where there is a directory.
 use Rattle.std.proofs.Common.{◌≡◌, ℕ, List, Option, Some, None, get_or, option_and_then, ap, ◌∙◌, Bor}
 use Rattle.dj_pool.specs.trusted.Pool.{Constant, text_at}
-use Rattle.dj_declared.specs.Members.{IsDescriptor}
-use Rattle.dj_types.specs.Links.{Numbering, number_of}
-use Rattle.dj_types.specs.declared.named.MemberName.{MemberName}
-use Rattle.dj_types.specs.Named.{IsNumbered}
+use Rattle.dj_declarations.specs.Members.{IsDescriptor}
+use Rattle.dj_numbering.specs.Links.{Numbering, number_of}
+use Rattle.dj_numbering.specs.declared.named.MemberName.{MemberName}
+use Rattle.dj_numbering.specs.Named.{IsNumbered}
 use Rattle.dj_image.specs.NameNumbers.{AreNumbersBy}
 use Rattle.dj_image.proofs.Named.{kept_as}
 

@@ -10,10 +10,10 @@ use Rattle.dj_names.specs.trusted.Descriptors.{of_text, type_text}
 use Rattle.dj_pool.specs.trusted.Pool.{Constant, Utf8, Integer, Float, Long, Double, Class, Text, Field, Method, InterfaceMethod, NameAndType, Handle, MethodType, Dynamic, Hole, constant_at, text_at, text_of, class_text_of, IsClassText, NamesText, IsLinked, IsPool}
 use Rattle.dj_model.specs.trusted.Types.{Member}
 use Rattle.dj_model.specs.trusted.Instructions.{Named, AField, AMethod, AnInterfaceMethod, Another}
-use Rattle.dj_check.specs.trusted.Classes.{class_text_index}
-use Rattle.dj_declared.specs.trusted.Files.{type_in, name_in}
+use Rattle.dj_early_rules.specs.trusted.Classes.{class_text_index}
+use Rattle.dj_declarations.specs.trusted.Files.{type_in, name_in}
 use Rattle.dj_program.specs.trusted.Naming.{member_in, named_by, named_at, named_or_another}
-use Rattle.dj_types.specs.Typed.{Typed, text_number, text_of_type, type_number}
+use Rattle.dj_numbering.specs.Typed.{Typed, text_number, text_of_type, type_number}
 use Rattle.dj_image.specs.Imaged.{Imaged, typed_of}
 use Rattle.dj_image.specs.Operands.{named_class, made_class}
 use Rattle.dj_image.specs.Indexed.{Holds, text_class, is_array, array_text, text_array, number_kept, class_index, kept_class, kept_array}

@@ -10,7 +10,7 @@ use Rattle.dj_pool.specs.trusted.Pool.{Constant}
 use Rattle.dj_model.specs.trusted.Types.{Member}
 use Rattle.dj_model.specs.trusted.Instructions.{Named, Nothing, AnInt, ALong, AText, AClass, AField, AMethod, AnInterfaceMethod, Instruction, Push, PushText, NewArray, Other}
 use Rattle.dj_model.specs.trusted.Opcodes.{instruction_of, literal, field_rows, method_rows, interface_method_rows, member_does, member, interface_call, class_use}
-use Rattle.dj_check.specs.trusted.Instructions.{index_of}
+use Rattle.dj_early_rules.specs.trusted.Instructions.{index_of}
 use Rattle.dj_program.specs.trusted.Naming.{named_at, named_if, instruction_in}
 use Rattle.dj_image.specs.declared.operand.Operand.{Operand}
 use Rattle.dj_image.specs.declared.operand.Operand.TheVariants as operands

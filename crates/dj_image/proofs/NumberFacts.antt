@@ -9,7 +9,7 @@ use Rattle.dj_names.specs.trusted.Types.{same_name, base_type, base_array, array
 use Rattle.dj_model.specs.trusted.Instructions.{Instruction, Nop, PushText, CheckCast}
 use Rattle.dj_model.specs.trusted.Program as programs
 use Rattle.dj_model.specs.trusted.Program.{Program, Class, Method, Field, Body, Code, Runs}
-use Rattle.dj_types.specs.Typed.{is_known_of, arrays_rise}
+use Rattle.dj_numbering.specs.Typed.{is_known_of, arrays_rise}
 use Rattle.dj_image.specs.Sources.{class_of_source}
 use Rattle.dj_image.specs.Imaged.{Imaged, UsesType, IsUsed, IsPartOf, IsNumberedArray, IsPushed, IsValue, IsNumbered}
 use Rattle.dj_image.proofs.Members.{member_first, member_later, member_none, member_cases}

@@ -16,14 +16,14 @@ use Rattle.dj_names.specs.trusted.Types.{Name, same_name, class_type, base_array
 use Rattle.dj_model.specs.trusted.Natives.{class_name}
 use Rattle.dj_model.specs.trusted.Program.{Program, Class, class_at, superclass_of}
 use Rattle.dj_model.specs.trusted.Types.{Prefix, string_name}
-use Rattle.dj_classes.specs.Tables.{name_of, name_at, class_number}
-use Rattle.dj_classes.proofs.Numbered.{class_at-at, class_number-none, class_number-within, name_at-number}
-use Rattle.dj_classes.proofs.Orders.{names_from_same, same_from_names}
-use Rattle.dj_natives.specs.Numbered as numbered
-use Rattle.dj_natives.specs.Numbered.{IsNumberOf, superclass_type, holds_references, component_of, is_number, SaysStop, ArePlain, HasNumber, HaveComponents}
-use Rattle.dj_types.specs.Typed.{Typed, texts_of, types_of, type_at, place_of_text, text_number, text_of_type, type_number, begins_array, is_known_of, AreArrays, has_references, super_at, component_at, string_at, chars_at, stop_under, stop_at}
-use Rattle.dj_types.proofs.Numbers.{number_of_class, number_of_text, number_of_none}
-use Rattle.dj_types.proofs.Reported.{types_among, known_at}
+use Rattle.dj_class_table.specs.Tables.{name_of, name_at, class_number}
+use Rattle.dj_class_table.proofs.Numbered.{class_at-at, class_number-none, class_number-within, name_at-number}
+use Rattle.dj_class_table.proofs.Orders.{names_from_same, same_from_names}
+use Rattle.dj_library_types.specs.Numbered as numbered
+use Rattle.dj_library_types.specs.Numbered.{IsNumberOf, superclass_type, holds_references, component_of, is_number, SaysStop, ArePlain, HasNumber, HaveComponents}
+use Rattle.dj_numbering.specs.Typed.{Typed, texts_of, types_of, type_at, place_of_text, text_number, text_of_type, type_number, begins_array, is_known_of, AreArrays, has_references, super_at, component_at, string_at, chars_at, stop_under, stop_at}
+use Rattle.dj_numbering.proofs.Numbers.{number_of_class, number_of_text, number_of_none}
+use Rattle.dj_numbering.proofs.Reported.{types_among, known_at}
 use Rattle.dj_image.specs.Numbering.{AreSettled}
 use Rattle.dj_image.proofs.Members.{member_first, member_later, member_none, member_cases}
 use Rattle.dj_image.proofs.RowFacts.{type_once}

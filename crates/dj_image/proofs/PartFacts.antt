@@ -14,10 +14,10 @@ use Rattle.dj_names.specs.trusted.Types.{Name, same_desc, base_type}
 use Rattle.dj_pool.specs.trusted.Pool.{Constant, Utf8, Class}
 use Rattle.dj_model.specs.trusted.Program.{Program}
 use Rattle.dj_model.specs.trusted.Program as programs
-use Rattle.dj_declared.specs.trusted.Files.{desc_in, type_in}
-use Rattle.dj_classes.specs.Tables.{name_at, class_number}
+use Rattle.dj_declarations.specs.trusted.Files.{desc_in, type_in}
+use Rattle.dj_class_table.specs.Tables.{name_at, class_number}
 use Rattle.dj_program.specs.trusted.Naming.{named_at, named_by}
-use Rattle.dj_types.specs.Typed.{Typed, begins_array}
+use Rattle.dj_numbering.specs.Typed.{Typed, begins_array}
 use Rattle.dj_image.specs.Sources.{class_of_source}
 use Rattle.dj_image.specs.Imaged.{Imaged}
 use Rattle.dj_image.specs.Operands.{named_class, made_class}

@@ -9,12 +9,12 @@ use Rattle.dj_names.specs.trusted.Types.{Name}
 use Rattle.dj_model.specs.trusted.Program as programs
 use Rattle.dj_model.specs.trusted.Program.{Program, Class, Method, Field, has_code}
 use Rattle.dj_model.specs.trusted.Linking.{FoundMethod, FoundField}
-use Rattle.dj_classes.specs.Tables.{methods_at, fields_at}
-use Rattle.dj_shape.specs.Pools.{ArePoolKinds}
+use Rattle.dj_class_table.specs.Tables.{methods_at, fields_at}
+use Rattle.dj_shape_rule.specs.Pools.{ArePoolKinds}
 use Rattle.dj_program.specs.trusted.Codes.{CodeParts}
 use Rattle.dj_program.specs.Views.{parts_of}
 use Rattle.dj_program.specs.declared.code.MethodCode.{MethodCode}
-use Rattle.dj_types.specs.Members.{methods_in, fields_in, all_methods, all_fields, methods_before, fields_before}
+use Rattle.dj_numbering.specs.Members.{methods_in, fields_in, all_methods, all_fields, methods_before, fields_before}
 use Rattle.dj_image.specs.declared.parts.ClassParts.{ClassParts}
 use Rattle.dj_image.specs.declared.parts.FieldValue.{FieldValue}
 use Rattle.dj_image.specs.Sources.{with_code, with_codes, with_values, class_of_source, program_of_sources}

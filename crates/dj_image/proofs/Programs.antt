@@ -17,8 +17,8 @@ use Rattle.dj_program.specs.trusted.Naming.{instruction_in}
 use Rattle.dj_program.specs.trusted.Codes.{code_in}
 use Rattle.dj_program.specs.Views.{parts_of}
 use Rattle.dj_program.specs.declared.code.MethodCode.{MethodCode}
-use Rattle.dj_classes.specs.Tables.{class_number}
-use Rattle.dj_types.specs.Typed.{is_known_of}
+use Rattle.dj_class_table.specs.Tables.{class_number}
+use Rattle.dj_numbering.specs.Typed.{is_known_of}
 use Rattle.dj_image.specs.declared.parts.ClassParts.{ClassParts}
 use Rattle.dj_image.specs.declared.uses.Use.{Use}
 use Rattle.dj_image.specs.Sources.{with_code, with_codes, class_of_source, program_of_sources}

@@ -11,7 +11,7 @@ use Rattle.dj_model.specs.trusted.Types.{Member}
 use Rattle.dj_model.specs.trusted.Instructions.{Named, Nothing, AnInt, ALong, AText, AClass, AField, AMethod, AnInterfaceMethod, Another, Instruction, PushText, Other}
 use Rattle.dj_model.specs.trusted.Opcodes.{Row, row_does, rows_of, constant_rows, store_rows, stack_rows, number_rows, bit_rows, last_rows, simple, local_rows, operand_does, jump_rows, literal, member, member_does, field_rows, method_rows, interface_method_rows, interface_call, class_use as class_instruction, new_array, array_rows, instruction_of}
 use Rattle.dj_model.specs.trusted.Program.{Program}
-use Rattle.dj_declared.specs.trusted.Files.{name_in}
+use Rattle.dj_declarations.specs.trusted.Files.{name_in}
 use Rattle.dj_program.specs.trusted.Naming.{units_in, named_by, named_at, named_or_another, member_in, instruction_in}
 use Rattle.dj_image.specs.declared.parts.ClassParts.{ClassParts}
 use Rattle.dj_image.specs.declared.uses.Use.{Use}

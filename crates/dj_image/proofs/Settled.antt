@@ -2,7 +2,7 @@
 use Rattle.std.proofs.Common.{◌≡◌, List, sym, ap, ◌∙◌, subst, IsTrue}
 use Rattle.std.specs.List.{list_all}
 use Rattle.dj_names.specs.declared.descriptor.Ty.{Ty}
-use Rattle.dj_types.specs.Typed.{Typed, is_array_of, arrays_rise}
+use Rattle.dj_numbering.specs.Typed.{Typed, is_array_of, arrays_rise}
 use Rattle.dj_image.specs.Numbering.{AreSettled}
 use Rattle.dj_image.specs.Tables.{AreClosed}
 use Rattle.dj_image.proofs.BareTyped as laws

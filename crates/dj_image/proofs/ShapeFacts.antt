@@ -10,14 +10,14 @@ use Rattle.dj_model.specs.trusted.Kinds.{Signature, call_signature}
 use Rattle.dj_model.specs.trusted.Linking.{FoundMethod}
 use Rattle.dj_model.specs.trusted.Program as programs
 use Rattle.dj_model.specs.trusted.Program.{Abstract, Runs}
-use Rattle.dj_classes.specs.declared.place.Place.{Place}
-use Rattle.dj_declared.specs.trusted.Files.{no_code}
+use Rattle.dj_class_table.specs.declared.place.Place.{Place}
+use Rattle.dj_declarations.specs.trusted.Files.{no_code}
 use Rattle.dj_program.specs.trusted.Codes.{CodeParts, code_in}
 use Rattle.dj_program.specs.Views.{parts_of}
 use Rattle.dj_program.specs.declared.code.MethodCode.{MethodCode}
-use Rattle.dj_shape.specs.Kept.{KeptKinds}
-use Rattle.dj_shape.specs.Pools.{call_at, ArePoolKinds}
-use Rattle.dj_types.specs.Members.{all_methods}
+use Rattle.dj_shape_rule.specs.Kept.{KeptKinds}
+use Rattle.dj_shape_rule.specs.Pools.{call_at, ArePoolKinds}
+use Rattle.dj_numbering.specs.Members.{all_methods}
 use Rattle.dj_image.specs.declared.parts.ClassParts.{ClassParts}
 use Rattle.dj_image.specs.declared.shaped.ShapeParts.{ShapeParts}
 use Rattle.dj_image.specs.Sources.{class_of_source}

@@ -7,13 +7,13 @@ use Rattle.std.proofs.lemmas.Option.{same_Some}
 use Rattle.dj_names.specs.trusted.Types.{Name}
 use Rattle.dj_model.specs.trusted.Program.{Body, Method, Runs, has_code}
 use Rattle.dj_model.specs.trusted.Linking.{FoundMethod}
-use Rattle.dj_classes.specs.declared.place.Place.{Place}
+use Rattle.dj_class_table.specs.declared.place.Place.{Place}
 use Rattle.dj_program.specs.trusted.Codes.{code_in}
 use Rattle.dj_program.specs.Views.{parts_of}
 use Rattle.dj_program.specs.declared.code.MethodCode.{MethodCode}
-use Rattle.dj_shape.specs.Pools.{ArePoolKinds}
-use Rattle.dj_types.specs.Typed.{Typed}
-use Rattle.dj_types.specs.Members.{all_methods, IsMethodPlace}
+use Rattle.dj_shape_rule.specs.Pools.{ArePoolKinds}
+use Rattle.dj_numbering.specs.Typed.{Typed}
+use Rattle.dj_numbering.specs.Members.{all_methods, IsMethodPlace}
 use Rattle.dj_image.specs.declared.operand.Operand.{Operand}
 use Rattle.dj_image.specs.declared.parts.ClassParts.{ClassParts}
 use Rattle.dj_image.specs.declared.shaped.ShapeParts.{ShapeParts}

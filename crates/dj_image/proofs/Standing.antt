@@ -13,16 +13,16 @@ use Rattle.dj_model.specs.trusted.Types.{Prefix}
 use Rattle.dj_model.specs.trusted.Program as programs
 use Rattle.dj_model.specs.trusted.Program.{Program, Class, Method, Field, Body, Abstract, Native, Runs, has_code}
 use Rattle.dj_model.specs.trusted.Linking.{FoundMethod, FoundField, place_of}
-use Rattle.dj_declared.specs.Files.{bare_method, bare_field, bare_class}
-use Rattle.dj_classes.specs.Tables.{name_at, class_number, methods_at, fields_at}
-use Rattle.dj_types.specs.Links.{Linked}
+use Rattle.dj_declarations.specs.Files.{bare_method, bare_field, bare_class}
+use Rattle.dj_class_table.specs.Tables.{name_at, class_number, methods_at, fields_at}
+use Rattle.dj_numbering.specs.Links.{Linked}
 use Rattle.dj_program.specs.trusted.Codes.{CodeParts}
 use Rattle.dj_program.specs.Views.{parts_of}
 use Rattle.dj_program.specs.declared.code.MethodCode.{MethodCode}
-use Rattle.dj_types.specs.declared.types.MemberOf.{MemberOf}
-use Rattle.dj_types.specs.Typed.{Typed, texts_of, types_of, text_number, flags_at, super_at, interfaces_at, component_at, is_subtype_at, string_at, chars_at, stop_at}
-use Rattle.dj_types.specs.Own.{raised_at}
-use Rattle.dj_types.specs.Members.{all_methods, all_fields, field_count_at, resolved_method, resolved_field, selected, special_of, found_method_number, found_field_number, methods_before, fields_before, IsMethodThere, IsFieldThere, IsNthMethod, IsNthField, native_at}
+use Rattle.dj_numbering.specs.declared.types.MemberOf.{MemberOf}
+use Rattle.dj_numbering.specs.Typed.{Typed, texts_of, types_of, text_number, flags_at, super_at, interfaces_at, component_at, is_subtype_at, string_at, chars_at, stop_at}
+use Rattle.dj_numbering.specs.Own.{raised_at}
+use Rattle.dj_numbering.specs.Members.{all_methods, all_fields, field_count_at, resolved_method, resolved_field, selected, special_of, found_method_number, found_field_number, methods_before, fields_before, IsMethodThere, IsFieldThere, IsNthMethod, IsNthField, native_at}
 use Rattle.dj_image.specs.declared.parts.ClassParts.{ClassParts}
 use Rattle.dj_image.specs.Sources.{with_code, with_codes, with_values, class_of_source, program_of_sources}
 use Rattle.dj_image.specs.Parts.{source_of, sources_of, FitMethods, FitClass, FitClasses}

@@ -13,7 +13,7 @@ use Rattle.dj_model.specs.trusted.Program.{Class, Method, Field}
 use Rattle.dj_pool.specs.trusted.Pool.{Constant, Utf8, Integer, Text}
 use Rattle.dj_program.specs.trusted.Naming.{units_in, named_at, named_by}
 use Rattle.dj_program.specs.declared.code.MethodCode.{MethodCode}
-use Rattle.dj_types.specs.Typed.{Typed}
+use Rattle.dj_numbering.specs.Typed.{Typed}
 use Rattle.dj_image.specs.declared.operand.Operand.{Operand}
 use Rattle.dj_image.specs.declared.operand.Operand.TheVariants as operands
 use Rattle.dj_image.specs.declared.parts.ClassParts.{ClassParts}

@@ -25,11 +25,11 @@ use Rattle.dj_model.specs.trusted.Program.{Runs}
 use Rattle.dj_model.specs.trusted.Linking.{FoundField, most_classes, chain_of, interfaces_from, interfaces_above, field_order, resolve_method, resolve_field, static_place}
 use Rattle.dj_model.specs.trusted.State.{State, Terms}
 use Rattle.dj_model.specs.trusted.Initialisation.{Initialised, Ready, with_static, with_constants}
-use Rattle.dj_check.specs.trusted.Instructions.{index_of}
-use Rattle.dj_declared.specs.trusted.Files.{desc_in, type_in, no_code}
+use Rattle.dj_early_rules.specs.trusted.Instructions.{index_of}
+use Rattle.dj_declarations.specs.trusted.Files.{desc_in, type_in, no_code}
 use Rattle.dj_program.specs.trusted.Naming.{named_at, named_by, named_if, units_in}
 use Rattle.dj_program.specs.trusted.Codes.{CodeParts, catches_in}
-use Rattle.dj_types.specs.Members.{all_methods, all_fields}
+use Rattle.dj_numbering.specs.Members.{all_methods, all_fields}
 use Rattle.dj_image.specs.declared.operand.Operand.{Operand}
 use Rattle.dj_image.specs.declared.operand.Operand.TheVariants as operands
 use Rattle.dj_image.specs.Sources.{Source, class_of_source}

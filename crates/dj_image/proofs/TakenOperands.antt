@@ -16,9 +16,9 @@ use Rattle.dj_pool.specs.trusted.Pool.{Constant, Utf8, Integer, Float, Long, Dou
 use Rattle.dj_model.specs.trusted.Types.{Member}
 use Rattle.dj_model.specs.trusted.Instructions.{Named, Nothing, AnInt, ALong, AText, AClass, AField, AMethod, AnInterfaceMethod, Another, Instruction, NewArray, Other}
 use Rattle.dj_model.specs.trusted.Opcodes.{Row, row_does, rows_of, simple, constant_rows, store_rows, stack_rows, number_rows, bit_rows, last_rows, local_rows, jump_rows, operand_does, literal, field_rows, method_rows, interface_method_rows, member_does, member, interface_call, class_use, array_rows, new_array, instruction_of}
-use Rattle.dj_check.specs.trusted.Instructions.{index_of}
+use Rattle.dj_early_rules.specs.trusted.Instructions.{index_of}
 use Rattle.dj_program.specs.trusted.Naming.{named_at, named_by, named_if, member_in, named_or_another}
-use Rattle.dj_types.specs.Typed.{Typed, type_number, text_of_type}
+use Rattle.dj_numbering.specs.Typed.{Typed, type_number, text_of_type}
 use Rattle.dj_image.specs.declared.operand.Operand.{Operand}
 use Rattle.dj_image.specs.declared.operand.Operand.TheVariants as operands
 use Rattle.dj_image.specs.Imaged.{Imaged, typed_of}

@@ -13,7 +13,7 @@ use Rattle.std.proofs.lemmas.List.{take_all, append_assoc, append-nil}
 use Rattle.std.proofs.lemmas.List.Elements.{Contains-append_left, Contains-push, Contains-push_cases, All-get_or, All-from_recursion}
 use Rattle.dj_names.specs.trusted.Types.{Name}
 use Rattle.dj_pool.specs.trusted.Pool.{Constant}
-use Rattle.dj_declared.specs.trusted.Files.{name_in}
+use Rattle.dj_declarations.specs.trusted.Files.{name_in}
 use Rattle.dj_program.specs.trusted.Naming.{units_in}
 use Rattle.dj_image.specs.declared.parts.ClassParts.{ClassParts}
 use Rattle.dj_image.specs.declared.parts.FieldValue.{FieldValue}

@@ -13,7 +13,7 @@ use Rattle.dj_ops.specs.declared.instruction.Instr.TheVariants as instrs
 use Rattle.dj_ops.specs.Mnemonics.{nop, ldc, ldc_w, ldc2_w, iload, goto, getstatic, invokevirtual, invokestatic, new, anewarray, checkcast, instanceof}
 use Rattle.dj_pool.specs.trusted.Pool.{Constant, Utf8, Integer, Class, Text, Field, Method, InterfaceMethod, NameAndType}
 use Rattle.dj_model.specs.trusted.Opcodes.{array_rows}
-use Rattle.dj_declared.specs.trusted.Files.{desc_in, type_in}
+use Rattle.dj_declarations.specs.trusted.Files.{desc_in, type_in}
 use Rattle.dj_program.specs.trusted.Naming.{units_in}
 use Rattle.dj_program.specs.declared.code.MethodCode.{MethodCode}
 use Rattle.dj_image.specs.declared.parts.ClassParts.{ClassParts}

@@ -14,7 +14,7 @@ use Rattle.dj_pool.specs.trusted.Pool.{Constant, Utf8, Integer, Float, Long, Dou
 use Rattle.dj_model.specs.trusted.Types.{Member}
 use Rattle.dj_model.specs.trusted.Instructions.{Named, Nothing, AnInt, ALong, AText, AClass, AField, AMethod, AnInterfaceMethod, Another, Instruction, GetStatic, PutStatic, GetField, PutField, Invoke, New, NewArray, CheckCast, InstanceOf, Other}
 use Rattle.dj_model.specs.trusted.Opcodes.{Row, row_does, rows_of, constant_rows, store_rows, stack_rows, number_rows, bit_rows, last_rows, simple, local_rows, operand_does, jump_rows, literal, member, member_does, field_rows, method_rows, interface_method_rows, interface_call, class_use as class_instruction, new_array, array_rows, instruction_of}
-use Rattle.dj_declared.specs.trusted.Files.{type_in, name_in, desc_in}
+use Rattle.dj_declarations.specs.trusted.Files.{type_in, name_in, desc_in}
 use Rattle.dj_program.specs.trusted.Naming.{member_from, member_in, named_by, named_at, named_or_another, instruction_in}
 use Rattle.dj_image.specs.declared.uses.Use.{Use}
 use Rattle.dj_image.specs.declared.uses.Use.TheVariants as uses

@@ -5,7 +5,7 @@ use Rattle.std.proofs.lemmas.List.Elements.{Contains-append_left, Contains-appen
 use Rattle.dj_pool.specs.trusted.Pool.{Constant}
 use Rattle.dj_model.specs.trusted.Program as programs
 use Rattle.dj_model.specs.trusted.Program.{Program, Class, Field}
-use Rattle.dj_declared.specs.trusted.Files.{name_in}
+use Rattle.dj_declarations.specs.trusted.Files.{name_in}
 use Rattle.dj_program.specs.trusted.Naming.{units_in}
 use Rattle.dj_image.specs.declared.parts.ClassParts.{ClassParts}
 use Rattle.dj_image.specs.declared.parts.FieldValue.{FieldValue}

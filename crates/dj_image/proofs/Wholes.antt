@@ -8,7 +8,7 @@ use Rattle.dj_names.specs.declared.descriptor.Ty.{Ty}
 use Rattle.dj_program.specs.declared.code.MethodCode.{MethodCode}
 use Rattle.dj_pool.specs.trusted.Pool.{Constant, IsPool}
 use Rattle.dj_model.specs.trusted.Program.{Program}
-use Rattle.dj_types.specs.Typed.{is_known_of}
+use Rattle.dj_numbering.specs.Typed.{is_known_of}
 use Rattle.dj_image.specs.declared.parts.ClassParts.{ClassParts}
 use Rattle.dj_image.specs.declared.uses.Use.{Use}
 use Rattle.dj_image.specs.Uses.{SameMembers, use_in, code_uses, class_uses, used_type, class_types, used_types}

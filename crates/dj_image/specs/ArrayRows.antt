@@ -14,8 +14,8 @@ use Rattle.dj_names.specs.trusted.Types.{Name, base_array}
 use Rattle.dj_names.specs.trusted.Descriptors.{of_text}
 use Rattle.dj_pool.specs.trusted.Pool.{Constant, IsClassText, NamesText}
 use Rattle.dj_model.specs.trusted.Program.{Program}
-use Rattle.dj_types.specs.declared.shapes.Shape.{Shape}
-use Rattle.dj_types.specs.Typed.{is_known_of}
+use Rattle.dj_numbering.specs.declared.shapes.Shape.{Shape}
+use Rattle.dj_numbering.specs.Typed.{is_known_of}
 use Rattle.dj_image.specs.declared.lent_type.LentType.{LentType}
 use Rattle.dj_image.specs.declared.lent_type.LentOf.{LentOf}
 use Rattle.dj_image.specs.declared.lent_type.LentOf.TheVariants as lents

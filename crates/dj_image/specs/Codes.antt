@@ -7,11 +7,11 @@ use Rattle.dj_labels.specs.declared.labelled.Protected.{Protected}
 use Rattle.dj_pool.specs.trusted.Pool.{Constant}
 use Rattle.dj_model.specs.trusted.Program.{Body, Abstract, Native, Runs}
 use Rattle.dj_model.specs.trusted.Linking.{FoundMethod, FoundField}
-use Rattle.dj_check.specs.trusted.Instructions.{index_of}
+use Rattle.dj_early_rules.specs.trusted.Instructions.{index_of}
 use Rattle.dj_program.specs.trusted.Naming.{named_if}
 use Rattle.dj_program.specs.trusted.Codes.{CodeParts, code_in, catches_in}
 use Rattle.dj_program.specs.Views.{parts_of}
-use Rattle.dj_types.specs.Members.{all_methods, all_fields}
+use Rattle.dj_numbering.specs.Members.{all_methods, all_fields}
 use Rattle.dj_image.specs.declared.image.Body as bodies
 use Rattle.dj_image.specs.declared.image.Body.TheVariants as variants
 use Rattle.dj_image.specs.declared.operand.Operand.{Operand}

@@ -1,7 +1,7 @@
 -- Used by the code alone: the tables of one class, and those of the classes.
 use Rattle.std.specs.Prelude.{◌≡◌, ℕ, List, map, Option, Some, None}
 use Rattle.dj_pool.specs.trusted.Pool.{Constant}
-use Rattle.dj_declared.specs.trusted.Files.{name_in}
+use Rattle.dj_declarations.specs.trusted.Files.{name_in}
 use Rattle.dj_program.specs.trusted.Naming.{units_in}
 use Rattle.dj_image.specs.declared.operand.Operand.{Operand}
 use Rattle.dj_image.specs.declared.operand.Operand.TheVariants as operands

@@ -1,9 +1,9 @@
 -- Used by the code alone: what constants are as operands, by what is kept of texts.
 use Rattle.std.specs.Prelude.{ℕ, ◌<◌, ⊤, List, length, Option, Some, None, if◌then◌else◌, get_or, option_and_then, IfSome}
 use Rattle.dj_pool.specs.trusted.Pool.{Constant, Integer, Long, Class, Text, Field, Method, InterfaceMethod, constant_at, text_at, class_text_of, name_and_type_at}
-use Rattle.dj_declared.specs.Members.{IsDescriptor}
-use Rattle.dj_types.specs.Typed.{Typed, types_of}
-use Rattle.dj_types.specs.Members.{resolved_method, resolved_field, found_method_number, found_field_number}
+use Rattle.dj_declarations.specs.Members.{IsDescriptor}
+use Rattle.dj_numbering.specs.Typed.{Typed, types_of}
+use Rattle.dj_numbering.specs.Members.{resolved_method, resolved_field, found_method_number, found_field_number}
 use Rattle.dj_image.specs.declared.operand.Operand.{Operand}
 use Rattle.dj_image.specs.declared.operand.Operand.TheVariants as operands
 use Rattle.dj_image.specs.Operands.{class_operand, text_operand, method_operand, field_operand}

@@ -7,7 +7,7 @@ use Rattle.dj_model.specs.trusted.Types.{Prefix}
 use Rattle.dj_model.specs.trusted.Instructions.{Named, AClass, AField, AMethod, AnInterfaceMethod, Instruction, GetStatic, PutStatic, GetField, PutField, Invoke, New, NewArray, CheckCast, InstanceOf, Other, PushText}
 use Rattle.dj_model.specs.trusted.Program as programs
 use Rattle.dj_model.specs.trusted.Program.{Program, Class, Method, Field, Code, Runs}
-use Rattle.dj_types.specs.Typed.{Typed, is_known_of, arrays_rise}
+use Rattle.dj_numbering.specs.Typed.{Typed, is_known_of, arrays_rise}
 use Rattle.dj_image.specs.Sources.{Source, program_of_sources}
 
 pub record Imaged : Type 0 where

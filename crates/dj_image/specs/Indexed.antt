@@ -1,9 +1,9 @@
 -- Used by the code alone: what is at the indexes of a pool, by tables.
 use Rattle.std.specs.Prelude.{◌≡◌, ℕ, ◌<◌, Bool, false, List, [], ◌∷◌, ◌++◌, length, Option, Some, None, nat_eq, if◌then◌else◌, get_or, slice_get, option_and_then}
 use Rattle.dj_pool.specs.trusted.Pool.{Constant, constant_at, text_at, class_text_of}
-use Rattle.dj_check.specs.trusted.Classes.{class_text_index}
+use Rattle.dj_early_rules.specs.trusted.Classes.{class_text_index}
 use Rattle.dj_program.specs.trusted.Naming.{units_in}
-use Rattle.dj_types.specs.Typed.{Typed, text_number}
+use Rattle.dj_numbering.specs.Typed.{Typed, text_number}
 use Rattle.dj_image.specs.Operands.{units_number}
 
 -- one for each number below a count

@@ -2,7 +2,7 @@
 use Rattle.std.specs.Prelude.{⊤, ℕ, ◌+◌, List, length, Option, Some, None, option_and_then}
 use Rattle.std.specs.Borrow.{Bor}
 use Rattle.dj_pool.specs.trusted.Pool.{Constant, text_at}
-use Rattle.dj_types.specs.Links.{Numbering, number_of}
+use Rattle.dj_numbering.specs.Links.{Numbering, number_of}
 use Rattle.dj_image.specs.Indexed.{Holds}
 
 -- the number of the text at an index, where there is a text that has one

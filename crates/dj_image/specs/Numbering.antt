@@ -1,8 +1,8 @@
 -- Used by the code alone: what holds of classes and arrays that have numbers.
 use Rattle.std.specs.Prelude.{◌≡◌, ℕ, Some}
 use Rattle.dj_names.specs.trusted.Types.{Name}
-use Rattle.dj_classes.specs.Tables.{name_at, class_number}
-use Rattle.dj_types.specs.Typed.{Typed, ArePlain, AreArrays}
+use Rattle.dj_class_table.specs.Tables.{name_at, class_number}
+use Rattle.dj_numbering.specs.Typed.{Typed, ArePlain, AreArrays}
 use Rattle.dj_image.specs.Tables.{AreClosed}
 
 -- no two classes have the same name, no name begins as the descriptor of an array does, and the arrays are of base types and of classes that are there,

@@ -10,8 +10,8 @@ use Rattle.dj_model.specs.trusted.Instructions.{Named, Nothing, AnInt, ALong, AT
 use Rattle.dj_model.specs.trusted.Opcodes.{instruction_of}
 use Rattle.dj_model.specs.trusted.Program as programs
 use Rattle.dj_model.specs.trusted.Linking.{resolve_method, resolve_field}
-use Rattle.dj_types.specs.Typed.{type_number}
-use Rattle.dj_types.specs.Members.{found_method_number, found_field_number}
+use Rattle.dj_numbering.specs.Typed.{type_number}
+use Rattle.dj_numbering.specs.Members.{found_method_number, found_field_number}
 use Rattle.dj_image.specs.declared.operand.Operand.{Operand}
 use Rattle.dj_image.specs.declared.operand.Operand.TheVariants as operands
 use Rattle.dj_image.specs.Imaged.{Imaged, program_of, typed_of}

@@ -6,13 +6,13 @@ use Rattle.dj_model.specs.trusted.Program as programs
 use Rattle.dj_model.specs.trusted.Program.{Program, Class, Method, Runs, has_code}
 use Rattle.dj_names.specs.declared.descriptor.Desc.{Desc}
 use Rattle.dj_model.specs.trusted.Types.{Prefix, string_name}
-use Rattle.dj_declared.specs.trusted.Files.{desc_in, name_in}
-use Rattle.dj_declared.specs.Members.{IsDescriptor}
-use Rattle.dj_classes.specs.Tables.{class_number}
-use Rattle.dj_shape.specs.Pools.{ArePoolKinds}
+use Rattle.dj_declarations.specs.trusted.Files.{desc_in, name_in}
+use Rattle.dj_declarations.specs.Members.{IsDescriptor}
+use Rattle.dj_class_table.specs.Tables.{class_number}
+use Rattle.dj_shape_rule.specs.Pools.{ArePoolKinds}
 use Rattle.dj_program.specs.trusted.Naming.{units_in}
 use Rattle.dj_program.specs.Views.{parts_of}
-use Rattle.dj_types.specs.Members.{all_methods, all_fields}
+use Rattle.dj_numbering.specs.Members.{all_methods, all_fields}
 use Rattle.dj_image.specs.declared.parts.ClassParts.{ClassParts}
 use Rattle.dj_image.specs.declared.parts.FieldValue.{FieldValue}
 use Rattle.dj_image.specs.declared.parts.FieldValue.TheVariants as values

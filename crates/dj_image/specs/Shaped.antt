@@ -4,13 +4,13 @@ use Rattle.std.specs.Option.{option_map}
 use Rattle.dj_pool.specs.trusted.Pool.{Constant}
 use Rattle.dj_model.specs.trusted.Program.{Code, Runs}
 use Rattle.dj_model.specs.trusted.Linking.{FoundMethod}
-use Rattle.dj_classes.specs.declared.place.Place.{Place}
+use Rattle.dj_class_table.specs.declared.place.Place.{Place}
 use Rattle.dj_program.specs.trusted.Codes.{code_in}
 use Rattle.dj_program.specs.Views.{parts_of}
 use Rattle.dj_program.specs.declared.code.MethodCode.{MethodCode}
-use Rattle.dj_types.specs.Members.{all_methods}
-use Rattle.dj_shape.specs.Kept.{KeptKinds}
-use Rattle.dj_shape.specs.Pools.{ArePoolKinds}
+use Rattle.dj_numbering.specs.Members.{all_methods}
+use Rattle.dj_shape_rule.specs.Kept.{KeptKinds}
+use Rattle.dj_shape_rule.specs.Pools.{ArePoolKinds}
 use Rattle.dj_image.specs.declared.parts.ClassParts.{ClassParts}
 use Rattle.dj_image.specs.declared.shaped.ShapeParts.{ShapeParts}
 use Rattle.dj_image.specs.Imaged.{Imaged, program_of}

@@ -6,7 +6,7 @@ use Rattle.dj_names.specs.declared.descriptor.Ty.{Ty}
 use Rattle.dj_names.specs.trusted.Types.{component_type}
 use Rattle.dj_pool.specs.trusted.Pool.{Constant}
 use Rattle.dj_program.specs.trusted.Naming.{named_at}
-use Rattle.dj_types.specs.Typed.{Typed, chars_at}
+use Rattle.dj_numbering.specs.Typed.{Typed, chars_at}
 use Rattle.dj_image.specs.declared.operand.Operand.{Operand}
 use Rattle.dj_image.specs.declared.parts.ClassParts.{ClassParts}
 use Rattle.dj_image.specs.declared.parts.FieldValue.{FieldValue}

@@ -10,10 +10,10 @@ use Rattle.dj_ops.specs.declared.instruction.Instr.TheVariants as instrs
 use Rattle.dj_labels.specs.declared.labelled.Protected.{Protected}
 use Rattle.dj_pool.specs.trusted.Pool.{Constant, InterfaceMethod, constant_at}
 use Rattle.dj_model.specs.trusted.Opcodes.{array_rows}
-use Rattle.dj_check.specs.trusted.Instructions.{index_of}
-use Rattle.dj_classes.specs.declared.place.Place.{Place}
+use Rattle.dj_early_rules.specs.trusted.Instructions.{index_of}
+use Rattle.dj_class_table.specs.declared.place.Place.{Place}
 use Rattle.dj_program.specs.declared.code.MethodCode.{MethodCode}
-use Rattle.dj_types.specs.Typed.{Typed, text_number, text_of_type}
+use Rattle.dj_numbering.specs.Typed.{Typed, text_number, text_of_type}
 use Rattle.dj_image.specs.declared.operand.Operand.{Operand}
 use Rattle.dj_image.specs.declared.operand.Operand.TheVariants as operands
 use Rattle.dj_image.specs.declared.parts.ClassParts.{ClassParts}

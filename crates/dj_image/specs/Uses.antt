@@ -10,7 +10,7 @@ use Rattle.dj_ops.specs.declared.instruction.Instr.{Instr}
 use Rattle.dj_ops.specs.declared.instruction.Instr.TheVariants as instrs
 use Rattle.dj_pool.specs.trusted.Pool.{Constant, Class, Text, Field, Method, InterfaceMethod, constant_at, class_text_of}
 use Rattle.dj_model.specs.trusted.Opcodes.{array_rows}
-use Rattle.dj_declared.specs.trusted.Files.{type_in, name_in}
+use Rattle.dj_declarations.specs.trusted.Files.{type_in, name_in}
 use Rattle.dj_program.specs.trusted.Naming.{units_in}
 use Rattle.dj_program.specs.declared.code.MethodCode.{MethodCode}
 use Rattle.dj_image.specs.declared.uses.Use.{Use}

@@ -1,6 +1,6 @@
 ghost use Rattle.std.specs.Prelude.{◌≡◌};
 
-use dj_types::TypesError;
+use dj_numbering::TypesError;
 use std::alloc::{AllocError, AllocFailed};
 use thiserror::Error;
 

@@ -1,11 +1,11 @@
 ghost use Rattle.std.specs.Prelude.{◌≡◌, ◌<◌, length, map, Some, None, slice_get};
 ghost use Rattle.std.specs.Option.{option_map};
 ghost use Rattle.dj_model.specs.trusted.Linking.{place_of};
-ghost use Rattle.dj_declared.specs.Files.{bare_class};
-ghost use Rattle.dj_declared.specs.Members.{IsDescriptor};
-ghost use Rattle.dj_types.specs.Typed.{texts_of, types_of, text_number, flags_at, super_at, interfaces_at, component_at, is_subtype_at, string_at, chars_at, stop_at};
-ghost use Rattle.dj_types.specs.Own.{raised_at};
-ghost use Rattle.dj_types.specs.Members.{all_methods, all_fields, field_count_at, resolved_method, resolved_field, selected, special_of, found_method_number, found_field_number, IsMethodThere, IsFieldThere, IsNthMethod, IsNthField, number_of_method, number_of_field};
+ghost use Rattle.dj_declarations.specs.Files.{bare_class};
+ghost use Rattle.dj_declarations.specs.Members.{IsDescriptor};
+ghost use Rattle.dj_numbering.specs.Typed.{texts_of, types_of, text_number, flags_at, super_at, interfaces_at, component_at, is_subtype_at, string_at, chars_at, stop_at};
+ghost use Rattle.dj_numbering.specs.Own.{raised_at};
+ghost use Rattle.dj_numbering.specs.Members.{all_methods, all_fields, field_count_at, resolved_method, resolved_field, selected, special_of, found_method_number, found_field_number, IsMethodThere, IsFieldThere, IsNthMethod, IsNthField, number_of_method, number_of_field};
 ghost use Rattle.dj_image.specs.Imaged.{program_of, typed_of, IsNumbered};
 ghost use Rattle.dj_image.specs.Codes.{HasInstr, HasRange, IsOperandAt, IsNamedAt, IsCaughtAt, IsConstantAt, IsBodyAt};
 ghost use Rattle.dj_image.specs.Shaped.{AreShapePartsAt};
@@ -16,10 +16,10 @@ use crate::shaped::{ShapeParts, shape_parts};
 use crate::taken::{
     caught_kept, code_at, constant_at, instr_at, named_kept, operand_there, range_at,
 };
-use dj_check::index_of;
+use dj_early_rules::index_of;
 use dj_names::{NativeId, Raised, Units};
+use dj_numbering::{FieldId, Linker, MemberOf, MethodId, Types};
 use dj_program::MethodCode;
-use dj_types::{FieldId, Linker, MemberOf, MethodId, Types};
 use std::marker::Model;
 
 /// The body of a method.

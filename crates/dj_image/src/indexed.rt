@@ -8,7 +8,7 @@ use crate::error::ImageError;
 use crate::owned::{OwnedEntry, OwnedPool};
 use crate::texts::units_at;
 use dj_names::Units;
-use dj_types::Types;
+use dj_numbering::Types;
 use std::alloc::Global;
 
 /// The number of indexes of a pool, with that of no constant.

@@ -5,7 +5,7 @@ ghost use Rattle.dj_names.specs.trusted.Types.{Name};
 ghost use Rattle.dj_names.specs.declared.descriptor.Of.{Of};
 ghost use Rattle.dj_names.specs.trusted.Descriptors.{base_letter, of_text};
 ghost use Rattle.dj_pool.specs.trusted.Pool.{IsClassText};
-ghost use Rattle.dj_declared.specs.trusted.Files.{type_in};
+ghost use Rattle.dj_declarations.specs.trusted.Files.{type_in};
 ghost use Rattle.dj_image.specs.ArrayRows.{brackets, of_lent, type_lent};
 
 use dj_names::Base;

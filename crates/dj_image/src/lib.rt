@@ -20,8 +20,8 @@ mod taken;
 mod texts;
 mod uses;
 
+pub use dj_numbering::{BaseNames, FieldId, Linker, MemberOf, MethodId};
 pub use dj_program::MethodCode;
-pub use dj_types::{BaseNames, FieldId, Linker, MemberOf, MethodId};
 pub use error::ImageError;
 pub use image::{Body, Image};
 pub use make::image_of;

@@ -1,7 +1,7 @@
 ghost use Rattle.std.specs.Prelude.{◌≡◌, ◌+◌, ◌<◌, ◌^◌, length, is_some, IsTrue, IfOk, OnOk};
 ghost use Rattle.dj_model.specs.trusted.Types.{object_name};
-ghost use Rattle.dj_classes.specs.Tables.{class_number};
-ghost use Rattle.dj_types.specs.Typed.{AreArrays, chars_at};
+ghost use Rattle.dj_class_table.specs.Tables.{class_number};
+ghost use Rattle.dj_numbering.specs.Typed.{AreArrays, chars_at};
 ghost use Rattle.dj_image.specs.Imaged.{IsNumbered};
 ghost use Rattle.dj_image.specs.Parts.{sources_of, FitClasses, AreFew, HasString};
 ghost use Rattle.dj_image.specs.Tables.{imaged_of, AreClosed};
@@ -14,7 +14,7 @@ use crate::parts::ClassParts;
 use crate::tables::tables_of;
 use crate::texts::texts_of;
 use dj_names::Units;
-use dj_types::{Linker, Shape, Types};
+use dj_numbering::{Linker, Shape, Types};
 use std::alloc::Global;
 
 // There is no memory for more classes and arrays than have numbers.

@@ -3,8 +3,8 @@ ghost use Rattle.std.specs.Prelude.{◌≡◌, ◌+◌, length, Option, IfOk, If
 ghost use Rattle.std.specs.Option.{option_map};
 ghost use Rattle.std.specs.Borrow.{Bor};
 ghost use Rattle.dj_pool.specs.trusted.Pool.{IsPool, name_and_type_at};
-ghost use Rattle.dj_types.specs.Links.{Numbering};
-ghost use Rattle.dj_types.specs.Named.{IsNumbered};
+ghost use Rattle.dj_numbering.specs.Links.{Numbering};
+ghost use Rattle.dj_numbering.specs.Named.{IsNumbered};
 ghost use Rattle.dj_image.specs.Homes.{IsDescribed};
 ghost use Rattle.dj_image.specs.Indexed.{Holds};
 ghost use Rattle.dj_image.specs.NameNumbers.{name_number, AreNumbersBy};
@@ -12,7 +12,7 @@ ghost use Rattle.dj_image.specs.NameNumbers.{name_number, AreNumbersBy};
 use crate::error::ImageError;
 use crate::indexed::{index_count, number_at};
 use crate::owned::OwnedPool;
-use dj_types::{Directory, MemberName};
+use dj_numbering::{Directory, MemberName};
 use std::alloc::Global;
 
 // The number of the text of an index, where there is a text that has one.

@@ -2,7 +2,7 @@ ghost use Rattle.dj_image.specs.Imaged.{typed_of, IsNumbered};
 ghost use Rattle.dj_image.specs.Numbering.{AreSettled};
 
 use crate::image::Image;
-use dj_natives::Classes;
+use dj_library_types::Classes;
 
 impl Image {
     /// A law: each class has one number, no class's name begins as an array's descriptor does, and the arrays that have numbers are of base types
@@ -24,7 +24,7 @@ impl Image {
 }
 
 impl Classes for Image {
-    ghost use Rattle.dj_types.specs.Typed.{types_of};
+    ghost use Rattle.dj_numbering.specs.Typed.{types_of};
     ghost use Rattle.dj_image.specs.Imaged.{program_of, typed_of};
 
     ghost types = { λ image. types_of (typed_of image) };

@@ -1,4 +1,4 @@
-use dj_types::{FieldId, MethodId};
+use dj_numbering::{FieldId, MethodId};
 
 /// What an operand of an instruction or the constant of a field is.
 #[derive(Clone, Copy, Debug, PartialEq, Eq)]

@@ -1,8 +1,8 @@
 ghost use Rattle.std.specs.Prelude.{◌≡◌, ℕ, ◌+◌, length, IfOk, option_and_then};
 ghost use Rattle.std.specs.Option.{option_map};
 ghost use Rattle.dj_pool.specs.trusted.Pool.{IsPool, IsLinked, name_and_type_at};
-ghost use Rattle.dj_types.specs.Members.{number_of_method, number_of_field, found_method_number, found_field_number, resolved_method, resolved_field};
-ghost use Rattle.dj_types.specs.Named.{IsDirectoryOf, IsNumbered};
+ghost use Rattle.dj_numbering.specs.Members.{number_of_method, number_of_field, found_method_number, found_field_number, resolved_method, resolved_field};
+ghost use Rattle.dj_numbering.specs.Named.{IsDirectoryOf, IsNumbered};
 ghost use Rattle.dj_image.specs.Homes.{kept_home, IsHome, AreHomes, IsDescribed, method_reported, field_reported, constant_operand, operand_at};
 ghost use Rattle.dj_image.specs.Indexed.{Holds};
 ghost use Rattle.dj_image.specs.NameNumbers.{AreNumbersBy};
@@ -15,7 +15,7 @@ use crate::name_numbers::{member_name, name_numbers};
 use crate::operand::Operand;
 use crate::owned::{OwnedEntry, OwnedPool};
 use crate::taken::class_operand;
-use dj_types::{Directory, FieldId, MemberName, MethodId, Types};
+use dj_numbering::{Directory, FieldId, MemberName, MethodId, Types};
 use std::alloc::Global;
 
 // ---- members

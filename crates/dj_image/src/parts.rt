@@ -1,6 +1,6 @@
 use crate::owned::OwnedPool;
 use dj_program::MethodCode;
-use dj_shape::PoolKinds;
+use dj_shape_rule::PoolKinds;
 
 /// The constant with which a field begins (JVMS 4.7.2).
 #[derive(Debug, Drop)]

@@ -3,9 +3,9 @@ ghost use Rattle.std.specs.Option.{option_map};
 ghost use Rattle.dj_image.specs.Shaped.{shape_lent, shape_in, shape_kept};
 
 use crate::parts::ClassParts;
+use dj_numbering::Place;
 use dj_program::MethodCode;
-use dj_shape::PoolKinds;
-use dj_types::Place;
+use dj_shape_rule::PoolKinds;
 
 /// What rule 19, SHAPE, needs to know of a method that has code.
 #[derive(Drop)]

@@ -1,9 +1,9 @@
 ghost use Rattle.std.specs.Prelude.{◌≡◌, ℕ, ◌+◌, ◌++◌, ◌∷◌, [], ◌<◌, ◌^◌, List, length, map, IfOk, OnOk};
 ghost use Rattle.dj_pool.specs.trusted.Pool.{IsPool};
 ghost use Rattle.dj_model.specs.trusted.Types.{object_name};
-ghost use Rattle.dj_classes.specs.Tables.{class_number};
-ghost use Rattle.dj_types.specs.Named.{IsDirectoryOf};
-ghost use Rattle.dj_types.specs.Typed.{AreArrays};
+ghost use Rattle.dj_class_table.specs.Tables.{class_number};
+ghost use Rattle.dj_numbering.specs.Named.{IsDirectoryOf};
+ghost use Rattle.dj_numbering.specs.Typed.{AreArrays};
 ghost use Rattle.dj_image.specs.declared.parts.ClassParts.{ClassParts};
 ghost use Rattle.dj_image.specs.Gathered.{text_at_index, value_reported, AreOfClass, AreOfClasses};
 ghost use Rattle.dj_image.specs.Indexed.{Holds, text_place};
@@ -18,7 +18,7 @@ use crate::operands::{operand_table, text_operand};
 use crate::owned::OwnedPool;
 use crate::parts::{ClassParts, FieldValue};
 use dj_names::Units;
-use dj_types::{Directory, Types};
+use dj_numbering::{Directory, Types};
 use std::alloc::Global;
 
 /// What is kept of the constants of a class and of its fields.

@@ -2,7 +2,7 @@ ghost use Rattle.std.specs.Prelude.{◌≡◌, get_or, option_and_then};
 ghost use Rattle.std.specs.Option.{option_map};
 ghost use Rattle.dj_names.specs.trusted.Types.{base_array};
 ghost use Rattle.dj_model.specs.trusted.Opcodes.{array_rows};
-ghost use Rattle.dj_types.specs.Typed.{text_of_type};
+ghost use Rattle.dj_numbering.specs.Typed.{text_of_type};
 ghost use Rattle.dj_image.specs.declared.operand.Operand.TheVariants.{Unresolved};
 ghost use Rattle.dj_image.specs.Operands.{class_operand};
 ghost use Rattle.dj_image.specs.Taken.{interface_at, takes_literal, takes_member, is_method, is_class, takes_operand, indexed_operand, base_text, base_operand, kept_operand, code_kept, instr_kept, range_kept, entry_kept, class_at_index, named_kept, caught_kept, operand_with};
@@ -11,12 +11,12 @@ use crate::indexed::number_at;
 use crate::operand::Operand;
 use crate::owned::{OwnedEntry, OwnedPool};
 use crate::parts::ClassParts;
-use dj_check::index_of;
+use dj_early_rules::index_of;
 use dj_labels::Protected;
 use dj_names::Base;
+use dj_numbering::{Place, Types};
 use dj_ops::Instr;
 use dj_program::MethodCode;
-use dj_types::{Place, Types};
 
 // ---- which operands an instruction takes
 

@@ -2,7 +2,7 @@ ghost use Rattle.std.specs.Prelude.{◌≡◌, ℕ, ◌∷◌, ◌++◌, [], Lis
 ghost use Rattle.std.specs.Option.{option_to_list};
 ghost use Rattle.std.specs.List.{AllByRecursion, filter_map};
 ghost use Rattle.dj_pool.specs.trusted.Pool.{IsPool};
-ghost use Rattle.dj_declared.specs.trusted.Files.{name_in};
+ghost use Rattle.dj_declarations.specs.trusted.Files.{name_in};
 ghost use Rattle.dj_program.specs.trusted.Naming.{units_in};
 ghost use Rattle.dj_image.specs.Texts.{AreTexts, RiseStrictly, HasPool, class_texts, value_texts, key_items, texts_in, texts_of};
 ghost use Rattle.dj_image.specs.Uses.{SameMembers, pushed_text};

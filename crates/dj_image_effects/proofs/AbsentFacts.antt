@@ -22,18 +22,18 @@ use Rattle.dj_model.specs.trusted.Members.{check_cast, instance_number, instance
 use Rattle.dj_model.specs.trusted.Performing.{class_in, class_at_number, is_instance}
 use Rattle.dj_model.specs.trusted.Effects.{effect}
 use Rattle.dj_model.proofs.MappedHeaps.{object_at_mapped}
-use Rattle.dj_declared.proofs.DescTests.{same_name_is}
+use Rattle.dj_declarations.proofs.DescTests.{same_name_is}
 use Rattle.dj_heap.specs.Heaps.{LimitedHeap}
 use Rattle.dj_stack.specs.Frames.{StackFrame, SameButOperands, top_operands}
 use Rattle.dj_effects.specs.declared.way.Way.TheVariants as ways
 use Rattle.dj_image.specs.Imaged.{Imaged, program_of}
-use Rattle.dj_initialising.specs.Store.{store}
-use Rattle.dj_acting.specs.declared.acted.Acted.{Acted}
-use Rattle.dj_acting.specs.declared.acted.Acted.TheVariants as acts
-use Rattle.dj_acting.specs.Absent.{ReplacesTop, cast_acted, is_absent_of}
-use Rattle.dj_acting.specs.Acting.{Acts, ActsOnHeap, IsTopAbsent, machine, part_of}
-use Rattle.dj_acting.proofs.Reported.{types, with_locals}
-use Rattle.dj_acting.proofs.Takings.{none_past}
+use Rattle.dj_initialisation.specs.Store.{store}
+use Rattle.dj_image_effects.specs.declared.acted.Acted.{Acted}
+use Rattle.dj_image_effects.specs.declared.acted.Acted.TheVariants as acts
+use Rattle.dj_image_effects.specs.Absent.{ReplacesTop, cast_acted, is_absent_of}
+use Rattle.dj_image_effects.specs.Acting.{Acts, ActsOnHeap, IsTopAbsent, machine, part_of}
+use Rattle.dj_image_effects.proofs.Reported.{types, with_locals}
+use Rattle.dj_image_effects.proofs.Takings.{none_past}
 
 -- ---- in the model
 

@@ -20,15 +20,15 @@ use Rattle.dj_effects.specs.declared.actions.PlainAction.TheVariants as actions
 use Rattle.dj_effects.specs.declared.actions.Slots.TheVariants as slots
 use Rattle.dj_effects.specs.declared.way.Way.TheVariants as ways
 use Rattle.dj_image.specs.Imaged.{Imaged}
-use Rattle.dj_initialising.specs.Store.{Store, store}
-use Rattle.dj_acting.specs.declared.acted.Acted.TheVariants as acts
-use Rattle.dj_acting.specs.declared.uses.FieldUse.TheVariants as fields
-use Rattle.dj_acting.specs.declared.uses.ClassUse.TheVariants as classes
-use Rattle.dj_acting.specs.Acting.{Acts, HasRoom, IsActed, IsTopThere, Machine, machine}
-use Rattle.dj_acting.specs.Elements.{HoldsElements}
-use Rattle.dj_acting.specs.Growing.{growth, move_growth}
-use Rattle.dj_acting.specs.Kinds.{kind_by}
-use Rattle.dj_acting.specs.Uses.{class_use_of, field_use_of}
+use Rattle.dj_initialisation.specs.Store.{Store, store}
+use Rattle.dj_image_effects.specs.declared.acted.Acted.TheVariants as acts
+use Rattle.dj_image_effects.specs.declared.uses.FieldUse.TheVariants as fields
+use Rattle.dj_image_effects.specs.declared.uses.ClassUse.TheVariants as classes
+use Rattle.dj_image_effects.specs.Acting.{Acts, HasRoom, IsActed, IsTopThere, Machine, machine}
+use Rattle.dj_image_effects.specs.Elements.{HoldsElements}
+use Rattle.dj_image_effects.specs.Growing.{growth, move_growth}
+use Rattle.dj_image_effects.specs.Kinds.{kind_by}
+use Rattle.dj_image_effects.specs.Uses.{class_use_of, field_use_of}
 
 abbrev image : Imaged
 image = record { sources = []; prefix = []; arrays = []; texts = [] }

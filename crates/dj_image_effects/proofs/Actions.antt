@@ -11,11 +11,11 @@ use Rattle.dj_effects.specs.declared.actions.PlainAction.{PlainAction}
 use Rattle.dj_effects.specs.declared.actions.PlainAction.TheVariants as actions
 use Rattle.dj_effects.specs.declared.way.Way.{Way}
 use Rattle.dj_image.specs.Imaged.{Imaged}
-use Rattle.dj_initialising.specs.Store.{store}
-use Rattle.dj_acting.specs.Acting.{ActsOnHeap, HasRoom}
-use Rattle.dj_acting.specs.Flows.{way_acted}
-use Rattle.dj_acting.proofs.Reported.{values_acted}
-use Rattle.dj_acting.proofs.Effects.{action_on_values, is_on_values}
+use Rattle.dj_initialisation.specs.Store.{store}
+use Rattle.dj_image_effects.specs.Acting.{ActsOnHeap, HasRoom}
+use Rattle.dj_image_effects.specs.Flows.{way_acted}
+use Rattle.dj_image_effects.proofs.Reported.{values_acted}
+use Rattle.dj_image_effects.proofs.Effects.{action_on_values, is_on_values}
 
 -- what an action leaves has room
 pub plain_room : (action : PlainAction) (frames : List StackFrame) → HasRoom (action_view action) frames → length (top_operands frames) ≤ top_room frames

@@ -9,16 +9,16 @@ use Rattle.dj_effects.specs.DoesOnHeap.{DoesOnHeap}
 use Rattle.dj_effects.specs.declared.way.Way.TheVariants as ways
 use Rattle.dj_effects.specs.declared.way.Flow.{Flow}
 use Rattle.dj_effects.specs.declared.way.Flow.TheVariants as flows
-use Rattle.dj_calls.specs.Known.{AreKnown}
+use Rattle.dj_natives.specs.Known.{AreKnown}
 use Rattle.dj_image.specs.Imaged.{Imaged}
-use Rattle.dj_acting.specs.declared.acted.Acted.{Acted}
-use Rattle.dj_acting.specs.declared.acted.Acted.TheVariants as acts
-use Rattle.dj_acting.specs.declared.begun.Begun.{Begun}
-use Rattle.dj_acting.specs.declared.begun.Begun.TheVariants as begins
-use Rattle.dj_acting.specs.Acting.{ActsOnHeap}
-use Rattle.dj_acting.specs.Begun.{BeginsBy, Follows, HasStore, IsGone, IsKnownAfter, IsKnownThen, IsPlaceAfter}
-use Rattle.dj_acting.specs.Flows.{flow_acted}
-use Rattle.dj_acting.proofs.KnownHeaps.{store_known}
+use Rattle.dj_image_effects.specs.declared.acted.Acted.{Acted}
+use Rattle.dj_image_effects.specs.declared.acted.Acted.TheVariants as acts
+use Rattle.dj_image_effects.specs.declared.begun.Begun.{Begun}
+use Rattle.dj_image_effects.specs.declared.begun.Begun.TheVariants as begins
+use Rattle.dj_image_effects.specs.Acting.{ActsOnHeap}
+use Rattle.dj_image_effects.specs.Begun.{BeginsBy, Follows, HasStore, IsGone, IsKnownAfter, IsKnownThen, IsPlaceAfter}
+use Rattle.dj_image_effects.specs.Flows.{flow_acted}
+use Rattle.dj_image_effects.proofs.KnownHeaps.{store_known}
 
 pub is_gone : (acted : Acted) (old new : List StackFrame) (number place : ℕ) → number ≡ top_number old → IsPlaceAfter number acted (Some place) → top_number new ≡ place → SameButNumber old new → IsGone acted old new
 is_gone (acts.Goes ways.Next) old new number place at next is same = (is ∙ (next ∙ ap (λ (n : ℕ). n + 1) at), same)

@@ -29,20 +29,20 @@ use Rattle.dj_stack.specs.Frames.{top_operands}
 use Rattle.dj_effects.specs.Actions.{action_view, is_other}
 use Rattle.dj_effects.specs.declared.actions.PlainAction.{PlainAction}
 use Rattle.dj_effects.specs.declared.actions.PlainAction.TheVariants as actions
-use Rattle.dj_members.specs.Fields.{get_field_by, put_field_by}
-use Rattle.dj_members.specs.Objects.{HasObject, check_cast_by, instance_of_by, new_by, throw_by}
-use Rattle.dj_members.specs.Statics.{get_static_by, put_static_by}
-use Rattle.dj_members.specs.Literals.{literals_effect, push_text_by, text_at}
-use Rattle.dj_members.specs.Numbering.{has_of, among_above, below_of}
-use Rattle.dj_members.proofs.FieldLaws.{get_field_is, put_field_is}
-use Rattle.dj_members.proofs.ObjectLaws.{new_is, check_cast_is, instance_of_is, throw_top_is, get_static_is, put_static_is}
-use Rattle.dj_members.proofs.LiteralLaws.{push_text_is}
-use Rattle.dj_types.specs.Typed.{types_of}
+use Rattle.dj_member_effects.specs.Fields.{get_field_by, put_field_by}
+use Rattle.dj_member_effects.specs.Objects.{HasObject, check_cast_by, instance_of_by, new_by, throw_by}
+use Rattle.dj_member_effects.specs.Statics.{get_static_by, put_static_by}
+use Rattle.dj_member_effects.specs.Literals.{literals_effect, push_text_by, text_at}
+use Rattle.dj_member_effects.specs.Numbering.{has_of, among_above, below_of}
+use Rattle.dj_member_effects.proofs.FieldLaws.{get_field_is, put_field_is}
+use Rattle.dj_member_effects.proofs.ObjectLaws.{new_is, check_cast_is, instance_of_is, throw_top_is, get_static_is, put_static_is}
+use Rattle.dj_member_effects.proofs.LiteralLaws.{push_text_is}
+use Rattle.dj_numbering.specs.Typed.{types_of}
 use Rattle.dj_image.specs.Imaged.{Imaged, program_of, typed_of}
-use Rattle.dj_initialising.specs.Store.{AreTexts, IsStore}
-use Rattle.dj_acting.specs.Taking.{IsTaken}
-use Rattle.dj_acting.specs.Acting.{Machine, part_of, IsHeap, IsTopThere}
-use Rattle.dj_acting.proofs.Reported.{IsOnValues, IsOnHeap, IsOnStatics, IsOnLiterals, IsThrown, types}
+use Rattle.dj_initialisation.specs.Store.{AreTexts, IsStore}
+use Rattle.dj_image_effects.specs.Taking.{IsTaken}
+use Rattle.dj_image_effects.specs.Acting.{Machine, part_of, IsHeap, IsTopThere}
+use Rattle.dj_image_effects.proofs.Reported.{IsOnValues, IsOnHeap, IsOnStatics, IsOnLiterals, IsThrown, types}
 
 -- ---- on values
 

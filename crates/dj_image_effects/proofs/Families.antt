@@ -5,7 +5,7 @@ use Rattle.std.specs.Option.{option_map}
 use Rattle.dj_names.specs.declared.run.Value.{Value}
 use Rattle.dj_names.specs.trusted.Heaps.{Heap}
 use Rattle.dj_names.specs.trusted.Types.{Name, class_type}
-use Rattle.dj_natives.specs.Numbered.{type_at}
+use Rattle.dj_library_types.specs.Numbered.{type_at}
 use Rattle.dj_model.specs.trusted.Types.{throwable_name}
 use Rattle.dj_model.specs.trusted.Instructions as model
 use Rattle.dj_model.specs.trusted.Instructions.{Instruction}
@@ -15,23 +15,23 @@ use Rattle.dj_heap.specs.Heaps.{LimitedHeap}
 use Rattle.dj_stack.specs.Frames.{StackFrame, SameButOperands, top_operands}
 use Rattle.dj_effects.specs.DoesOnHeap.{DoesOnHeap}
 use Rattle.dj_effects.specs.declared.way.Flow.{Flow}
-use Rattle.dj_members.specs.Literals.{LiteralTable}
-use Rattle.dj_members.specs.Numbering.{below_of}
-use Rattle.dj_members.specs.Objects.{new_by, throw_by}
-use Rattle.dj_members.specs.declared.objects.Thrown.{Thrown}
-use Rattle.dj_calls.specs.Known.{AreKnown}
-use Rattle.dj_classes.specs.Tables.{name_at}
-use Rattle.dj_types.specs.Typed.{types_of}
-use Rattle.dj_types.specs.Members.{field_count_at}
+use Rattle.dj_member_effects.specs.Literals.{LiteralTable}
+use Rattle.dj_member_effects.specs.Numbering.{below_of}
+use Rattle.dj_member_effects.specs.Objects.{new_by, throw_by}
+use Rattle.dj_member_effects.specs.declared.objects.Thrown.{Thrown}
+use Rattle.dj_natives.specs.Known.{AreKnown}
+use Rattle.dj_class_table.specs.Tables.{name_at}
+use Rattle.dj_numbering.specs.Typed.{types_of}
+use Rattle.dj_numbering.specs.Members.{field_count_at}
 use Rattle.dj_image.specs.Imaged.{Imaged, program_of, typed_of}
-use Rattle.dj_initialising.specs.Store.{store}
-use Rattle.dj_acting.specs.declared.acted.Acted.{Acted}
-use Rattle.dj_acting.specs.Acting.{Acts, ActsOnHeap, IsTopThere, machine}
-use Rattle.dj_acting.specs.Flows.{flow_acted, thrown_acted}
-use Rattle.dj_acting.proofs.Reported.{IsOnHeap, heap_acted, throw_acted}
-use Rattle.dj_acting.proofs.Effects.{new_object_is, throw_is}
-use Rattle.dj_acting.proofs.KnownHeaps.{new_known}
-use Rattle.dj_acting.proofs.Standing.{class_there, type_is}
+use Rattle.dj_initialisation.specs.Store.{store}
+use Rattle.dj_image_effects.specs.declared.acted.Acted.{Acted}
+use Rattle.dj_image_effects.specs.Acting.{Acts, ActsOnHeap, IsTopThere, machine}
+use Rattle.dj_image_effects.specs.Flows.{flow_acted, thrown_acted}
+use Rattle.dj_image_effects.proofs.Reported.{IsOnHeap, heap_acted, throw_acted}
+use Rattle.dj_image_effects.proofs.Effects.{new_object_is, throw_is}
+use Rattle.dj_image_effects.proofs.KnownHeaps.{new_known}
+use Rattle.dj_image_effects.proofs.Standing.{class_there, type_is}
 
 pub acted_on_heap : (imaged : Imaged) (i : Instruction) (old new : List StackFrame) (before after : LimitedHeap) (flow : Option Flow) (acted : Acted)
     (effect_of : Heap ℕ → List Value → Option (OnHeap ℕ)) → acted ≡ flow_acted flow

@@ -16,20 +16,20 @@ use Rattle.dj_heap.specs.Heaps.{LimitedHeap}
 use Rattle.dj_stack.specs.Frames.{StackFrame}
 use Rattle.dj_effects.specs.DoesOnHeap.{DoesOnHeap}
 use Rattle.dj_effects.specs.declared.way.Flow.{Flow}
-use Rattle.dj_members.specs.Fields.{get_field_by, put_field_by}
-use Rattle.dj_members.specs.declared.fields.FieldAccess.{FieldAccess}
-use Rattle.dj_classes.specs.Tables.{name_at}
-use Rattle.dj_types.specs.Members.{all_fields, IsFieldThere}
-use Rattle.dj_types.specs.declared.types.MemberOf.{MemberOf}
+use Rattle.dj_member_effects.specs.Fields.{get_field_by, put_field_by}
+use Rattle.dj_member_effects.specs.declared.fields.FieldAccess.{FieldAccess}
+use Rattle.dj_class_table.specs.Tables.{name_at}
+use Rattle.dj_numbering.specs.Members.{all_fields, IsFieldThere}
+use Rattle.dj_numbering.specs.declared.types.MemberOf.{MemberOf}
 use Rattle.dj_image.specs.Imaged.{Imaged, program_of, typed_of}
-use Rattle.dj_standing.specs.Holders.{has_named, holds}
-use Rattle.dj_initialising.specs.Store.{store}
-use Rattle.dj_acting.specs.declared.acted.Acted.TheVariants as acts
-use Rattle.dj_acting.specs.Accesses.{IsAccess, IsAccessTo}
-use Rattle.dj_acting.specs.Acting.{ActsOnHeap, IsHeap, IsMember, machine}
-use Rattle.dj_acting.specs.Flows.{flow_acted}
-use Rattle.dj_acting.proofs.Reported.{heap_acted, stuck_acted}
-use Rattle.dj_acting.proofs.Effects.{get_is, put_is}
+use Rattle.dj_field_holders.specs.Holders.{has_named, holds}
+use Rattle.dj_initialisation.specs.Store.{store}
+use Rattle.dj_image_effects.specs.declared.acted.Acted.TheVariants as acts
+use Rattle.dj_image_effects.specs.Accesses.{IsAccess, IsAccessTo}
+use Rattle.dj_image_effects.specs.Acting.{ActsOnHeap, IsHeap, IsMember, machine}
+use Rattle.dj_image_effects.specs.Flows.{flow_acted}
+use Rattle.dj_image_effects.proofs.Reported.{heap_acted, stuck_acted}
+use Rattle.dj_image_effects.proofs.Effects.{get_is, put_is}
 
 abbrev place_by : Program → Name → Name → Desc → ℕ
 place_by program class name desc = fields_in program (superclasses (chain program class)) + own_place (class_at program class) name desc

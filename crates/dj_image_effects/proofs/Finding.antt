@@ -17,15 +17,15 @@ use Rattle.dj_model.specs.trusted.Instructions.{Instruction, Named, Nothing, AnI
 use Rattle.dj_model.specs.trusted.Opcodes.{instruction_of, member}
 use Rattle.dj_model.specs.trusted.Program.{Program, Class, Field, class_at, field_in, field_of, is_named}
 use Rattle.dj_model.specs.trusted.Linking.{FoundField, first_field, field_or, field_order, most_classes, member_class, resolve_field}
-use Rattle.dj_declared.proofs.DescTests.{same_name_is, same_desc_is}
-use Rattle.dj_types.specs.Typed.{type_number}
-use Rattle.dj_types.specs.Members.{all_fields, field_number, found_field_number}
+use Rattle.dj_declarations.proofs.DescTests.{same_name_is, same_desc_is}
+use Rattle.dj_numbering.specs.Typed.{type_number}
+use Rattle.dj_numbering.specs.Members.{all_fields, field_number, found_field_number}
 use Rattle.dj_image.specs.declared.operand.Operand.{Operand}
 use Rattle.dj_image.specs.declared.operand.Operand.TheVariants as operands
 use Rattle.dj_image.specs.Imaged.{Imaged, program_of, typed_of}
 use Rattle.dj_image.specs.Operands.{class_operand, text_operand, method_operand, field_operand, units_number, resolved_method_number, resolved_field_number, named_operand, takes_named, made_operand, operand_by, operand_of}
-use Rattle.dj_acting.specs.Acting.{IsMember}
-use Rattle.dj_acting.specs.Operands.{UsesClass, Makes, Names, makes_array}
+use Rattle.dj_image_effects.specs.Acting.{IsMember}
+use Rattle.dj_image_effects.specs.Operands.{UsesClass, Makes, Names, makes_array}
 
 -- ---- what the operand leaves of what is named
 

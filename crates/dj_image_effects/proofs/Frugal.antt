@@ -32,11 +32,11 @@ use Rattle.dj_effects.specs.declared.actions.PlainAction.{PlainAction}
 use Rattle.dj_effects.specs.declared.actions.PlainAction.TheVariants as actions
 use Rattle.dj_effects.specs.declared.actions.Slots.TheVariants as slots
 use Rattle.dj_image.specs.Imaged.{Imaged, program_of}
-use Rattle.dj_acting.specs.declared.acted.Acted.TheVariants as acts
-use Rattle.dj_acting.specs.Acting.{Acts, Machine, part_of}
-use Rattle.dj_acting.specs.Frugal.{HasRoomAfter, IsFrugal, makes}
-use Rattle.dj_acting.specs.Growing.{growth, move_growth}
-use Rattle.dj_acting.proofs.Effects.{action_on_values, is_on_values, push_on_values}
+use Rattle.dj_image_effects.specs.declared.acted.Acted.TheVariants as acts
+use Rattle.dj_image_effects.specs.Acting.{Acts, Machine, part_of}
+use Rattle.dj_image_effects.specs.Frugal.{HasRoomAfter, IsFrugal, makes}
+use Rattle.dj_image_effects.specs.Growing.{growth, move_growth}
+use Rattle.dj_image_effects.proofs.Effects.{action_on_values, is_on_values, push_on_values}
 
 -- ---- from what keeps the kinds of sound code
 

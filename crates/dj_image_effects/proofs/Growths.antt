@@ -21,8 +21,8 @@ use Rattle.dj_effects.specs.declared.actions.PlainAction.TheVariants as actions
 use Rattle.dj_effects.specs.Actions.{action_view, binary_view, move_view, test_view, unary_view}
 use Rattle.dj_effects.specs.Does.{FitsIn}
 use Rattle.dj_model.specs.trusted.Opcodes.{table_pairs, lookup_pairs}
-use Rattle.dj_acting.specs.Acting.{HasRoom}
-use Rattle.dj_acting.specs.Growing.{growth, move_growth}
+use Rattle.dj_image_effects.specs.Acting.{HasRoom}
+use Rattle.dj_image_effects.specs.Growing.{growth, move_growth}
 
 -- ---- operands that move
 

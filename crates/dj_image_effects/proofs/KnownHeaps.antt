@@ -12,7 +12,7 @@ use Rattle.dj_names.specs.declared.run.Outcome.TheVariants as outcomes
 use Rattle.dj_names.specs.declared.run.Value.{Value}
 use Rattle.dj_names.specs.declared.run.Value.TheVariants as values
 use Rattle.dj_names.specs.trusted.Heaps.{Object, Instance, Array, Text, Heap, array_size, class_of, field_bits, kept, next_number, object_at, object_size, text_size, value_number, with_element, with_new, with_object}
-use Rattle.dj_natives.specs.Numbered.{type_at, holds_references}
+use Rattle.dj_library_types.specs.Numbered.{type_at, holds_references}
 use Rattle.dj_model.specs.trusted.Instructions.{Access}
 use Rattle.dj_model.specs.trusted.Numbers.{is_of_kind}
 use Rattle.dj_model.specs.trusted.State.{Next}
@@ -22,13 +22,13 @@ use Rattle.dj_heap.specs.Heaps.{LimitedHeap}
 use Rattle.dj_stack.specs.Frames.{StackFrame, top_operands}
 use Rattle.dj_effects.specs.DoesOnHeap.{DoesOnHeap}
 use Rattle.dj_effects.specs.declared.way.Flow.{Flow}
-use Rattle.dj_members.specs.Fields as fields_of
-use Rattle.dj_members.specs.Fields.{Holder, Holds, NoHolder, holder_by, holder_in, put_field_by}
-use Rattle.dj_members.specs.Literals.{DoesOnLiterals, LiteralTable, OnLiterals, literal_flows, object_of, push_text_by, pushed}
-use Rattle.dj_members.specs.Numbering.{AreNumbered}
-use Rattle.dj_members.specs.Objects.{new_by}
-use Rattle.dj_calls.specs.Known.{AreKnown, IsClassType, IsKnown}
-use Rattle.dj_acting.specs.Elements.{HoldsElements}
+use Rattle.dj_member_effects.specs.Fields as fields_of
+use Rattle.dj_member_effects.specs.Fields.{Holder, Holds, NoHolder, holder_by, holder_in, put_field_by}
+use Rattle.dj_member_effects.specs.Literals.{DoesOnLiterals, LiteralTable, OnLiterals, literal_flows, object_of, push_text_by, pushed}
+use Rattle.dj_member_effects.specs.Numbering.{AreNumbered}
+use Rattle.dj_member_effects.specs.Objects.{new_by}
+use Rattle.dj_natives.specs.Known.{AreKnown, IsClassType, IsKnown}
+use Rattle.dj_image_effects.specs.Elements.{HoldsElements}
 
 -- ---- an object by its number
 

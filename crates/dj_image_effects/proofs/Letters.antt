@@ -8,7 +8,7 @@ use Rattle.dj_names.specs.declared.descriptor.Desc.TheVariants as descs
 use Rattle.dj_names.specs.declared.descriptor.Kind.TheVariants as kinds
 use Rattle.dj_names.specs.trusted.Descriptors.{Describes, desc_text, type_kind, type_text}
 use Rattle.dj_names.specs.trusted.Types.{field_kind}
-use Rattle.dj_acting.specs.Kinds.{kind_by}
+use Rattle.dj_image_effects.specs.Kinds.{kind_by}
 
 type_reported : (dims : ℕ) (of : Of) → kind_by (type_text (record { dims = dims; of = of })) ≡ type_kind (record { dims = dims; of = of })
 type_reported zero (ofs.Base bases.Boolean) = refl

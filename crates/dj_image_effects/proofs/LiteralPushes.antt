@@ -7,7 +7,7 @@ use Rattle.dj_stack.specs.Frames.{StackFrame, top_operands, top_room}
 use Rattle.dj_effects.specs.Does.{Does, Fits}
 use Rattle.dj_effects.specs.declared.way.Way.{Way}
 use Rattle.dj_image.specs.declared.operand.Operand.{Operand}
-use Rattle.dj_acting.specs.Numbers.{literal_push, literal_value, push_of}
+use Rattle.dj_image_effects.specs.Numbers.{literal_push, literal_value, push_of}
 
 push_room : (o : Option Value) (frames : List StackFrame) → length (top_operands frames) + 1 ≤ top_room frames → Fits (push_of o) frames
 unfolding on_values

@@ -7,7 +7,7 @@ use Rattle.dj_names.specs.declared.run.Value.{Value}
 use Rattle.dj_names.specs.declared.run.Value.TheVariants as values
 use Rattle.dj_ops.specs.declared.instruction.Instr.{Instr}
 use Rattle.dj_names.specs.trusted.Types.{class_type}
-use Rattle.dj_natives.specs.Numbered.{ArePlain}
+use Rattle.dj_library_types.specs.Numbered.{ArePlain}
 use Rattle.dj_pool.specs.trusted.Pool.{Constant}
 use Rattle.dj_model.specs.trusted.Types.{throwable_name}
 use Rattle.dj_model.specs.trusted.Instructions as model
@@ -19,33 +19,33 @@ use Rattle.dj_stack.specs.Frames.{StackFrame}
 use Rattle.dj_heap.specs.Heaps.{LimitedHeap}
 use Rattle.dj_effects.specs.Does.{Does}
 use Rattle.dj_effects.specs.declared.way.Way.{Way}
-use Rattle.dj_members.specs.Literals.{LiteralTable}
-use Rattle.dj_calls.specs.Known.{AreKnown}
-use Rattle.dj_check.specs.trusted.Instructions.{index_of}
+use Rattle.dj_member_effects.specs.Literals.{LiteralTable}
+use Rattle.dj_natives.specs.Known.{AreKnown}
+use Rattle.dj_early_rules.specs.trusted.Instructions.{index_of}
 use Rattle.dj_program.specs.trusted.Naming.{named_if}
-use Rattle.dj_types.specs.Typed.{types_of}
-use Rattle.dj_types.specs.Members.{all_fields}
+use Rattle.dj_numbering.specs.Typed.{types_of}
+use Rattle.dj_numbering.specs.Members.{all_fields}
 use Rattle.dj_image.specs.Imaged.{Imaged, program_of, typed_of}
 use Rattle.dj_image.specs.Numbering.{AreSettled}
 use Rattle.dj_image.specs.Codes.{HasInstr, IsOperandAt}
 use Rattle.dj_image.specs.declared.operand.Operand.{Operand}
 use Rattle.dj_image.specs.declared.operand.Operand.TheVariants as operands
 use Rattle.dj_image.specs.Operands.{made_operand, operand_by, operand_of}
-use Rattle.dj_initialising.specs.Places.{Places}
-use Rattle.dj_initialising.specs.Store.{IsStore, store}
-use Rattle.dj_initialising.proofs.StoreLaws.{units_at}
-use Rattle.dj_acting.specs.declared.acted.Acted.{Acted}
-use Rattle.dj_acting.specs.Acting.{Acts, IsActed, IsDone, IsHeap, IsReady, Machine, machine}
-use Rattle.dj_acting.specs.Flows.{way_acted}
-use Rattle.dj_acting.specs.Numbers.{literal_push, literal_value, push_of}
-use Rattle.dj_acting.specs.Operands.{IsInstrAt}
-use Rattle.dj_acting.specs.Used.{IsBeside, IsClassUsed, IsFieldUsed, IsMade, IsOperandUsed}
-use Rattle.dj_acting.proofs.Reported.{acted_so, values_acted}
-use Rattle.dj_acting.proofs.Effects.{push_on_values}
-use Rattle.dj_acting.proofs.KnownHeaps.{array_holds, classes_numbered, instance_named}
-use Rattle.dj_acting.proofs.Finding.{Pushes, calls_method, is_call_or_other, no_class, names_nothing, pushes_int, pushes_long, pushes_text, uses_class, uses_field}
-use Rattle.dj_acting.proofs.Standing.{has_instr, linked_at, operand_is, type_is}
-use Rattle.dj_acting.proofs.Using.{no_index}
+use Rattle.dj_initialisation.specs.Places.{Places}
+use Rattle.dj_initialisation.specs.Store.{IsStore, store}
+use Rattle.dj_initialisation.proofs.StoreLaws.{units_at}
+use Rattle.dj_image_effects.specs.declared.acted.Acted.{Acted}
+use Rattle.dj_image_effects.specs.Acting.{Acts, IsActed, IsDone, IsHeap, IsReady, Machine, machine}
+use Rattle.dj_image_effects.specs.Flows.{way_acted}
+use Rattle.dj_image_effects.specs.Numbers.{literal_push, literal_value, push_of}
+use Rattle.dj_image_effects.specs.Operands.{IsInstrAt}
+use Rattle.dj_image_effects.specs.Used.{IsBeside, IsClassUsed, IsFieldUsed, IsMade, IsOperandUsed}
+use Rattle.dj_image_effects.proofs.Reported.{acted_so, values_acted}
+use Rattle.dj_image_effects.proofs.Effects.{push_on_values}
+use Rattle.dj_image_effects.proofs.KnownHeaps.{array_holds, classes_numbered, instance_named}
+use Rattle.dj_image_effects.proofs.Finding.{Pushes, calls_method, is_call_or_other, no_class, names_nothing, pushes_int, pushes_long, pushes_text, uses_class, uses_field}
+use Rattle.dj_image_effects.proofs.Standing.{has_instr, linked_at, operand_is, type_is}
+use Rattle.dj_image_effects.proofs.Using.{no_index}
 
 -- ---- operands
 

@@ -7,7 +7,7 @@ use Rattle.dj_names.specs.declared.run.Value.TheVariants as values
 use Rattle.dj_names.specs.declared.run.Outcome.TheVariants as outcomes
 use Rattle.dj_names.specs.trusted.Heaps.{Heap, Text, next_number, text_size, with_new}
 use Rattle.dj_names.specs.trusted.Types.{class_type}
-use Rattle.dj_natives.specs.Numbered.{type_at}
+use Rattle.dj_library_types.specs.Numbered.{type_at}
 use Rattle.dj_model.specs.trusted.Types.{string_name}
 use Rattle.dj_model.specs.trusted.Instructions as model
 use Rattle.dj_model.specs.trusted.State.{Next}
@@ -15,19 +15,19 @@ use Rattle.dj_model.specs.trusted.Arrays.{passes_limit}
 use Rattle.dj_heap.specs.Heaps.{LimitedHeap}
 use Rattle.dj_stack.specs.Frames.{StackFrame, top_operands}
 use Rattle.dj_effects.specs.declared.way.Flow.{Flow}
-use Rattle.dj_members.specs.Literals as literals
-use Rattle.dj_members.specs.Literals.{DoesOnLiterals, LiteralTable, OnLiterals, object_of, push_text_by, pushed, text_at}
-use Rattle.dj_members.proofs.LiteralLaws.{texts_more}
-use Rattle.dj_classes.proofs.Numbered.{name_at-number}
-use Rattle.dj_types.specs.Typed.{types_of, string_at}
+use Rattle.dj_member_effects.specs.Literals as literals
+use Rattle.dj_member_effects.specs.Literals.{DoesOnLiterals, LiteralTable, OnLiterals, object_of, push_text_by, pushed, text_at}
+use Rattle.dj_member_effects.proofs.LiteralLaws.{texts_more}
+use Rattle.dj_class_table.proofs.Numbered.{name_at-number}
+use Rattle.dj_numbering.specs.Typed.{types_of, string_at}
 use Rattle.dj_image.specs.Imaged.{Imaged, program_of, typed_of}
-use Rattle.dj_initialising.specs.Store.{AreTexts, store}
-use Rattle.dj_acting.specs.declared.acted.Acted.{Acted}
-use Rattle.dj_acting.specs.Acting.{Acts, ActsOnLiterals, machine}
-use Rattle.dj_acting.specs.Flows.{flow_acted}
-use Rattle.dj_acting.proofs.Reported.{literals_acted}
-use Rattle.dj_acting.proofs.Effects.{push_is}
-use Rattle.dj_acting.proofs.Standing.{class_there, type_is}
+use Rattle.dj_initialisation.specs.Store.{AreTexts, store}
+use Rattle.dj_image_effects.specs.declared.acted.Acted.{Acted}
+use Rattle.dj_image_effects.specs.Acting.{Acts, ActsOnLiterals, machine}
+use Rattle.dj_image_effects.specs.Flows.{flow_acted}
+use Rattle.dj_image_effects.proofs.Reported.{literals_acted}
+use Rattle.dj_image_effects.proofs.Effects.{push_is}
+use Rattle.dj_image_effects.proofs.Standing.{class_there, type_is}
 
 -- the literals are of the image's texts still
 texts_pushed : (limit : Option ℕ) (class text count : ℕ) (units : List ℕ) (heap : Heap ℕ) (made : List (ℕ × ℕ)) (operands : List Value) (o : Option ℕ)

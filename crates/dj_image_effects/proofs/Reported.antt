@@ -6,7 +6,7 @@ use Rattle.dj_names.specs.declared.descriptor.Ty.{Ty}
 use Rattle.dj_names.specs.trusted.Heaps.{Heap}
 use Rattle.dj_names.specs.trusted.Types.{Name}
 use Rattle.dj_edge.specs.declared.host.HostAnswer.{HostAnswer}
-use Rattle.dj_natives.specs.Numbered.{type_at}
+use Rattle.dj_library_types.specs.Numbered.{type_at}
 use Rattle.dj_model.specs.trusted.Instructions.{Instruction}
 use Rattle.dj_model.specs.trusted.State as model
 use Rattle.dj_model.specs.trusted.State.{Terms, Part, Account, Effect, goes}
@@ -22,18 +22,18 @@ use Rattle.dj_effects.specs.DoesOnHeap.{DoesOnHeap, flow_view, reported_beside, 
 use Rattle.dj_effects.specs.declared.way.Way.{Way}
 use Rattle.dj_effects.specs.declared.way.Flow.{Flow}
 use Rattle.dj_effects.specs.declared.way.Flow.TheVariants as flows
-use Rattle.dj_members.specs.Statics.{OnStatics, DoesOnStatics, IsNext, statics_effect, reported_on_statics}
-use Rattle.dj_members.specs.Literals.{OnLiterals, LiteralTable, DoesOnLiterals, literal_flows, literals_effect}
-use Rattle.dj_members.specs.Objects.{thrown_view}
-use Rattle.dj_members.specs.declared.objects.Thrown.{Thrown}
-use Rattle.dj_members.specs.declared.objects.Thrown.TheVariants as thrown
-use Rattle.dj_types.specs.Typed.{types_of}
+use Rattle.dj_member_effects.specs.Statics.{OnStatics, DoesOnStatics, IsNext, statics_effect, reported_on_statics}
+use Rattle.dj_member_effects.specs.Literals.{OnLiterals, LiteralTable, DoesOnLiterals, literal_flows, literals_effect}
+use Rattle.dj_member_effects.specs.Objects.{thrown_view}
+use Rattle.dj_member_effects.specs.declared.objects.Thrown.{Thrown}
+use Rattle.dj_member_effects.specs.declared.objects.Thrown.TheVariants as thrown
+use Rattle.dj_numbering.specs.Typed.{types_of}
 use Rattle.dj_image.specs.Imaged.{Imaged, program_of, typed_of}
-use Rattle.dj_initialising.specs.Store.{Store, IsStore, store}
-use Rattle.dj_acting.specs.declared.acted.Acted.{Acted}
-use Rattle.dj_acting.specs.declared.acted.Acted.TheVariants as acts
-use Rattle.dj_acting.specs.Flows.{flow_acted, thrown_acted, way_acted}
-use Rattle.dj_acting.specs.Acting.{Machine, machine, part_of, part_with, effect_reported, Acts, IsActed, IsKept}
+use Rattle.dj_initialisation.specs.Store.{Store, IsStore, store}
+use Rattle.dj_image_effects.specs.declared.acted.Acted.{Acted}
+use Rattle.dj_image_effects.specs.declared.acted.Acted.TheVariants as acts
+use Rattle.dj_image_effects.specs.Flows.{flow_acted, thrown_acted, way_acted}
+use Rattle.dj_image_effects.specs.Acting.{Machine, machine, part_of, part_with, effect_reported, Acts, IsActed, IsKept}
 
 pub way_kept : (imaged : Imaged) (st : Store) (way : Option Way) → IsStore imaged st → IsKept imaged st (way_acted way)
 way_kept imaged st None are = tt

@@ -31,27 +31,27 @@ use Rattle.dj_model.specs.Sound.{is_class_of, is_field_found, is_linked}
 use Rattle.dj_model.specs.trusted.State.{instruction_in}
 use Rattle.dj_model.proofs.MappedNames.{either}
 use Rattle.dj_model.proofs.SoundFrames.{contained, method_is}
-use Rattle.dj_declared.specs.trusted.Files.{desc_in, field_type, name_in, type_in}
-use Rattle.dj_declared.proofs.DescTests.{same_desc_is, same_desc_itself, same_name_is, same_name_itself}
-use Rattle.dj_check.specs.trusted.Instructions.{index_of}
-use Rattle.dj_classes.specs.Tables.{class_number, name_of}
-use Rattle.dj_classes.proofs.Numbered.{class_at-number}
+use Rattle.dj_declarations.specs.trusted.Files.{desc_in, field_type, name_in, type_in}
+use Rattle.dj_declarations.proofs.DescTests.{same_desc_is, same_desc_itself, same_name_is, same_name_itself}
+use Rattle.dj_early_rules.specs.trusted.Instructions.{index_of}
+use Rattle.dj_class_table.specs.Tables.{class_number, name_of}
+use Rattle.dj_class_table.proofs.Numbered.{class_at-number}
 use Rattle.dj_program.specs.trusted.Naming.{member_in, named_by, named_if, named_or_another}
-use Rattle.dj_types.specs.Typed.{Typed, is_known_of, place_of_text, type_number}
-use Rattle.dj_types.specs.Members.{all_fields, field_number, fields_in, found_field_number}
-use Rattle.dj_types.proofs.Numbers.{number_of_class}
+use Rattle.dj_numbering.specs.Typed.{Typed, is_known_of, place_of_text, type_number}
+use Rattle.dj_numbering.specs.Members.{all_fields, field_number, fields_in, found_field_number}
+use Rattle.dj_numbering.proofs.Numbers.{number_of_class}
 use Rattle.dj_image.specs.declared.operand.Operand.{Operand}
 use Rattle.dj_image.specs.declared.operand.Operand.TheVariants as operands
 use Rattle.dj_image.specs.Imaged.{Imaged, IsNumbered, IsPartOf, IsUsed, UsesType, program_of, typed_of}
 use Rattle.dj_image.specs.Operands.{class_operand, field_operand, named_operand, operand_of, resolved_field_number}
 use Rattle.dj_image.proofs.NamedOperands.{IsKnown, is_plain, operand_is_named}
-use Rattle.dj_activations.specs.Activations.{declared_at}
-use Rattle.dj_acting.specs.Acting.{instruction_of_number}
-use Rattle.dj_acting.specs.Frugal.{LoadsByKnown, makes}
-use Rattle.dj_acting.specs.Operands.{IsInstrAt}
-use Rattle.dj_acting.specs.Used.{IsOperandUsed}
-use Rattle.dj_acting.proofs.Finding.{is_call_or_other, interface_method_call, method_call}
-use Rattle.dj_acting.proofs.Standing.{array_text, body_of_code}
+use Rattle.dj_current_method.specs.Activations.{declared_at}
+use Rattle.dj_image_effects.specs.Acting.{instruction_of_number}
+use Rattle.dj_image_effects.specs.Frugal.{LoadsByKnown, makes}
+use Rattle.dj_image_effects.specs.Operands.{IsInstrAt}
+use Rattle.dj_image_effects.specs.Used.{IsOperandUsed}
+use Rattle.dj_image_effects.proofs.Finding.{is_call_or_other, interface_method_call, method_call}
+use Rattle.dj_image_effects.proofs.Standing.{array_text, body_of_code}
 
 -- a test fails, and so does each later one
 step : (b : Bool) (o : Option ℕ) → (if b then Some 0 else option_map suc o) ≡ None → (b ≡ false) × (o ≡ None)

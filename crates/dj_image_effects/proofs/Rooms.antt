@@ -16,8 +16,8 @@ use Rattle.dj_effects.specs.Does.{Does}
 use Rattle.dj_effects.specs.DoesOnHeap.{FitsOnHeap, FitsOnHeapIn}
 use Rattle.dj_effects.specs.declared.actions.PlainAction.{PlainAction}
 use Rattle.dj_effects.specs.declared.actions.PlainAction.TheVariants as actions
-use Rattle.dj_members.specs.Objects.{new_by}
-use Rattle.dj_acting.proofs.Effects.{is_on_values}
+use Rattle.dj_member_effects.specs.Objects.{new_by}
+use Rattle.dj_image_effects.proofs.Effects.{is_on_values}
 
 pub none_done : (action : PlainAction) (frames : List StackFrame) → is_on_values action ≡ false → Does (action_view action) frames frames None
 unfolding on_values

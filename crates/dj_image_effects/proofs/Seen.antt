@@ -6,9 +6,9 @@ use Rattle.dj_model.specs.trusted.State.{State, instruction_at}
 use Rattle.dj_model.specs.trusted.Step as model
 use Rattle.dj_stack.specs.Frames.{StackFrame}
 use Rattle.dj_image.specs.Imaged.{Imaged, program_of}
-use Rattle.dj_activations.specs.Activations.{frame_seen}
-use Rattle.dj_initialising.specs.Store.{Store, stored}
-use Rattle.dj_acting.specs.Acting.{instruction_of_number, machine, part_of, part_with}
+use Rattle.dj_current_method.specs.Activations.{frame_seen}
+use Rattle.dj_initialisation.specs.Store.{Store, stored}
+use Rattle.dj_image_effects.specs.Acting.{instruction_of_number, machine, part_of, part_with}
 
 -- the instruction at which a frame stands is that of its numbers
 pub instruction_seen : (imaged : Imaged) (f : StackFrame) → instruction_at (program_of imaged) (frame_seen (program_of imaged) f) ≡ instruction_of_number imaged f.method f.number

@@ -11,7 +11,7 @@ use Rattle.dj_names.specs.declared.descriptor.Ty.{Ty}
 use Rattle.dj_names.specs.trusted.Types.{Name, same_name, class_type}
 use Rattle.dj_names.specs.trusted.Descriptors.{type_text}
 use Rattle.dj_ops.specs.declared.instruction.Instr.{Instr}
-use Rattle.dj_natives.specs.Numbered.{ArePlain, begins_array}
+use Rattle.dj_library_types.specs.Numbered.{ArePlain, begins_array}
 use Rattle.dj_model.specs.trusted.Types.{Prefix, Declared}
 use Rattle.dj_model.specs.trusted.Instructions.{Instruction, Named}
 use Rattle.dj_model.specs.trusted.Natives.{class_name}
@@ -19,22 +19,22 @@ use Rattle.dj_model.specs.trusted.Program.{Program, Class, Method, Body, Abstrac
 use Rattle.dj_model.specs.Sound.{is_class_of, is_linked, IsSound}
 use Rattle.dj_model.specs.trusted.State.{instruction_in}
 use Rattle.dj_model.proofs.SoundFrames.{contained, sound_code, all_at}
-use Rattle.dj_check.specs.trusted.Instructions.{index_of}
-use Rattle.dj_classes.specs.Tables.{name_of, name_at, class_number}
-use Rattle.dj_classes.proofs.Numbered.{class_at-number, name_at-number}
-use Rattle.dj_classes.proofs.Orders.{names_from_same}
-use Rattle.dj_types.specs.Typed.{Typed, texts_of, types_of, type_at, place_of_text, text_number, text_of_type, type_number}
-use Rattle.dj_types.proofs.Numbers.{number_of_class, place_within}
-use Rattle.dj_types.proofs.Reported.{types_among}
+use Rattle.dj_early_rules.specs.trusted.Instructions.{index_of}
+use Rattle.dj_class_table.specs.Tables.{name_of, name_at, class_number}
+use Rattle.dj_class_table.proofs.Numbered.{class_at-number, name_at-number}
+use Rattle.dj_class_table.proofs.Orders.{names_from_same}
+use Rattle.dj_numbering.specs.Typed.{Typed, texts_of, types_of, type_at, place_of_text, text_number, text_of_type, type_number}
+use Rattle.dj_numbering.proofs.Numbers.{number_of_class, place_within}
+use Rattle.dj_numbering.proofs.Reported.{types_among}
 use Rattle.dj_program.specs.trusted.Naming.{named_if}
 use Rattle.dj_image.specs.Imaged.{Imaged, program_of}
 use Rattle.dj_image.specs.Codes.{PooledCode, IsOperandAt, HasInstr}
 use Rattle.dj_image.specs.Operands.{operand_of}
 use Rattle.dj_image.specs.declared.operand.Operand.{Operand}
 use Rattle.dj_image.proofs.RowFacts.{type_once}
-use Rattle.dj_activations.specs.Activations.{declared_at}
-use Rattle.dj_acting.specs.Acting.{instruction_of_number}
-use Rattle.dj_acting.specs.Operands.{StandsAt}
+use Rattle.dj_current_method.specs.Activations.{declared_at}
+use Rattle.dj_image_effects.specs.Acting.{instruction_of_number}
+use Rattle.dj_image_effects.specs.Operands.{StandsAt}
 
 -- ---- the instruction
 

@@ -10,7 +10,7 @@ use Rattle.dj_names.specs.declared.run.Value.{Value}
 use Rattle.dj_names.specs.trusted.Descriptors.{Describes}
 use Rattle.dj_names.specs.trusted.Heaps.{field_bits}
 use Rattle.dj_names.specs.trusted.Types.{Name, same_name, same_desc, field_kind}
-use Rattle.dj_declared.proofs.DescTests.{same_name_is, same_desc_is}
+use Rattle.dj_declarations.proofs.DescTests.{same_name_is, same_desc_is}
 use Rattle.dj_model.specs.trusted.Types.{Member}
 use Rattle.dj_model.specs.trusted.Instructions as model
 use Rattle.dj_model.specs.trusted.Numbers.{is_of_kind}
@@ -20,21 +20,21 @@ use Rattle.dj_model.specs.trusted.Effects.{effect}
 use Rattle.dj_heap.specs.Heaps.{LimitedHeap}
 use Rattle.dj_stack.specs.Frames.{StackFrame, top_operands}
 use Rattle.dj_effects.specs.declared.way.Way.{Way}
-use Rattle.dj_members.specs.Statics.{DoesOnStatics, OnStatics, get_static_by, put_static_by, leaves}
-use Rattle.dj_members.specs.Literals.{LiteralTable}
-use Rattle.dj_types.specs.Members.{all_fields, IsFieldThere}
-use Rattle.dj_types.specs.declared.types.MemberOf.{MemberOf}
+use Rattle.dj_member_effects.specs.Statics.{DoesOnStatics, OnStatics, get_static_by, put_static_by, leaves}
+use Rattle.dj_member_effects.specs.Literals.{LiteralTable}
+use Rattle.dj_numbering.specs.Members.{all_fields, IsFieldThere}
+use Rattle.dj_numbering.specs.declared.types.MemberOf.{MemberOf}
 use Rattle.dj_image.specs.Imaged.{Imaged, program_of, typed_of}
-use Rattle.dj_initialising.specs.Places.{Places, ArePlaces}
-use Rattle.dj_initialising.specs.Store.{IsStore, store}
-use Rattle.dj_initialising.proofs.PlaceLaws.{place_reported}
-use Rattle.dj_acting.specs.declared.acted.Acted.TheVariants as acts
-use Rattle.dj_acting.specs.Accesses.{IsStaticAt}
-use Rattle.dj_acting.specs.Acting.{ActsOnStatics, IsKept, IsMember, machine}
-use Rattle.dj_acting.specs.Flows.{way_acted}
-use Rattle.dj_acting.proofs.Reported.{way_kept, statics_acted, stuck_acted}
-use Rattle.dj_acting.proofs.Effects.{get_static_reported, put_static_reported}
-use Rattle.dj_acting.proofs.FieldAccesses.{kind_alike}
+use Rattle.dj_initialisation.specs.Places.{Places, ArePlaces}
+use Rattle.dj_initialisation.specs.Store.{IsStore, store}
+use Rattle.dj_initialisation.proofs.PlaceLaws.{place_reported}
+use Rattle.dj_image_effects.specs.declared.acted.Acted.TheVariants as acts
+use Rattle.dj_image_effects.specs.Accesses.{IsStaticAt}
+use Rattle.dj_image_effects.specs.Acting.{ActsOnStatics, IsKept, IsMember, machine}
+use Rattle.dj_image_effects.specs.Flows.{way_acted}
+use Rattle.dj_image_effects.proofs.Reported.{way_kept, statics_acted, stuck_acted}
+use Rattle.dj_image_effects.proofs.Effects.{get_static_reported, put_static_reported}
+use Rattle.dj_image_effects.proofs.FieldAccesses.{kind_alike}
 
 -- ---- places are fewer than the static fields
 

@@ -12,7 +12,7 @@ use Rattle.dj_names.specs.declared.run.Value.{Value}
 use Rattle.dj_names.specs.trusted.Heaps.{Object, Instance, Array, Text, Heap, class_of, object_at}
 use Rattle.dj_names.specs.Heaps.{heap_map, object_map}
 use Rattle.dj_names.specs.trusted.Types.{base_array, component_type, class_type}
-use Rattle.dj_natives.specs.Numbered.{type_at, component_of, holds_references, HaveComponents, IsNumberOf}
+use Rattle.dj_library_types.specs.Numbered.{type_at, component_of, holds_references, HaveComponents, IsNumberOf}
 use Rattle.dj_model.specs.trusted.Arrays.{Found, Null, IsArray, array_at, array_in}
 use Rattle.dj_model.specs.trusted.Linking.{is_subtype}
 use Rattle.dj_model.specs.trusted.Performing.{class_in, takes}
@@ -22,10 +22,10 @@ use Rattle.dj_stack.specs.Frames.{StackFrame, frame_of, operand_at, top_operands
 use Rattle.dj_names.specs.declared.run.Value.TheVariants as values
 use Rattle.dj_effects.specs.DoesOnHeap.{IsTakenSo}
 use Rattle.dj_effects.proofs.TopFacts.{last_frame}
-use Rattle.dj_types.specs.Typed.{types_of}
+use Rattle.dj_numbering.specs.Typed.{types_of}
 use Rattle.dj_image.specs.Imaged.{Imaged, program_of, typed_of}
-use Rattle.dj_acting.specs.Acting.{IsAbsent, IsHeap, IsThere, IsTopAbsent, IsTopThere}
-use Rattle.dj_acting.specs.Taking.{IsOf, IsTakenBy}
+use Rattle.dj_image_effects.specs.Acting.{IsAbsent, IsHeap, IsThere, IsTopAbsent, IsTopThere}
+use Rattle.dj_image_effects.specs.Taking.{IsOf, IsTakenBy}
 
 -- ---- operands
 

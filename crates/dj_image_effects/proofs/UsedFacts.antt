@@ -7,7 +7,7 @@ use Rattle.dj_names.specs.declared.descriptor.Ty.{Ty}
 use Rattle.dj_names.specs.declared.run.Element.TheVariants as elements
 use Rattle.dj_names.specs.trusted.Types.{Name, class_type, same_name}
 use Rattle.dj_ops.specs.declared.instruction.Instr.{Instr}
-use Rattle.dj_natives.specs.Numbered.{ArePlain}
+use Rattle.dj_library_types.specs.Numbered.{ArePlain}
 use Rattle.dj_model.specs.trusted.Types.{initialiser_name}
 use Rattle.dj_model.specs.trusted.Instructions as model
 use Rattle.dj_model.specs.trusted.Instructions.{Instruction, Named, Nothing, AField, NewArray}
@@ -21,24 +21,24 @@ use Rattle.dj_effects.specs.Actions.{action_view, is_other}
 use Rattle.dj_effects.specs.declared.actions.PlainAction.{PlainAction}
 use Rattle.dj_effects.specs.declared.actions.PlainAction.TheVariants as actions
 use Rattle.dj_heap.specs.Heaps.{LimitedHeap}
-use Rattle.dj_classes.specs.Tables.{name_at}
-use Rattle.dj_types.specs.Typed.{types_of}
+use Rattle.dj_class_table.specs.Tables.{name_at}
+use Rattle.dj_numbering.specs.Typed.{types_of}
 use Rattle.dj_image.specs.Imaged.{Imaged, program_of, typed_of}
-use Rattle.dj_initialising.specs.Store.{store}
-use Rattle.dj_acting.specs.declared.acted.Acted.TheVariants as acts
-use Rattle.dj_acting.specs.declared.uses.FieldUse.{FieldUse}
-use Rattle.dj_acting.specs.declared.uses.FieldUse.TheVariants as fields
-use Rattle.dj_acting.specs.declared.uses.ClassUse.{ClassUse}
-use Rattle.dj_acting.specs.declared.uses.ClassUse.TheVariants as classes
-use Rattle.dj_acting.specs.Accesses.{IsStaticAt}
-use Rattle.dj_acting.specs.Acting.{ActsOnHeap, IsClassAt, IsMadeBy, machine}
-use Rattle.dj_acting.specs.Operands.{UsesClass, Makes, Names}
-use Rattle.dj_acting.specs.Used.{IsClassUsed, IsFieldUsed, IsMade}
-use Rattle.dj_acting.specs.Uses.{class_use, field_use}
-use Rattle.dj_acting.proofs.Reported.{stuck_acted}
-use Rattle.dj_acting.proofs.Effects.{other_stuck}
-use Rattle.dj_acting.proofs.Standing.{number_within}
-use Rattle.dj_acting.proofs.Using.{IsClassInstruction, IsFieldInstruction, class_at_number, class_instruction, field_instruction, new_class}
+use Rattle.dj_initialisation.specs.Store.{store}
+use Rattle.dj_image_effects.specs.declared.acted.Acted.TheVariants as acts
+use Rattle.dj_image_effects.specs.declared.uses.FieldUse.{FieldUse}
+use Rattle.dj_image_effects.specs.declared.uses.FieldUse.TheVariants as fields
+use Rattle.dj_image_effects.specs.declared.uses.ClassUse.{ClassUse}
+use Rattle.dj_image_effects.specs.declared.uses.ClassUse.TheVariants as classes
+use Rattle.dj_image_effects.specs.Accesses.{IsStaticAt}
+use Rattle.dj_image_effects.specs.Acting.{ActsOnHeap, IsClassAt, IsMadeBy, machine}
+use Rattle.dj_image_effects.specs.Operands.{UsesClass, Makes, Names}
+use Rattle.dj_image_effects.specs.Used.{IsClassUsed, IsFieldUsed, IsMade}
+use Rattle.dj_image_effects.specs.Uses.{class_use, field_use}
+use Rattle.dj_image_effects.proofs.Reported.{stuck_acted}
+use Rattle.dj_image_effects.proofs.Effects.{other_stuck}
+use Rattle.dj_image_effects.proofs.Standing.{number_within}
+use Rattle.dj_image_effects.proofs.Using.{IsClassInstruction, IsFieldInstruction, class_at_number, class_instruction, field_instruction, new_class}
 
 -- ---- actions
 

@@ -12,7 +12,7 @@ use Rattle.dj_names.specs.declared.run.Value.TheVariants as values
 use Rattle.dj_names.specs.trusted.Types.{Name, array_type, class_type}
 use Rattle.dj_ops.specs.declared.instruction.Instr.{Instr}
 use Rattle.dj_ops.specs.declared.instruction.Instr.TheVariants as instrs
-use Rattle.dj_natives.specs.Numbered.{ArePlain}
+use Rattle.dj_library_types.specs.Numbered.{ArePlain}
 use Rattle.dj_model.specs.trusted.Types.{Member}
 use Rattle.dj_model.specs.trusted.Instructions as model
 use Rattle.dj_model.specs.trusted.Instructions.{Instruction, Named, Nothing, AnInt, ALong, AText, AClass, AField, AMethod, AnInterfaceMethod, Another, NewArray}
@@ -20,21 +20,21 @@ use Rattle.dj_model.specs.trusted.Opcodes.{instruction_of, literal, member}
 use Rattle.dj_model.specs.trusted.Program.{class_at}
 use Rattle.dj_model.specs.Sound.{is_class_of, is_new}
 use Rattle.dj_effects.specs.Actions.{is_other}
-use Rattle.dj_check.specs.trusted.Instructions.{index_of}
-use Rattle.dj_classes.specs.Tables.{class_number, name_at}
-use Rattle.dj_classes.proofs.Numbered.{class_at-number, name_at-number}
-use Rattle.dj_types.specs.Typed.{Typed, types_of, type_number}
-use Rattle.dj_types.proofs.Numbers.{number_of_class}
+use Rattle.dj_early_rules.specs.trusted.Instructions.{index_of}
+use Rattle.dj_class_table.specs.Tables.{class_number, name_at}
+use Rattle.dj_class_table.proofs.Numbered.{class_at-number, name_at-number}
+use Rattle.dj_numbering.specs.Typed.{Typed, types_of, type_number}
+use Rattle.dj_numbering.proofs.Numbers.{number_of_class}
 use Rattle.dj_image.specs.Imaged.{Imaged, program_of, typed_of}
 use Rattle.dj_image.specs.Operands.{takes_named}
-use Rattle.dj_acting.specs.declared.uses.FieldUse.{FieldUse}
-use Rattle.dj_acting.specs.declared.uses.FieldUse.TheVariants as fields
-use Rattle.dj_acting.specs.declared.uses.ClassUse.{ClassUse}
-use Rattle.dj_acting.specs.declared.uses.ClassUse.TheVariants as classes
-use Rattle.dj_acting.specs.Acting.{IsClassAt}
-use Rattle.dj_acting.specs.Operands.{UsesClass, Makes, Names, makes_array}
-use Rattle.dj_acting.specs.Uses.{class_use, field_use}
-use Rattle.dj_acting.proofs.Standing.{number_within, type_there}
+use Rattle.dj_image_effects.specs.declared.uses.FieldUse.{FieldUse}
+use Rattle.dj_image_effects.specs.declared.uses.FieldUse.TheVariants as fields
+use Rattle.dj_image_effects.specs.declared.uses.ClassUse.{ClassUse}
+use Rattle.dj_image_effects.specs.declared.uses.ClassUse.TheVariants as classes
+use Rattle.dj_image_effects.specs.Acting.{IsClassAt}
+use Rattle.dj_image_effects.specs.Operands.{UsesClass, Makes, Names, makes_array}
+use Rattle.dj_image_effects.specs.Uses.{class_use, field_use}
+use Rattle.dj_image_effects.proofs.Standing.{number_within, type_there}
 
 -- ---- fields
 

@@ -4,14 +4,14 @@ use Rattle.dj_names.specs.declared.descriptor.Base.TheVariants as bases
 use Rattle.dj_names.specs.declared.run.Raised.TheVariants as raises
 use Rattle.dj_names.specs.declared.run.Value.{Value}
 use Rattle.dj_names.specs.trusted.Types.{base_array}
-use Rattle.dj_natives.specs.Numbered.{type_at}
+use Rattle.dj_library_types.specs.Numbered.{type_at}
 use Rattle.dj_model.specs.trusted.Linking.{is_subtype}
 use Rattle.dj_stack.specs.Frames.{StackFrame, top_operands}
 use Rattle.dj_effects.specs.declared.way.Way.TheVariants as ways
-use Rattle.dj_types.specs.Typed.{types_of}
+use Rattle.dj_numbering.specs.Typed.{types_of}
 use Rattle.dj_image.specs.Imaged.{Imaged, program_of, typed_of}
-use Rattle.dj_acting.specs.declared.acted.Acted.{Acted}
-use Rattle.dj_acting.specs.declared.acted.Acted.TheVariants as acts
+use Rattle.dj_image_effects.specs.declared.acted.Acted.{Acted}
+use Rattle.dj_image_effects.specs.declared.acted.Acted.TheVariants as acts
 
 -- it counts as an array of booleans
 abbrev pub is_absent_of : Imaged → ℕ → Bool

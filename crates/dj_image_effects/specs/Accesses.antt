@@ -4,11 +4,11 @@ use Rattle.dj_names.specs.trusted.Types.{field_kind}
 use Rattle.dj_model.specs.trusted.Types.{Member}
 use Rattle.dj_model.specs.trusted.Program.{is_static}
 use Rattle.dj_model.specs.trusted.Linking.{FoundField, place_of}
-use Rattle.dj_members.specs.declared.fields.FieldAccess.{FieldAccess}
-use Rattle.dj_classes.specs.Tables.{name_at}
-use Rattle.dj_types.specs.Members.{all_fields}
+use Rattle.dj_member_effects.specs.declared.fields.FieldAccess.{FieldAccess}
+use Rattle.dj_class_table.specs.Tables.{name_at}
+use Rattle.dj_numbering.specs.Members.{all_fields}
 use Rattle.dj_image.specs.Imaged.{Imaged, program_of}
-use Rattle.dj_acting.specs.Acting.{IsMember}
+use Rattle.dj_image_effects.specs.Acting.{IsMember}
 
 -- the class that declares the field of a number, its place and its kind
 pub record IsAccessTo (imaged : Imaged) (n : ℕ) (access : FieldAccess) : Type 0 where

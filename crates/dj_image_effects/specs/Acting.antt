@@ -10,7 +10,7 @@ use Rattle.dj_names.specs.Heaps.{heap_map}
 use Rattle.dj_names.specs.declared.descriptor.Ty.{Ty}
 use Rattle.dj_names.specs.trusted.Types.{Name, class_type, base_array}
 use Rattle.dj_edge.specs.declared.host.HostAnswer.{HostAnswer}
-use Rattle.dj_natives.specs.Numbered.{type_at, holds_references}
+use Rattle.dj_library_types.specs.Numbered.{type_at, holds_references}
 use Rattle.dj_model.specs.trusted.Instructions.{Instruction, PushText, GetStatic, New}
 use Rattle.dj_model.specs.Instructions.{calls}
 use Rattle.dj_model.specs.trusted.Types.{Member, throwable_name}
@@ -24,17 +24,17 @@ use Rattle.dj_stack.specs.Frames.{StackFrame, SameFrames, top_locals, top_number
 use Rattle.dj_effects.specs.declared.actions.PlainAction.{PlainAction}
 use Rattle.dj_effects.specs.declared.actions.PlainAction.TheVariants as actions
 use Rattle.dj_effects.specs.Does.{Fits, reported_operands, way_view}
-use Rattle.dj_members.specs.Literals.{LiteralTable, literals_map}
-use Rattle.dj_calls.specs.Known.{AreKnown}
-use Rattle.dj_members.specs.Numbering.{AreNumbered}
-use Rattle.dj_types.specs.Typed.{types_of}
-use Rattle.dj_types.specs.Members.{all_fields, all_methods}
+use Rattle.dj_member_effects.specs.Literals.{LiteralTable, literals_map}
+use Rattle.dj_natives.specs.Known.{AreKnown}
+use Rattle.dj_member_effects.specs.Numbering.{AreNumbered}
+use Rattle.dj_numbering.specs.Typed.{types_of}
+use Rattle.dj_numbering.specs.Members.{all_fields, all_methods}
 use Rattle.dj_image.specs.Imaged.{Imaged, program_of, typed_of}
-pub use Rattle.dj_activations.specs.Instructions.{instruction_of_number, HasInstruction}
-use Rattle.dj_initialising.specs.Places.{Places, ArePlaces}
-use Rattle.dj_initialising.specs.Store.{AreTexts, Store, IsStore, store}
-use Rattle.dj_acting.specs.declared.acted.Acted.{Acted}
-use Rattle.dj_acting.specs.declared.acted.Acted.TheVariants as acts
+pub use Rattle.dj_current_method.specs.Instructions.{instruction_of_number, HasInstruction}
+use Rattle.dj_initialisation.specs.Places.{Places, ArePlaces}
+use Rattle.dj_initialisation.specs.Store.{AreTexts, Store, IsStore, store}
+use Rattle.dj_image_effects.specs.declared.acted.Acted.{Acted}
+use Rattle.dj_image_effects.specs.declared.acted.Acted.TheVariants as acts
 
 -- what of a machine an instruction may change
 pub record Machine : Type 0 where

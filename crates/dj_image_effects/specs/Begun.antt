@@ -5,15 +5,15 @@ use Rattle.dj_model.specs.trusted.Instructions.{Instruction}
 use Rattle.dj_heap.specs.Heaps.{LimitedHeap}
 use Rattle.dj_stack.specs.Frames.{StackFrame, SameButNumber, top_number}
 use Rattle.dj_effects.specs.declared.way.Way.TheVariants as ways
-use Rattle.dj_members.specs.Literals.{LiteralTable}
-use Rattle.dj_calls.specs.Known.{AreKnown}
+use Rattle.dj_member_effects.specs.Literals.{LiteralTable}
+use Rattle.dj_natives.specs.Known.{AreKnown}
 use Rattle.dj_image.specs.Imaged.{Imaged}
-use Rattle.dj_initialising.specs.Store.{IsStore, store}
-use Rattle.dj_acting.specs.declared.acted.Acted.{Acted}
-use Rattle.dj_acting.specs.declared.acted.Acted.TheVariants as acts
-use Rattle.dj_acting.specs.declared.begun.Begun.{Begun}
-use Rattle.dj_acting.specs.declared.begun.Begun.TheVariants as begins
-use Rattle.dj_acting.specs.Acting.{ActsOnHeap}
+use Rattle.dj_initialisation.specs.Store.{IsStore, store}
+use Rattle.dj_image_effects.specs.declared.acted.Acted.{Acted}
+use Rattle.dj_image_effects.specs.declared.acted.Acted.TheVariants as acts
+use Rattle.dj_image_effects.specs.declared.begun.Begun.{Begun}
+use Rattle.dj_image_effects.specs.declared.begun.Begun.TheVariants as begins
+use Rattle.dj_image_effects.specs.Acting.{ActsOnHeap}
 
 -- a heap beside static fields and literals of the image
 abbrev pub HasStore : Imaged → LimitedHeap → Type 0

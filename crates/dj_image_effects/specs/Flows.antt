@@ -5,10 +5,10 @@ use Rattle.dj_effects.specs.declared.way.Way.{Way}
 use Rattle.dj_effects.specs.declared.way.Way.TheVariants as ways
 use Rattle.dj_effects.specs.declared.way.Flow.{Flow}
 use Rattle.dj_effects.specs.declared.way.Flow.TheVariants as flows
-use Rattle.dj_members.specs.declared.objects.Thrown.{Thrown}
-use Rattle.dj_members.specs.declared.objects.Thrown.TheVariants as thrown
-use Rattle.dj_acting.specs.declared.acted.Acted.{Acted}
-use Rattle.dj_acting.specs.declared.acted.Acted.TheVariants as acts
+use Rattle.dj_member_effects.specs.declared.objects.Thrown.{Thrown}
+use Rattle.dj_member_effects.specs.declared.objects.Thrown.TheVariants as thrown
+use Rattle.dj_image_effects.specs.declared.acted.Acted.{Acted}
+use Rattle.dj_image_effects.specs.declared.acted.Acted.TheVariants as acts
 
 abbrev pub way_acted : Option Way → Acted
 way_acted None = acts.Stuck

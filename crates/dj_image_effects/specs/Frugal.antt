@@ -12,12 +12,12 @@ use Rattle.dj_model.specs.trusted.State.{Terms, Account, Next, To, Flow, Goes, E
 use Rattle.dj_model.specs.trusted.Effects as effects
 use Rattle.dj_heap.specs.Heaps.{LimitedHeap}
 use Rattle.dj_stack.specs.Frames.{StackFrame, top_room}
-use Rattle.dj_members.specs.Literals.{LiteralTable}
+use Rattle.dj_member_effects.specs.Literals.{LiteralTable}
 use Rattle.dj_image.specs.Imaged.{Imaged, program_of}
 use Rattle.dj_image.specs.Codes.{PooledCode, code_at}
-use Rattle.dj_initialising.specs.Store.{IsStore, store}
-use Rattle.dj_acting.specs.declared.acted.Acted.{Acted}
-use Rattle.dj_acting.specs.Acting.{Machine, machine, part_of}
+use Rattle.dj_initialisation.specs.Store.{IsStore, store}
+use Rattle.dj_image_effects.specs.declared.acted.Acted.{Acted}
+use Rattle.dj_image_effects.specs.Acting.{Machine, machine, part_of}
 
 -- the instruction makes an object, loads a text or calls a method
 abbrev pub makes : Instruction → Bool

@@ -5,10 +5,10 @@ use Rattle.dj_names.specs.declared.descriptor.Ty.{Ty}
 use Rattle.dj_ops.specs.declared.instruction.Instr.{Instr}
 use Rattle.dj_model.specs.trusted.Instructions.{Instruction, Named, AClass, NewArray}
 use Rattle.dj_model.specs.trusted.Opcodes.{instruction_of}
-use Rattle.dj_types.specs.Typed.{type_number}
+use Rattle.dj_numbering.specs.Typed.{type_number}
 use Rattle.dj_image.specs.Imaged.{Imaged, typed_of}
 use Rattle.dj_image.specs.Operands.{takes_named}
-pub use Rattle.dj_activations.specs.Instructions.{StandsAt, IsInstrAt}
+pub use Rattle.dj_current_method.specs.Instructions.{StandsAt, IsInstrAt}
 
 abbrev pub makes_array : Instruction → Bool
 makes_array (NewArray class element) = true

@@ -4,12 +4,12 @@ use Rattle.dj_names.specs.declared.run.Element.TheVariants as elements
 use Rattle.dj_names.specs.declared.run.Value.{Value}
 use Rattle.dj_names.specs.declared.run.Value.TheVariants as values
 use Rattle.dj_names.specs.Heaps.{heap_map}
-use Rattle.dj_natives.specs.Numbered.{type_at}
+use Rattle.dj_library_types.specs.Numbered.{type_at}
 use Rattle.dj_model.specs.trusted.Arrays.{IsArray, array_at}
 use Rattle.dj_model.specs.trusted.Linking.{is_subtype}
 use Rattle.dj_model.specs.trusted.Performing.{class_at_number, takes}
 use Rattle.dj_heap.specs.Heaps.{LimitedHeap}
-use Rattle.dj_types.specs.Typed.{types_of}
+use Rattle.dj_numbering.specs.Typed.{types_of}
 use Rattle.dj_image.specs.Imaged.{Imaged, program_of, typed_of}
 
 -- the reference is of the class

@@ -1,7 +1,7 @@
 -- Instructions that name nothing.
 use Rattle.std.specs.Prelude.{◌≡◌, None}
 use Rattle.dj_ops.specs.declared.instruction.Instr.{Instr}
-use Rattle.dj_check.specs.trusted.Instructions.{index_of}
+use Rattle.dj_early_rules.specs.trusted.Instructions.{index_of}
 use Rattle.dj_model.specs.trusted.Instructions.{Nothing}
 use Rattle.dj_model.specs.trusted.Opcodes.{instruction_of}
 use Rattle.dj_effects.specs.Actions.{action_view}

@@ -1,7 +1,7 @@
 -- Used by the code alone: the field or the class that an instruction uses, with what is asked of it before.
 use Rattle.std.specs.Prelude.{◌≡◌, ℕ, ⊤, true, List}
 use Rattle.dj_names.specs.trusted.Types.{class_type}
-use Rattle.dj_natives.specs.Numbered.{ArePlain}
+use Rattle.dj_library_types.specs.Numbered.{ArePlain}
 use Rattle.dj_ops.specs.declared.instruction.Instr.{Instr}
 use Rattle.dj_model.specs.trusted.Types.{Member, throwable_name}
 use Rattle.dj_model.specs.trusted.Instructions.{Instruction, Named, Nothing, AField, NewArray}
@@ -10,19 +10,19 @@ use Rattle.dj_model.specs.trusted.Linking.{FoundField}
 use Rattle.dj_model.specs.Sound.{is_linked}
 use Rattle.dj_heap.specs.Heaps.{LimitedHeap}
 use Rattle.dj_stack.specs.Frames.{StackFrame}
-use Rattle.dj_members.specs.Literals.{LiteralTable}
-use Rattle.dj_types.specs.Typed.{types_of}
+use Rattle.dj_member_effects.specs.Literals.{LiteralTable}
+use Rattle.dj_numbering.specs.Typed.{types_of}
 use Rattle.dj_image.specs.Imaged.{Imaged, program_of, typed_of}
 use Rattle.dj_image.specs.Numbering.{AreSettled}
 use Rattle.dj_image.specs.declared.operand.Operand.{Operand}
 use Rattle.dj_image.specs.Operands.{operand_of, takes_named}
-use Rattle.dj_initialising.specs.Places.{Places, ArePlaces}
-use Rattle.dj_initialising.specs.Store.{AreTexts, IsStore, store}
-use Rattle.dj_acting.specs.declared.acted.Acted.{Acted}
-use Rattle.dj_acting.specs.declared.uses.ClassUse.TheVariants as classes
-use Rattle.dj_acting.specs.Acting.{Acts, IsClassAt, IsMember, machine}
-use Rattle.dj_acting.specs.Operands.{UsesClass}
-use Rattle.dj_acting.specs.Uses.{class_use}
+use Rattle.dj_initialisation.specs.Places.{Places, ArePlaces}
+use Rattle.dj_initialisation.specs.Store.{AreTexts, IsStore, store}
+use Rattle.dj_image_effects.specs.declared.acted.Acted.{Acted}
+use Rattle.dj_image_effects.specs.declared.uses.ClassUse.TheVariants as classes
+use Rattle.dj_image_effects.specs.Acting.{Acts, IsClassAt, IsMember, machine}
+use Rattle.dj_image_effects.specs.Operands.{UsesClass}
+use Rattle.dj_image_effects.specs.Uses.{class_use}
 
 -- the array that an instruction makes has this class
 abbrev pub IsMade : Imaged → Instruction → ℕ → Type 0

@@ -2,10 +2,10 @@
 use Rattle.std.specs.Prelude.{ℕ, nat_eq, if◌then◌else◌}
 use Rattle.dj_ops.specs.declared.instruction.Instr.{Instr}
 use Rattle.dj_ops.specs.declared.instruction.Instr.TheVariants as instrs
-use Rattle.dj_acting.specs.declared.uses.FieldUse.{FieldUse}
-use Rattle.dj_acting.specs.declared.uses.FieldUse.TheVariants as fields
-use Rattle.dj_acting.specs.declared.uses.ClassUse.{ClassUse}
-use Rattle.dj_acting.specs.declared.uses.ClassUse.TheVariants as classes
+use Rattle.dj_image_effects.specs.declared.uses.FieldUse.{FieldUse}
+use Rattle.dj_image_effects.specs.declared.uses.FieldUse.TheVariants as fields
+use Rattle.dj_image_effects.specs.declared.uses.ClassUse.{ClassUse}
+use Rattle.dj_image_effects.specs.declared.uses.ClassUse.TheVariants as classes
 
 abbrev pub field_use_of : ℕ → FieldUse
 field_use_of op =

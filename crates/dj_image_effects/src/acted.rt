@@ -1,8 +1,8 @@
 ghost use Rattle.std.specs.Prelude.{◌≡◌};
-ghost use Rattle.dj_acting.specs.Flows.{flow_acted, thrown_acted, way_acted};
+ghost use Rattle.dj_image_effects.specs.Flows.{flow_acted, thrown_acted, way_acted};
 
 use dj_effects::{Flow, Way};
-use dj_members::Thrown;
+use dj_member_effects::Thrown;
 use dj_names::Raised;
 
 /// How the run goes on after an instruction, or how it ends.

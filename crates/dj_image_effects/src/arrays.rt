@@ -3,11 +3,11 @@ ghost use Rattle.dj_names.specs.declared.descriptor.Ty.{Ty};
 ghost use Rattle.dj_model.specs.trusted.Instructions.{ArrayLength, LoadElement, NewArray, StoreElement};
 ghost use Rattle.dj_stack.specs.Frames.{top_operands, top_room};
 ghost use Rattle.dj_effects.specs.Actions.{access_view};
-ghost use Rattle.dj_calls.specs.Known.{AreKnown};
-ghost use Rattle.dj_types.specs.Typed.{types_of};
+ghost use Rattle.dj_natives.specs.Known.{AreKnown};
+ghost use Rattle.dj_numbering.specs.Typed.{types_of};
 ghost use Rattle.dj_image.specs.Imaged.{typed_of};
-ghost use Rattle.dj_acting.specs.Acting.{ActsOnHeap, IsClassAt, IsHeap};
-ghost use Rattle.dj_acting.specs.Frugal.{FrugalOnHeap};
+ghost use Rattle.dj_image_effects.specs.Acting.{ActsOnHeap, IsClassAt, IsHeap};
+ghost use Rattle.dj_image_effects.specs.Frugal.{FrugalOnHeap};
 
 use crate::acted::{Acted, flow_acted};
 use crate::asking::holds_elements;

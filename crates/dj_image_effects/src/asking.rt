@@ -1,18 +1,18 @@
 // What of the values before a step is asked at run time. In a sound program it always holds.
 ghost use Rattle.std.specs.Prelude.{◌≡◌, ◌+◌, ◌≤◌, ◌<◌, true, false, length};
 ghost use Rattle.dj_stack.specs.Frames.{top_operands, top_room};
-ghost use Rattle.dj_types.specs.Typed.{types_of};
+ghost use Rattle.dj_numbering.specs.Typed.{types_of};
 ghost use Rattle.dj_image.specs.Imaged.{typed_of};
-ghost use Rattle.dj_acting.specs.Acting.{IsAbsent, IsThere, IsTopAbsent, IsTopThere};
-ghost use Rattle.dj_acting.specs.Elements.{HoldsElements};
-ghost use Rattle.dj_acting.specs.Growing.{growth, move_growth, slot_count};
+ghost use Rattle.dj_image_effects.specs.Acting.{IsAbsent, IsThere, IsTopAbsent, IsTopThere};
+ghost use Rattle.dj_image_effects.specs.Elements.{HoldsElements};
+ghost use Rattle.dj_image_effects.specs.Growing.{growth, move_growth, slot_count};
 
 use crate::taking::peek;
 use dj_effects::{Movement, PlainAction, Slots};
 use dj_heap::Heap;
 use dj_image::Image;
+use dj_library_types::Classes;
 use dj_names::{Element, Value};
-use dj_natives::Classes;
 use dj_stack::Frames;
 
 /// Whether the top operand, where it is a reference, is null or that of an object.

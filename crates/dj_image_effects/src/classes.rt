@@ -1,16 +1,16 @@
 ghost use Rattle.std.specs.Prelude.{◌≤◌, length, IfOk};
 ghost use Rattle.dj_stack.specs.Frames.{top_operands, top_room};
-ghost use Rattle.dj_calls.specs.Known.{AreKnown};
+ghost use Rattle.dj_natives.specs.Known.{AreKnown};
 ghost use Rattle.dj_names.specs.trusted.Types.{class_type};
-ghost use Rattle.dj_natives.specs.Numbered.{ArePlain};
+ghost use Rattle.dj_library_types.specs.Numbered.{ArePlain};
 ghost use Rattle.dj_model.specs.trusted.Types.{throwable_name};
 ghost use Rattle.dj_model.specs.trusted.Instructions.{Named, Nothing};
 ghost use Rattle.dj_model.specs.trusted.Opcodes.{instruction_of};
-ghost use Rattle.dj_types.specs.Typed.{types_of};
+ghost use Rattle.dj_numbering.specs.Typed.{types_of};
 ghost use Rattle.dj_image.specs.Imaged.{typed_of};
-ghost use Rattle.dj_acting.specs.Acting.{ActsOnHeap, IsClassAt, IsHeap};
-ghost use Rattle.dj_acting.specs.Frugal.{FrugalOnHeap};
-ghost use Rattle.dj_acting.specs.Used.{IsClassUsed, IsMade};
+ghost use Rattle.dj_image_effects.specs.Acting.{ActsOnHeap, IsClassAt, IsHeap};
+ghost use Rattle.dj_image_effects.specs.Frugal.{FrugalOnHeap};
+ghost use Rattle.dj_image_effects.specs.Used.{IsClassUsed, IsMade};
 
 use crate::acted::Acted;
 use crate::arrays::act_new_array;

@@ -3,22 +3,22 @@ ghost use Rattle.dj_model.specs.trusted.Instructions.{GetField, PutField};
 ghost use Rattle.dj_model.specs.trusted.Types.{Member};
 ghost use Rattle.dj_model.specs.trusted.Linking.{FoundField};
 ghost use Rattle.dj_stack.specs.Frames.{top_operands, top_room};
-ghost use Rattle.dj_calls.specs.Known.{AreKnown};
-ghost use Rattle.dj_types.specs.Typed.{types_of};
-ghost use Rattle.dj_types.specs.Members.{all_fields};
+ghost use Rattle.dj_natives.specs.Known.{AreKnown};
+ghost use Rattle.dj_numbering.specs.Typed.{types_of};
+ghost use Rattle.dj_numbering.specs.Members.{all_fields};
 ghost use Rattle.dj_image.specs.Imaged.{program_of, typed_of};
 ghost use Rattle.dj_image.specs.Numbering.{AreSettled};
-ghost use Rattle.dj_acting.specs.Accesses.{IsAccess};
-ghost use Rattle.dj_acting.specs.Acting.{ActsOnHeap, IsHeap, IsMember};
-ghost use Rattle.dj_acting.specs.Frugal.{FrugalOnHeap};
+ghost use Rattle.dj_image_effects.specs.Accesses.{IsAccess};
+ghost use Rattle.dj_image_effects.specs.Acting.{ActsOnHeap, IsHeap, IsMember};
+ghost use Rattle.dj_image_effects.specs.Frugal.{FrugalOnHeap};
 
 use crate::acted::{Acted, flow_acted};
 use crate::kinds::kind_of;
+use dj_field_holders::Superclasses;
 use dj_heap::Heap;
 use dj_image::{FieldId, Image};
-use dj_members::{FieldAccess, get_field, put_field};
+use dj_member_effects::{FieldAccess, get_field, put_field};
 use dj_stack::Frames;
-use dj_standing::Superclasses;
 use std::alloc::AllocError;
 
 /// getfield of the field of a number.

@@ -2,7 +2,7 @@ ghost use Rattle.std.specs.Prelude.{◌≡◌};
 ghost use Rattle.dj_names.specs.declared.descriptor.Desc.{Desc};
 ghost use Rattle.dj_names.specs.trusted.Descriptors.{Describes};
 ghost use Rattle.dj_names.specs.trusted.Types.{field_kind};
-ghost use Rattle.dj_acting.specs.Kinds.{kind_by};
+ghost use Rattle.dj_image_effects.specs.Kinds.{kind_by};
 
 use dj_names::Kind;
 

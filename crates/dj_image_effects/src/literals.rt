@@ -3,10 +3,10 @@ ghost use Rattle.dj_names.specs.declared.run.Value.{Value};
 ghost use Rattle.dj_model.specs.trusted.Instructions.{Push};
 ghost use Rattle.dj_heap.specs.Heaps.{LimitedHeap};
 ghost use Rattle.dj_image.specs.Imaged.{Imaged};
-ghost use Rattle.dj_acting.specs.Acting.{ActsOnHeap};
-ghost use Rattle.dj_acting.specs.Frugal.{FrugalOnHeap};
+ghost use Rattle.dj_image_effects.specs.Acting.{ActsOnHeap};
+ghost use Rattle.dj_image_effects.specs.Frugal.{FrugalOnHeap};
 ghost use Rattle.dj_effects.specs.Does.{Does, Fits};
-ghost use Rattle.dj_acting.specs.Numbers.{literal_push, literal_value};
+ghost use Rattle.dj_image_effects.specs.Numbers.{literal_push, literal_value};
 
 use crate::acted::{Acted, way_acted};
 use crate::asking::has_room;

@@ -1,5 +1,5 @@
 ghost use Rattle.std.specs.Prelude.{◌≡◌, ◌≤◌, ◌<◌, Some, length, IfOk};
-ghost use Rattle.dj_calls.specs.Known.{AreKnown};
+ghost use Rattle.dj_natives.specs.Known.{AreKnown};
 ghost use Rattle.dj_names.specs.declared.descriptor.Ty.{Ty};
 ghost use Rattle.dj_names.specs.trusted.Types.{Name, class_type};
 ghost use Rattle.dj_model.specs.trusted.Types.{throwable_name};
@@ -7,20 +7,20 @@ ghost use Rattle.dj_model.specs.trusted.Instructions.{CheckCast, InstanceOf, New
 ghost use Rattle.dj_model.specs.trusted.Members.{instance_number};
 ghost use Rattle.dj_names.specs.declared.run.Value.TheVariants as values;
 ghost use Rattle.dj_stack.specs.Frames.{SameButOperands, top_operands, top_room};
-ghost use Rattle.dj_classes.specs.Tables.{name_at};
-ghost use Rattle.dj_types.specs.Typed.{types_of};
+ghost use Rattle.dj_class_table.specs.Tables.{name_at};
+ghost use Rattle.dj_numbering.specs.Typed.{types_of};
 ghost use Rattle.dj_image.specs.Imaged.{program_of, typed_of};
-ghost use Rattle.dj_acting.specs.Absent.{ReplacesTop, cast_acted, is_absent_of};
-ghost use Rattle.dj_acting.specs.Acting.{ActsOnHeap, IsClassAt, IsHeap};
+ghost use Rattle.dj_image_effects.specs.Absent.{ReplacesTop, cast_acted, is_absent_of};
+ghost use Rattle.dj_image_effects.specs.Acting.{ActsOnHeap, IsClassAt, IsHeap};
 
 use crate::acted::{Acted, flow_acted, thrown_acted};
 use crate::asking::{has_room, is_top_there};
-use dj_calls::takes_absent;
 use dj_effects::Way;
 use dj_heap::Heap;
 use dj_image::Image;
-use dj_members::{check_cast, instance_of, new_object, throw_top};
+use dj_member_effects::{check_cast, instance_of, new_object, throw_top};
 use dj_names::{Raised, Value};
+use dj_natives::takes_absent;
 use dj_stack::Frames;
 use std::alloc::AllocError;
 

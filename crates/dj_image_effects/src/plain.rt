@@ -1,12 +1,12 @@
 ghost use Rattle.std.specs.Prelude.{IfOk};
 ghost use Rattle.dj_names.specs.trusted.Types.{class_type};
-ghost use Rattle.dj_calls.specs.Known.{AreKnown};
-ghost use Rattle.dj_types.specs.Typed.{types_of};
+ghost use Rattle.dj_natives.specs.Known.{AreKnown};
+ghost use Rattle.dj_numbering.specs.Typed.{types_of};
 ghost use Rattle.dj_image.specs.Imaged.{typed_of};
 ghost use Rattle.dj_model.specs.trusted.Types.{throwable_name};
 ghost use Rattle.dj_effects.specs.Actions.{action_view};
-ghost use Rattle.dj_acting.specs.Acting.{ActsOnHeap, HasRoom, IsClassAt, IsHeap, IsMadeBy};
-ghost use Rattle.dj_acting.specs.Frugal.{FrugalOnHeap};
+ghost use Rattle.dj_image_effects.specs.Acting.{ActsOnHeap, HasRoom, IsClassAt, IsHeap, IsMadeBy};
+ghost use Rattle.dj_image_effects.specs.Frugal.{FrugalOnHeap};
 
 use crate::acted::{Acted, way_acted};
 use crate::arrays::{act_length, act_load, act_new_array, act_store};

@@ -2,19 +2,19 @@ ghost use Rattle.std.specs.Prelude.{◌≡◌, ◌<◌, length, IfOk};
 ghost use Rattle.dj_model.specs.trusted.Instructions.{GetStatic, PutStatic};
 ghost use Rattle.dj_model.specs.trusted.Types.{Member};
 ghost use Rattle.dj_model.specs.trusted.Linking.{FoundField, static_count};
-ghost use Rattle.dj_types.specs.Members.{all_fields};
+ghost use Rattle.dj_numbering.specs.Members.{all_fields};
 ghost use Rattle.dj_image.specs.Imaged.{program_of};
-ghost use Rattle.dj_initialising.specs.Places.{ArePlaces};
-ghost use Rattle.dj_acting.specs.Accesses.{IsStaticAt};
-ghost use Rattle.dj_acting.specs.Acting.{ActsOnStatics, IsMember};
-ghost use Rattle.dj_acting.specs.Frugal.{FrugalOnStatics};
+ghost use Rattle.dj_initialisation.specs.Places.{ArePlaces};
+ghost use Rattle.dj_image_effects.specs.Accesses.{IsStaticAt};
+ghost use Rattle.dj_image_effects.specs.Acting.{ActsOnStatics, IsMember};
+ghost use Rattle.dj_image_effects.specs.Frugal.{FrugalOnStatics};
 
 use crate::acted::{Acted, way_acted};
 use crate::asking::has_room;
 use crate::kinds::kind_of;
 use dj_image::{FieldId, Image};
-use dj_initialising::StaticPlaces;
-use dj_members::{Statics, get_static, put_static};
+use dj_initialisation::StaticPlaces;
+use dj_member_effects::{Statics, get_static, put_static};
 use dj_stack::Frames;
 use std::alloc::AllocError;
 

@@ -1,15 +1,15 @@
 ghost use Rattle.std.specs.Prelude.{◌≡◌, ◌<◌, length, slice_get};
 ghost use Rattle.dj_stack.specs.Frames.{top_operands};
-ghost use Rattle.dj_acting.specs.Acting.{IsHeap};
-ghost use Rattle.dj_types.specs.Typed.{types_of};
+ghost use Rattle.dj_image_effects.specs.Acting.{IsHeap};
+ghost use Rattle.dj_numbering.specs.Typed.{types_of};
 ghost use Rattle.dj_image.specs.Imaged.{typed_of};
-ghost use Rattle.dj_acting.specs.Taking.{IsOf, IsTaken, IsTakenBy};
+ghost use Rattle.dj_image_effects.specs.Taking.{IsOf, IsTaken, IsTakenBy};
 
-use dj_calls::takes_absent;
 use dj_heap::Heap;
 use dj_image::Image;
+use dj_library_types::Classes;
 use dj_names::Value;
-use dj_natives::Classes;
+use dj_natives::takes_absent;
 use dj_stack::Frames;
 
 /// Whether the array of references that stands under a reference and an index takes the reference.

@@ -1,16 +1,16 @@
 ghost use Rattle.std.specs.Prelude.{◌≡◌, ◌<◌, ℕ, List, Some, length, slice_get, IfOk};
 ghost use Rattle.dj_model.specs.trusted.Instructions.{PushText};
-ghost use Rattle.dj_calls.specs.Known.{AreKnown};
-ghost use Rattle.dj_types.specs.Typed.{types_of};
+ghost use Rattle.dj_natives.specs.Known.{AreKnown};
+ghost use Rattle.dj_numbering.specs.Typed.{types_of};
 ghost use Rattle.dj_image.specs.Imaged.{typed_of};
-ghost use Rattle.dj_initialising.specs.Store.{AreTexts};
-ghost use Rattle.dj_acting.specs.Acting.{ActsOnLiterals};
+ghost use Rattle.dj_initialisation.specs.Store.{AreTexts};
+ghost use Rattle.dj_image_effects.specs.Acting.{ActsOnLiterals};
 
 use crate::acted::{Acted, flow_acted};
 use crate::asking::has_room;
 use dj_heap::Heap;
 use dj_image::Image;
-use dj_members::{Literals, push_text};
+use dj_member_effects::{Literals, push_text};
 use dj_stack::Frames;
 use std::alloc::AllocError;
 

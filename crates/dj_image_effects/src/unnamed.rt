@@ -2,12 +2,12 @@ ghost use Rattle.std.specs.Prelude.{◌≡◌, ◌<◌, length, IfSome};
 ghost use Rattle.dj_model.specs.trusted.Instructions.{ArrayLength, LoadElement, StoreElement};
 ghost use Rattle.dj_stack.specs.Frames.{top_number};
 ghost use Rattle.dj_effects.specs.Actions.{access_view, action_view};
-ghost use Rattle.dj_calls.specs.Known.{AreKnown};
-ghost use Rattle.dj_types.specs.Typed.{types_of};
+ghost use Rattle.dj_natives.specs.Known.{AreKnown};
+ghost use Rattle.dj_numbering.specs.Typed.{types_of};
 ghost use Rattle.dj_image.specs.Imaged.{typed_of};
-ghost use Rattle.dj_acting.specs.Acting.{ActsOnHeap, IsHeap};
-ghost use Rattle.dj_acting.specs.Begun.{BeginsBy, Follows, HasStore, IsKnownAfter, IsKnownThen, IsPlaceAfter};
-ghost use Rattle.dj_acting.specs.Unnamed.{IsUnnamed};
+ghost use Rattle.dj_image_effects.specs.Acting.{ActsOnHeap, IsHeap};
+ghost use Rattle.dj_image_effects.specs.Begun.{BeginsBy, Follows, HasStore, IsKnownAfter, IsKnownThen, IsPlaceAfter};
+ghost use Rattle.dj_image_effects.specs.Unnamed.{IsUnnamed};
 
 use crate::acted::{Acted, flow_acted, way_acted};
 use crate::arrays::{act_length, act_load};

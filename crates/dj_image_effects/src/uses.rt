@@ -1,5 +1,5 @@
 ghost use Rattle.std.specs.Prelude.{◌≡◌};
-ghost use Rattle.dj_acting.specs.Uses.{class_use, class_use_of, field_use, field_use_of};
+ghost use Rattle.dj_image_effects.specs.Uses.{class_use, class_use_of, field_use, field_use_of};
 
 use dj_ops::Instr;
 

@@ -18,23 +18,23 @@ use Rattle.dj_stack.specs.Frames.{StackFrame, SameFrames, top_locals, top_number
 use Rattle.dj_effects.specs.Does.{reported_operands, way_view}
 use Rattle.dj_effects.specs.declared.way.Way.{Way}
 use Rattle.dj_effects.specs.declared.way.Way.TheVariants as ways
-use Rattle.dj_calls.specs.Calls.{counting_of}
-use Rattle.dj_calls.specs.Counting.{Counter}
+use Rattle.dj_natives.specs.Calls.{counting_of}
+use Rattle.dj_natives.specs.Counting.{Counter}
 use Rattle.dj_image.specs.Imaged.{Imaged, program_of}
-use Rattle.dj_activations.specs.Activations.{AreActivations, declared_at, frame_seen, frames_seen}
-use Rattle.dj_activations.proofs.Standing.{same_stand}
-use Rattle.dj_initialising.specs.Store.{Store, IsStore, store}
-use Rattle.dj_initialising.specs.Preparing.{parts}
-use Rattle.dj_acting.specs.declared.acted.Acted.{Acted}
-use Rattle.dj_acting.specs.declared.acted.Acted.TheVariants as acts
-use Rattle.dj_acting.specs.Acting.{Acts, IsActed, IsKept, Machine, machine, acted_operands, flow_reported, part_with}
+use Rattle.dj_current_method.specs.Activations.{AreActivations, declared_at, frame_seen, frames_seen}
+use Rattle.dj_current_method.proofs.Standing.{same_stand}
+use Rattle.dj_initialisation.specs.Store.{Store, IsStore, store}
+use Rattle.dj_initialisation.specs.Preparing.{parts}
+use Rattle.dj_image_effects.specs.declared.acted.Acted.{Acted}
+use Rattle.dj_image_effects.specs.declared.acted.Acted.TheVariants as acts
+use Rattle.dj_image_effects.specs.Acting.{Acts, IsActed, IsKept, Machine, machine, acted_operands, flow_reported, part_with}
 use Rattle.dj_settling.specs.declared.settled.Settled.{Settled}
 use Rattle.dj_settling.specs.Reported.{reported_of}
 use Rattle.dj_settling.specs.Settling.{Settles, settled_reported, top_settled}
 use Rattle.dj_settling.proofs.WayLaws.{settled_alike}
-use Rattle.dj_turning.specs.Running.{Running, account_of, state_of, terms_of}
-use Rattle.dj_turning.specs.Doing.{ActedSettles, FlowSettles, IsStill, TurnsBy, doing}
-use Rattle.dj_turning.proofs.Alike.{flow_alike}
+use Rattle.dj_image_step.specs.Running.{Running, account_of, state_of, terms_of}
+use Rattle.dj_image_step.specs.Doing.{ActedSettles, FlowSettles, IsStill, TurnsBy, doing}
+use Rattle.dj_image_step.proofs.Alike.{flow_alike}
 
 -- ---- what is left stands
 

@@ -20,26 +20,26 @@ use Rattle.dj_model.proofs.Fits.{Fits}
 use Rattle.dj_model.proofs.EffectFits as effects
 use Rattle.dj_heap.specs.Heaps.{LimitedHeap}
 use Rattle.dj_stack.specs.Frames.{StackFrame, SameButOperands, top_method, top_operands}
-use Rattle.dj_calls.specs.declared.answer.NativeAnswer.{NativeAnswer}
-use Rattle.dj_calls.specs.declared.answer.NativeAnswer.TheVariants as reported
-use Rattle.dj_calls.specs.Counting.{Counter}
-use Rattle.dj_calls.specs.Calls.{KeepsCounter, KeepsHeap, counting_of, flow_reported, given, part_with, typed_heap}
+use Rattle.dj_natives.specs.declared.answer.NativeAnswer.{NativeAnswer}
+use Rattle.dj_natives.specs.declared.answer.NativeAnswer.TheVariants as reported
+use Rattle.dj_natives.specs.Counting.{Counter}
+use Rattle.dj_natives.specs.Calls.{KeepsCounter, KeepsHeap, counting_of, flow_reported, given, part_with, typed_heap}
 use Rattle.dj_host.specs.Hosted.{with_answers}
-use Rattle.dj_types.specs.Typed.{types_of}
+use Rattle.dj_numbering.specs.Typed.{types_of}
 use Rattle.dj_image.specs.Imaged.{Imaged, program_of, typed_of}
-use Rattle.dj_activations.specs.Activations.{AreActivations, declared_at, frame_seen, frames_seen}
-use Rattle.dj_activations.proofs.Standing.{same_stand}
-use Rattle.dj_members.specs.Literals.{LiteralTable}
-use Rattle.dj_initialising.specs.Preparing.{parts}
-use Rattle.dj_initialising.specs.Store.{store}
+use Rattle.dj_current_method.specs.Activations.{AreActivations, declared_at, frame_seen, frames_seen}
+use Rattle.dj_current_method.proofs.Standing.{same_stand}
+use Rattle.dj_member_effects.specs.Literals.{LiteralTable}
+use Rattle.dj_initialisation.specs.Preparing.{parts}
+use Rattle.dj_initialisation.specs.Store.{store}
 use Rattle.dj_settling.specs.declared.settled.Settled.{Settled}
 use Rattle.dj_settling.specs.Reported.{reported_of}
 use Rattle.dj_settling.specs.Settling.{IsRewritten, IsStop, KeepsStop, Settles, native_settled, settled_reported}
 use Rattle.dj_settling.proofs.WayLaws.{settled_alike}
-use Rattle.dj_turning.specs.Running.{Counts, Running, account_of, state_of, terms_of}
-use Rattle.dj_turning.specs.Doing.{IsStill, TurnsBy, doing}
-use Rattle.dj_turning.specs.Natives.{AnswersNative, CallsNative, NativeSettles, arguments_in}
-use Rattle.dj_turning.proofs.Stops.{stop_kept}
+use Rattle.dj_image_step.specs.Running.{Counts, Running, account_of, state_of, terms_of}
+use Rattle.dj_image_step.specs.Doing.{IsStill, TurnsBy, doing}
+use Rattle.dj_image_step.specs.Natives.{AnswersNative, CallsNative, NativeSettles, arguments_in}
+use Rattle.dj_image_step.proofs.Stops.{stop_kept}
 
 -- ---- who counts
 

@@ -7,11 +7,11 @@ use Rattle.dj_names.specs.declared.native.NativeId.TheVariants as natives
 use Rattle.dj_model.specs.trusted.Natives.{reference}
 use Rattle.dj_heap.specs.Heaps.{LimitedHeap}
 use Rattle.dj_stack.specs.Frames.{StackFrame, top_operands, top_room}
-use Rattle.dj_calls.specs.declared.answer.NativeAnswer.{NativeAnswer}
-use Rattle.dj_calls.specs.declared.answer.NativeAnswer.TheVariants as reported
+use Rattle.dj_natives.specs.declared.answer.NativeAnswer.{NativeAnswer}
+use Rattle.dj_natives.specs.declared.answer.NativeAnswer.TheVariants as reported
 use Rattle.dj_image.specs.Imaged.{Imaged}
 use Rattle.dj_settling.specs.Settling.{IsRewritten, IsThrown, StopsBy}
-use Rattle.dj_turning.specs.Natives.{IsAwaited}
+use Rattle.dj_image_step.specs.Natives.{IsAwaited}
 
 -- ---- what may stop the run
 

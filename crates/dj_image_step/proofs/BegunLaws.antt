@@ -14,39 +14,39 @@ use Rattle.dj_model.specs.trusted.State.{Account, Flow, Effect, Part}
 use Rattle.dj_heap.specs.Heaps.{LimitedHeap}
 use Rattle.dj_stack.specs.Frames.{StackFrame}
 use Rattle.dj_effects.specs.declared.way.Way.TheVariants as ways
-use Rattle.dj_calls.specs.Known.{AreKnown}
-use Rattle.dj_types.specs.Typed.{types_of}
+use Rattle.dj_natives.specs.Known.{AreKnown}
+use Rattle.dj_numbering.specs.Typed.{types_of}
 use Rattle.dj_image.specs.Imaged.{Imaged, program_of, typed_of}
 use Rattle.dj_host.specs.trusted.Hosted.{given_since}
-use Rattle.dj_activations.specs.Activations.{AreActivations}
-use Rattle.dj_activations.specs.Instructions.{instruction_of_number}
-use Rattle.dj_activations.proofs.Standing.{same_stand}
-use Rattle.dj_initialising.specs.Store.{store}
+use Rattle.dj_current_method.specs.Activations.{AreActivations}
+use Rattle.dj_current_method.specs.Instructions.{instruction_of_number}
+use Rattle.dj_current_method.proofs.Standing.{same_stand}
+use Rattle.dj_initialisation.specs.Store.{store}
 use Rattle.dj_unwinding.specs.Short.{AreShort}
-use Rattle.dj_initialising.specs.declared.prepare.Prepared.TheVariants as prepares
-use Rattle.dj_acting.specs.declared.acted.Acted.{Acted}
-use Rattle.dj_acting.specs.declared.acted.Acted.TheVariants as acts
-use Rattle.dj_acting.specs.declared.begun.Begun.{Begun}
-use Rattle.dj_acting.specs.declared.begun.Begun.TheVariants as begins
-use Rattle.dj_acting.specs.Acting.{Acts, ActsOnHeap, Machine, effect_reported, flow_reported, machine, part_of}
-use Rattle.dj_acting.specs.Begun.{BeginsBy, Goes, IsGone, IsKnownAfter, IsKnownThen}
-use Rattle.dj_acting.proofs.Reported.{acted_so}
+use Rattle.dj_initialisation.specs.declared.prepare.Prepared.TheVariants as prepares
+use Rattle.dj_image_effects.specs.declared.acted.Acted.{Acted}
+use Rattle.dj_image_effects.specs.declared.acted.Acted.TheVariants as acts
+use Rattle.dj_image_effects.specs.declared.begun.Begun.{Begun}
+use Rattle.dj_image_effects.specs.declared.begun.Begun.TheVariants as begins
+use Rattle.dj_image_effects.specs.Acting.{Acts, ActsOnHeap, Machine, effect_reported, flow_reported, machine, part_of}
+use Rattle.dj_image_effects.specs.Begun.{BeginsBy, Goes, IsGone, IsKnownAfter, IsKnownThen}
+use Rattle.dj_image_effects.proofs.Reported.{acted_so}
 use Rattle.dj_settling.specs.declared.settled.Settled.{Settled}
 use Rattle.dj_settling.specs.declared.settled.Settled.TheVariants as settles
 use Rattle.dj_settling.proofs.WayLaws.{went_on, went_to}
-use Rattle.dj_turning.specs.Begun.{Begins, IsBegun, IsFrugalBegun, IsLeft, with_heap}
-use Rattle.dj_turning.specs.Running.{IsKept, IsRunning, Kept, Running, account_of, terms_of}
-use Rattle.dj_turning.specs.Doing.{ActedSettles, IsStill, IsTop, IsUsed, TurnsBy, stepping}
-use Rattle.dj_turning.specs.Frugal.{IsFrugalActed, IsFrugalRun, IsReadyFor}
-use Rattle.dj_turning.specs.Turning.{MakesStep}
-use Rattle.dj_turning.proofs.ActedLaws.{acted_then}
-use Rattle.dj_turning.proofs.HostLaws.{none_given}
-use Rattle.dj_turning.proofs.Performed.{none_then, still_of}
-use Rattle.dj_turning.proofs.Prepared.{next_turns, prepared_already, ready_then}
-use Rattle.dj_turning.proofs.SoundNext.{does_soundly, sound_next}
-use Rattle.dj_turning.proofs.SoundRuns.{frugal_for, ready_for}
-use Rattle.dj_turning.proofs.Tops.{next_is}
-use Rattle.dj_turning.proofs.Turned.{turned, turned_so}
+use Rattle.dj_image_step.specs.Begun.{Begins, IsBegun, IsFrugalBegun, IsLeft, with_heap}
+use Rattle.dj_image_step.specs.Running.{IsKept, IsRunning, Kept, Running, account_of, terms_of}
+use Rattle.dj_image_step.specs.Doing.{ActedSettles, IsStill, IsTop, IsUsed, TurnsBy, stepping}
+use Rattle.dj_image_step.specs.Frugal.{IsFrugalActed, IsFrugalRun, IsReadyFor}
+use Rattle.dj_image_step.specs.Turning.{MakesStep}
+use Rattle.dj_image_step.proofs.ActedLaws.{acted_then}
+use Rattle.dj_image_step.proofs.HostLaws.{none_given}
+use Rattle.dj_image_step.proofs.Performed.{none_then, still_of}
+use Rattle.dj_image_step.proofs.Prepared.{next_turns, prepared_already, ready_then}
+use Rattle.dj_image_step.proofs.SoundNext.{does_soundly, sound_next}
+use Rattle.dj_image_step.proofs.SoundRuns.{frugal_for, ready_for}
+use Rattle.dj_image_step.proofs.Tops.{next_is}
+use Rattle.dj_image_step.proofs.Turned.{turned, turned_so}
 
 -- ---- what was done of the instruction
 

@@ -30,28 +30,28 @@ use Rattle.dj_model.specs.trusted.Step.{settle, settled, part_of}
 use Rattle.dj_model.specs.trusted.Performing.{native}
 use Rattle.dj_heap.specs.Heaps.{LimitedHeap}
 use Rattle.dj_stack.specs.Frames.{StackFrame, top_method, top_operands}
-use Rattle.dj_calls.specs.Counting.{Counter}
+use Rattle.dj_natives.specs.Counting.{Counter}
 use Rattle.dj_image.specs.Imaged.{Imaged, program_of}
-use Rattle.dj_activations.specs.Activations.{AreActivations, declared_at, frame_seen, frames_seen}
-use Rattle.dj_activations.proofs.Numbers.{declared_there}
-use Rattle.dj_initialising.specs.Store.{Store, store}
-use Rattle.dj_initialising.specs.Preparing.{parts}
-use Rattle.dj_linking.specs.Linked.{class_name}
-use Rattle.dj_invoking.specs.declared.answers.Invoked.{Invoked}
-use Rattle.dj_invoking.specs.declared.answers.Invoked.TheVariants as invoked
-use Rattle.dj_invoking.specs.Invoking.{Site, CallIs, Enters, GoesOn, Invokes, IsTooDeep, left_part, left_values, site, taken_kinds, taken_values}
-use Rattle.dj_invoking.specs.Receivers.{typed_heap}
-use Rattle.dj_invoking.specs.Operands.{with_operands}
-use Rattle.dj_invoking.proofs.Calling.{deep_called, entered_called}
-use Rattle.dj_invoking.proofs.SignatureFacts.{kinds_there}
+use Rattle.dj_current_method.specs.Activations.{AreActivations, declared_at, frame_seen, frames_seen}
+use Rattle.dj_current_method.proofs.Numbers.{declared_there}
+use Rattle.dj_initialisation.specs.Store.{Store, store}
+use Rattle.dj_initialisation.specs.Preparing.{parts}
+use Rattle.dj_resolution.specs.Linked.{class_name}
+use Rattle.dj_invocation.specs.declared.answers.Invoked.{Invoked}
+use Rattle.dj_invocation.specs.declared.answers.Invoked.TheVariants as invoked
+use Rattle.dj_invocation.specs.Invoking.{Site, CallIs, Enters, GoesOn, Invokes, IsTooDeep, left_part, left_values, site, taken_kinds, taken_values}
+use Rattle.dj_invocation.specs.Receivers.{typed_heap}
+use Rattle.dj_invocation.specs.Operands.{with_operands}
+use Rattle.dj_invocation.proofs.Calling.{deep_called, entered_called}
+use Rattle.dj_invocation.proofs.SignatureFacts.{kinds_there}
 use Rattle.dj_settling.specs.declared.settled.Settled.{Settled}
 use Rattle.dj_settling.specs.declared.settled.Settled.TheVariants as settles
 use Rattle.dj_settling.specs.Reported.{reported_of}
 use Rattle.dj_settling.specs.Settling.{IsStop, Settles, raising, settled_reported}
-use Rattle.dj_turning.specs.Running.{Running, account_of, state_of, terms_of}
-use Rattle.dj_turning.specs.Doing.{IsStill, TurnsBy, doing}
-use Rattle.dj_turning.specs.Natives.{AreGiven, CallsNative, IsQuiet}
-use Rattle.dj_turning.specs.Calling.{IsInvoked}
+use Rattle.dj_image_step.specs.Running.{Running, account_of, state_of, terms_of}
+use Rattle.dj_image_step.specs.Doing.{IsStill, TurnsBy, doing}
+use Rattle.dj_image_step.specs.Natives.{AreGiven, CallsNative, IsQuiet}
+use Rattle.dj_image_step.specs.Calling.{IsInvoked}
 
 -- ---- what is left of the frames stands
 

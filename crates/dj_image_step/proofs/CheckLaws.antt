@@ -12,17 +12,17 @@ use Rattle.dj_heap.specs.Heaps.{LimitedHeap, object_in}
 use Rattle.dj_heap.specs.Calls.{made_as}
 use Rattle.dj_heap.specs.declared.object.Made.TheVariants as made
 use Rattle.dj_stack.specs.Frames.{StackFrame, frame_at, top_operands, top_room}
-use Rattle.dj_calls.specs.Known.{AreKnown}
-use Rattle.dj_calls.proofs.Performed.{known_at}
+use Rattle.dj_natives.specs.Known.{AreKnown}
+use Rattle.dj_natives.proofs.Performed.{known_at}
 use Rattle.dj_program.specs.trusted.Codes.{code_in}
 use Rattle.dj_program.specs.Views.{parts_of}
 use Rattle.dj_program.specs.declared.code.MethodCode.{MethodCode}
-use Rattle.dj_types.specs.Typed.{types_of}
-use Rattle.dj_types.specs.Members.{all_methods}
+use Rattle.dj_numbering.specs.Typed.{types_of}
+use Rattle.dj_numbering.specs.Members.{all_methods}
 use Rattle.dj_image.specs.Imaged.{Imaged, program_of, typed_of}
-use Rattle.dj_activations.specs.Activations.{AreActivations, IsActivation, declared_at}
-use Rattle.dj_activations.specs.Reported.{IsCodeOf}
-use Rattle.dj_activations.proofs.Standing.{code_of_activation, method_within}
+use Rattle.dj_current_method.specs.Activations.{AreActivations, IsActivation, declared_at}
+use Rattle.dj_current_method.specs.Reported.{IsCodeOf}
+use Rattle.dj_current_method.proofs.Standing.{code_of_activation, method_within}
 use Rattle.dj_unwinding.proofs.Tops.{on_top}
 use Rattle.dj_settling.specs.Settling.{IsThrown}
 

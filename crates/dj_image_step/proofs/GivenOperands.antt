@@ -5,7 +5,7 @@ use Rattle.std.proofs.lemmas.Option.{same_Some}
 use Rattle.dj_ops.specs.declared.instruction.Instr.{Instr}
 use Rattle.dj_ops.specs.declared.instruction.Instr.TheVariants as instrs
 use Rattle.dj_pool.specs.trusted.Pool.{Constant}
-use Rattle.dj_check.specs.trusted.Instructions.{index_of}
+use Rattle.dj_early_rules.specs.trusted.Instructions.{index_of}
 use Rattle.dj_program.specs.trusted.Naming.{named_if}
 use Rattle.dj_model.specs.trusted.Types.{Prefix}
 use Rattle.dj_model.specs.trusted.Program.{Program}
@@ -18,15 +18,15 @@ use Rattle.dj_image.specs.Imaged.{Imaged, IsNumbered, program_of}
 use Rattle.dj_image.specs.Operands.{class_operand, field_operand, made_operand, named_operand, operand_by, operand_of, takes_named, text_operand}
 use Rattle.dj_image.specs.declared.operand.Operand.{Operand}
 use Rattle.dj_image.specs.declared.operand.Operand.TheVariants as operands
-use Rattle.dj_activations.specs.Instructions.{IsInstrAt, instruction_of_number}
-use Rattle.dj_activations.proofs.InstructionFacts.{operand_is}
-use Rattle.dj_acting.specs.Frugal.{LoadsByKnown, makes}
-use Rattle.dj_acting.specs.Operands as acting
-use Rattle.dj_acting.specs.Used.{IsOperandUsed}
-use Rattle.dj_acting.proofs.Resolved.{resolved}
-use Rattle.dj_acting.proofs.Standing.{linked_at}
-use Rattle.dj_acting.proofs.Using.{no_index}
-use Rattle.dj_turning.specs.Uses.{is_given}
+use Rattle.dj_current_method.specs.Instructions.{IsInstrAt, instruction_of_number}
+use Rattle.dj_current_method.proofs.InstructionFacts.{operand_is}
+use Rattle.dj_image_effects.specs.Frugal.{LoadsByKnown, makes}
+use Rattle.dj_image_effects.specs.Operands as acting
+use Rattle.dj_image_effects.specs.Used.{IsOperandUsed}
+use Rattle.dj_image_effects.proofs.Resolved.{resolved}
+use Rattle.dj_image_effects.proofs.Standing.{linked_at}
+use Rattle.dj_image_effects.proofs.Using.{no_index}
+use Rattle.dj_image_step.specs.Uses.{is_given}
 
 -- ---- operands of methods
 

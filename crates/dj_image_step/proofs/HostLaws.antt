@@ -17,15 +17,15 @@ use Rattle.dj_model.specs.trusted.State.{Flow}
 use Rattle.dj_heap.specs.Heaps.{LimitedHeap, object_in}
 use Rattle.dj_heap.specs.Calls.{made_as}
 use Rattle.dj_heap.specs.declared.object.Made.TheVariants as made
-use Rattle.dj_calls.specs.declared.answer.NativeAnswer.{NativeAnswer}
-use Rattle.dj_calls.specs.Counting.{Counter}
-use Rattle.dj_calls.specs.Calls.{Calls, Does, flow_reported}
-use Rattle.dj_calls.specs.Known.{IsFitting, IsOfChars}
+use Rattle.dj_natives.specs.declared.answer.NativeAnswer.{NativeAnswer}
+use Rattle.dj_natives.specs.Counting.{Counter}
+use Rattle.dj_natives.specs.Calls.{Calls, Does, flow_reported}
+use Rattle.dj_natives.specs.Known.{IsFitting, IsOfChars}
 use Rattle.dj_host.specs.trusted.Hosted.{given_since}
 use Rattle.dj_host.specs.Hosted.{AreOfKind, CallsHost, Takes, is_hosted, with_answers}
-use Rattle.dj_types.specs.Typed.{types_of}
+use Rattle.dj_numbering.specs.Typed.{types_of}
 use Rattle.dj_image.specs.Imaged.{Imaged, program_of, typed_of}
-use Rattle.dj_turning.specs.Natives.{AnswersNative, IsQuiet}
+use Rattle.dj_image_step.specs.Natives.{AnswersNative, IsQuiet}
 
 -- ---- arguments
 

@@ -23,7 +23,7 @@ use Rattle.dj_model.specs.trusted.Effects.{effect, used_class}
 use Rattle.dj_model.specs.trusted.Initialisation.{Ready, Waits, is_initialised, mark, with_constants, constants_of, initialise, new_frame}
 use Rattle.dj_model.specs.trusted.Step.{Ended, Went, part_of, prepared, settle, step, unwound}
 use Rattle.dj_model.specs.SmallRuns.{a_type, a_with, c_type, catch, class, class_with, code, entry, field, field_with, initialiser_with, interface_method, lang_name, constant, method, method_desc, method_with, newarray, op, throws_plainly, verify_with}
-use Rattle.dj_turning.specs.Memory.{NeedsNoMemory, makes, raises}
+use Rattle.dj_image_step.specs.Memory.{NeedsNoMemory, makes, raises}
 use Rattle.dj_ops.specs.Mnemonics.{nop, iconst_5, aload_0, iaload, iastore, pop, iadd, ireturn, areturn, return, getstatic, getfield, putfield, invokevirtual, invokespecial, invokestatic, new, anewarray, arraylength, athrow, checkcast, instanceof}
 
 -- ---- which instructions make something

@@ -7,18 +7,18 @@ use Rattle.dj_model.specs.trusted.Types.{Declared}
 use Rattle.dj_model.specs.trusted.State.{State, Terms}
 use Rattle.dj_model.specs.trusted.Step.{StepAnswer}
 use Rattle.dj_stack.specs.Frames.{StackFrame, top_method}
-use Rattle.dj_linking.specs.Linked.{class_name}
+use Rattle.dj_resolution.specs.Linked.{class_name}
 use Rattle.dj_host.specs.trusted.Hosted.{given_since}
-use Rattle.dj_types.specs.Members.{IsMethodThere}
-use Rattle.dj_types.specs.declared.types.MemberOf.{MemberOf}
+use Rattle.dj_numbering.specs.Members.{IsMethodThere}
+use Rattle.dj_numbering.specs.declared.types.MemberOf.{MemberOf}
 use Rattle.dj_image.specs.Imaged.{Imaged, program_of, typed_of}
-use Rattle.dj_activations.specs.Activations.{declared_at}
-use Rattle.dj_activations.proofs.Numbers.{declared_there}
+use Rattle.dj_current_method.specs.Activations.{declared_at}
+use Rattle.dj_current_method.proofs.Numbers.{declared_there}
 use Rattle.dj_settling.specs.declared.settled.Settled.{Settled}
-use Rattle.dj_turning.specs.Running.{IsRunning, Running}
-use Rattle.dj_turning.specs.Doing.{IsStill, IsTop, TurnsBy}
-use Rattle.dj_turning.proofs.HostLaws.{none_given}
-use Rattle.dj_turning.proofs.UsedLaws.{class_named}
+use Rattle.dj_image_step.specs.Running.{IsRunning, Running}
+use Rattle.dj_image_step.specs.Doing.{IsStill, IsTop, TurnsBy}
+use Rattle.dj_image_step.proofs.HostLaws.{none_given}
+use Rattle.dj_image_step.proofs.UsedLaws.{class_named}
 
 pub still_of : (imaged : Imaged) (r : Running) → IsRunning imaged r → IsStill imaged r
 still_of imaged r running = record { flags = running.flags; store = running.store; activations = running.activations; known = running.known; counts = running.counts }

@@ -22,24 +22,24 @@ use Rattle.dj_model.proofs.Frames.{KeepsMore, all_constants_keep}
 use Rattle.dj_model.proofs.Growth.{grows_same}
 use Rattle.dj_model.proofs.StepFits.{AnswerFits, begun_fit, initialise_fit}
 use Rattle.dj_stack.specs.Frames.{StackFrame}
-use Rattle.dj_calls.specs.Calls.{counting_of}
-use Rattle.dj_calls.specs.Counting.{Counter}
-use Rattle.dj_calls.specs.Known.{AreKnown}
-use Rattle.dj_types.specs.Typed.{types_of}
+use Rattle.dj_natives.specs.Calls.{counting_of}
+use Rattle.dj_natives.specs.Counting.{Counter}
+use Rattle.dj_natives.specs.Known.{AreKnown}
+use Rattle.dj_numbering.specs.Typed.{types_of}
 use Rattle.dj_image.specs.Imaged.{Imaged, program_of, typed_of}
-use Rattle.dj_activations.specs.Activations.{frames_seen}
-use Rattle.dj_activations.specs.Instructions.{instruction_of_number}
-use Rattle.dj_initialising.specs.declared.prepare.Prepared.{Prepared}
-use Rattle.dj_initialising.specs.declared.prepare.Prepared.TheVariants as prepares
-use Rattle.dj_initialising.specs.Preparing.{Parts, Prepares, prepared_reported, with_parts}
+use Rattle.dj_current_method.specs.Activations.{frames_seen}
+use Rattle.dj_current_method.specs.Instructions.{instruction_of_number}
+use Rattle.dj_initialisation.specs.declared.prepare.Prepared.{Prepared}
+use Rattle.dj_initialisation.specs.declared.prepare.Prepared.TheVariants as prepares
+use Rattle.dj_initialisation.specs.Preparing.{Parts, Prepares, prepared_reported, with_parts}
 use Rattle.dj_settling.specs.declared.settled.Settled.{Settled}
 use Rattle.dj_settling.specs.declared.settled.Settled.TheVariants as settles
 use Rattle.dj_settling.specs.Reported.{reported_of}
 use Rattle.dj_settling.specs.Settling.{IsStop, KeepsStop, settled_reported}
-use Rattle.dj_turning.specs.Running.{IsRunning, Running, account_of, state_of, terms_of}
-use Rattle.dj_turning.specs.Doing.{IsStill, IsTop, IsUsed, PreparesNext, TurnsBy, doing, doing_next, doing_on, doing_some, next_of, stepping}
-use Rattle.dj_turning.proofs.Stops.{stop_kept}
-use Rattle.dj_turning.proofs.Tops.{next_is, top_stands}
+use Rattle.dj_image_step.specs.Running.{IsRunning, Running, account_of, state_of, terms_of}
+use Rattle.dj_image_step.specs.Doing.{IsStill, IsTop, IsUsed, PreparesNext, TurnsBy, doing, doing_next, doing_on, doing_some, next_of, stepping}
+use Rattle.dj_image_step.proofs.Stops.{stop_kept}
+use Rattle.dj_image_step.proofs.Tops.{next_is, top_stands}
 
 -- ---- what the initialisation of a class reports
 

@@ -14,12 +14,12 @@ use Rattle.dj_program.specs.trusted.Codes.{code_in, range_in}
 use Rattle.dj_program.specs.trusted.Naming.{instruction_in}
 use Rattle.dj_program.specs.Views.{parts_of}
 use Rattle.dj_program.specs.declared.code.MethodCode.{MethodCode}
-use Rattle.dj_types.specs.Members.{all_methods}
+use Rattle.dj_numbering.specs.Members.{all_methods}
 use Rattle.dj_image.specs.Imaged.{Imaged, program_of}
 use Rattle.dj_image.specs.Codes.{IsBodyAt, PooledCode, SaysBody}
 use Rattle.dj_image.specs.declared.image.Body.TheVariants as variants
 use Rattle.dj_unwinding.specs.Short.{AreShort}
-use Rattle.dj_turning.specs.Short.{AreBounded, IsBounded, LoadByKnown, is_known_load}
+use Rattle.dj_image_step.specs.Short.{AreBounded, IsBounded, LoadByKnown, is_known_load}
 
 -- the body that is reported is that of each method that stands there
 runs_there : (imaged : Imaged) (method : ℕ) (found other : FoundMethod) (code : Code) → slice_get (all_methods (program_of imaged)) method ≡ Some other

@@ -25,20 +25,20 @@ use Rattle.dj_model.specs.trusted.Performing.{class_in}
 use Rattle.dj_model.specs.trusted.Step.{Went, frame_with, part_of, settle, settled, with_part}
 use Rattle.dj_model.specs.Sound.{IsSound}
 use Rattle.dj_model.specs.Standing.{AreCallers, AreStanding, IsAt, IsCaller, IsSoundFlow, IsWaiting, result_of}
-use Rattle.dj_natives.specs.Numbered as numbered
+use Rattle.dj_library_types.specs.Numbered as numbered
 use Rattle.dj_heap.specs.Heaps.{LimitedHeap, object_in}
 use Rattle.dj_stack.specs.Frames.{StackFrame, SameFrames, top_locals, top_operands}
 use Rattle.dj_effects.specs.Does.{way_view}
 use Rattle.dj_effects.specs.declared.way.Way.{Way}
 use Rattle.dj_effects.specs.declared.way.Way.TheVariants as ways
-use Rattle.dj_calls.specs.Calls.{typed_heap}
-use Rattle.dj_calls.specs.Known.{AreKnown}
-use Rattle.dj_calls.proofs.Performed.{known_at}
-use Rattle.dj_calls.proofs.SeenFacts.{object_alike}
-use Rattle.dj_types.specs.Typed.{types_of}
+use Rattle.dj_natives.specs.Calls.{typed_heap}
+use Rattle.dj_natives.specs.Known.{AreKnown}
+use Rattle.dj_natives.proofs.Performed.{known_at}
+use Rattle.dj_natives.proofs.SeenFacts.{object_alike}
+use Rattle.dj_numbering.specs.Typed.{types_of}
 use Rattle.dj_image.specs.Imaged.{Imaged, program_of, typed_of}
-use Rattle.dj_activations.specs.Activations.{AreActivations, declared_at, frame_seen, frames_seen}
-use Rattle.dj_activations.proofs.Calls.{waiting_room}
+use Rattle.dj_current_method.specs.Activations.{AreActivations, declared_at, frame_seen, frames_seen}
+use Rattle.dj_current_method.proofs.Calls.{waiting_room}
 use Rattle.dj_unwinding.specs.Returns.{HasRoomBelow}
 use Rattle.dj_unwinding.specs.Resuming.{HasRoom}
 use Rattle.dj_unwinding.specs.Short.{AreShort}
@@ -47,18 +47,18 @@ use Rattle.dj_settling.specs.Settling.{HasRoomFor, IsThrown, seen_in, top_settle
 use Rattle.dj_settling.specs.Reported.{On, reported_of}
 use Rattle.dj_settling.proofs.ThrowLaws.{class_there}
 use Rattle.dj_settling.proofs.WayLaws.{settled_alike}
-use Rattle.dj_acting.specs.declared.acted.Acted.{Acted}
-use Rattle.dj_acting.specs.declared.acted.Acted.TheVariants as acts
-use Rattle.dj_acting.specs.Acting.{Acts, IsActed, Machine, acted_operands, flow_reported, machine, part_with}
-use Rattle.dj_initialising.specs.Store.{Store}
-use Rattle.dj_turning.specs.Doing.{next_of}
-use Rattle.dj_turning.specs.Frugal.{IsFrugalActed, IsFrugalRun, IsReadyFor}
-use Rattle.dj_turning.specs.Memory.{NeedsNoMemory, is_raise, makes, raises}
-use Rattle.dj_turning.specs.Running.{IsRunning, Running, account_of, state_of, terms_of}
-use Rattle.dj_turning.proofs.ActedLaws.{acts_of, left_alike}
-use Rattle.dj_turning.proofs.SoundFlows.{IsThrowable, effect_throwable, effect_went}
-use Rattle.dj_turning.proofs.SoundNext.{IsSoundNext, makes_no_call, short_at_frame, sound_next, sound_reported}
-use Rattle.dj_turning.proofs.Turned.{on_went}
+use Rattle.dj_image_effects.specs.declared.acted.Acted.{Acted}
+use Rattle.dj_image_effects.specs.declared.acted.Acted.TheVariants as acts
+use Rattle.dj_image_effects.specs.Acting.{Acts, IsActed, Machine, acted_operands, flow_reported, machine, part_with}
+use Rattle.dj_initialisation.specs.Store.{Store}
+use Rattle.dj_image_step.specs.Doing.{next_of}
+use Rattle.dj_image_step.specs.Frugal.{IsFrugalActed, IsFrugalRun, IsReadyFor}
+use Rattle.dj_image_step.specs.Memory.{NeedsNoMemory, is_raise, makes, raises}
+use Rattle.dj_image_step.specs.Running.{IsRunning, Running, account_of, state_of, terms_of}
+use Rattle.dj_image_step.proofs.ActedLaws.{acts_of, left_alike}
+use Rattle.dj_image_step.proofs.SoundFlows.{IsThrowable, effect_throwable, effect_went}
+use Rattle.dj_image_step.proofs.SoundNext.{IsSoundNext, makes_no_call, short_at_frame, sound_next, sound_reported}
+use Rattle.dj_image_step.proofs.Turned.{on_went}
 
 -- ---- objects that are thrown
 

@@ -42,7 +42,7 @@ use Rattle.dj_model.specs.Standing.{IsAmong, IsAt}
 use Rattle.dj_model.proofs.Flows.{either_way}
 use Rattle.dj_model.proofs.SoundLinks.{both_parts}
 use Rattle.dj_model.proofs.SoundFrames.{contained, is_held, within}
-use Rattle.dj_turning.specs.Memory.{NeedsNoMemory}
+use Rattle.dj_image_step.specs.Memory.{NeedsNoMemory}
 
 -- ---- types of thrown objects
 

@@ -28,14 +28,14 @@ use Rattle.dj_model.proofs.SoundCalls.{kinds_kept}
 use Rattle.dj_model.proofs.SoundFrames.{all_at, code_is, contained, is_held, left_there, method_is}
 use Rattle.dj_stack.specs.Frames.{StackFrame, top_locals, top_method, top_number, top_operands, top_room}
 use Rattle.dj_image.specs.Imaged.{Imaged, program_of}
-use Rattle.dj_activations.specs.Activations.{AreActivations, IsActivation, declared_at, frame_seen, frames_seen}
-use Rattle.dj_activations.proofs.Calls.{result_is}
-use Rattle.dj_activations.proofs.Standing.{code_of_activation}
+use Rattle.dj_current_method.specs.Activations.{AreActivations, IsActivation, declared_at, frame_seen, frames_seen}
+use Rattle.dj_current_method.proofs.Calls.{result_is}
+use Rattle.dj_current_method.proofs.Standing.{code_of_activation}
 use Rattle.dj_unwinding.specs.Short.{AreShort, IsShort}
-use Rattle.dj_turning.specs.Memory.{makes}
-use Rattle.dj_turning.specs.Doing.{next_of}
-use Rattle.dj_turning.proofs.SoundFlows.{next_within, target_within}
-use Rattle.dj_turning.proofs.Turned.{starves}
+use Rattle.dj_image_step.specs.Memory.{makes}
+use Rattle.dj_image_step.specs.Doing.{next_of}
+use Rattle.dj_image_step.proofs.SoundFlows.{next_within, target_within}
+use Rattle.dj_image_step.proofs.Turned.{starves}
 
 -- ---- what an instruction leaves fits
 

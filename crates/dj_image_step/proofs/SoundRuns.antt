@@ -21,39 +21,39 @@ use Rattle.dj_model.specs.Standing.{AreStanding}
 use Rattle.dj_model.specs.trusted.Step.{Went, part_of, prepared, settled}
 use Rattle.dj_heap.specs.Heaps.{LimitedHeap}
 use Rattle.dj_stack.specs.Frames.{StackFrame, top_method, top_operands, top_room}
-use Rattle.dj_calls.specs.Calls.{counting_of}
-use Rattle.dj_calls.specs.Counting.{Counter}
-use Rattle.dj_calls.specs.Known.{AreKnown}
-use Rattle.dj_types.specs.Typed.{types_of}
+use Rattle.dj_natives.specs.Calls.{counting_of}
+use Rattle.dj_natives.specs.Counting.{Counter}
+use Rattle.dj_natives.specs.Known.{AreKnown}
+use Rattle.dj_numbering.specs.Typed.{types_of}
 use Rattle.dj_image.specs.Imaged.{Imaged, program_of, typed_of}
-use Rattle.dj_activations.specs.Activations.{AreActivations, frame_seen, frames_seen}
-use Rattle.dj_activations.specs.Instructions.{instruction_of_number}
-use Rattle.dj_classes.specs.Tables.{class_numbers}
-use Rattle.dj_linking.specs.Linked.{class_name}
-use Rattle.dj_linking.proofs.Resolution.{number_of_name}
-use Rattle.dj_initialising.specs.Flags.{has_begun, not_begun}
-use Rattle.dj_initialising.specs.Store.{Store}
-use Rattle.dj_initialising.specs.Waiting.{names_of}
-use Rattle.dj_initialising.proofs.FlagLaws.{waits}
-use Rattle.dj_initialising.proofs.PlaceLaws.{names_differ}
-use Rattle.dj_initialising.specs.Preparing.{with_parts}
-use Rattle.dj_initialising.specs.declared.prepare.Prepared.TheVariants as prepares
+use Rattle.dj_current_method.specs.Activations.{AreActivations, frame_seen, frames_seen}
+use Rattle.dj_current_method.specs.Instructions.{instruction_of_number}
+use Rattle.dj_class_table.specs.Tables.{class_numbers}
+use Rattle.dj_resolution.specs.Linked.{class_name}
+use Rattle.dj_resolution.proofs.Resolution.{number_of_name}
+use Rattle.dj_initialisation.specs.Flags.{has_begun, not_begun}
+use Rattle.dj_initialisation.specs.Store.{Store}
+use Rattle.dj_initialisation.specs.Waiting.{names_of}
+use Rattle.dj_initialisation.proofs.FlagLaws.{waits}
+use Rattle.dj_initialisation.proofs.PlaceLaws.{names_differ}
+use Rattle.dj_initialisation.specs.Preparing.{with_parts}
+use Rattle.dj_initialisation.specs.declared.prepare.Prepared.TheVariants as prepares
 use Rattle.dj_unwinding.specs.Short.{AreShort}
-use Rattle.dj_acting.specs.declared.acted.Acted.{Acted}
-use Rattle.dj_acting.specs.Acting.{IsActed, Machine, machine, part_with}
-use Rattle.dj_acting.specs.Frugal as acting
-use Rattle.dj_acting.specs.Frugal.{HasRoomAfter}
-use Rattle.dj_types.specs.Members.{all_methods}
-use Rattle.dj_turning.specs.Doing.{IsTop, IsUsed, PreparesNext, next_of}
-use Rattle.dj_turning.specs.Frugal.{IsFrugalActed, IsFrugalRun, IsReadyFor}
-use Rattle.dj_turning.specs.Memory.{NeedsNoMemory, makes, raises}
-use Rattle.dj_turning.specs.Running.{IsRunning, Running, account_of, state_of, terms_of}
-use Rattle.dj_turning.proofs.SoundActed.{acted_frugal, acted_ready}
-use Rattle.dj_turning.proofs.SoundFlows.{effect_went}
-use Rattle.dj_turning.specs.Short.{AreBounded}
-use Rattle.dj_turning.proofs.SoundNext.{HasRoomLeft, does_soundly, makes_no_call, sound_next}
-use Rattle.dj_turning.proofs.SoundPrepared.{ready_initialised}
-use Rattle.dj_turning.proofs.Tops.{next_is}
+use Rattle.dj_image_effects.specs.declared.acted.Acted.{Acted}
+use Rattle.dj_image_effects.specs.Acting.{IsActed, Machine, machine, part_with}
+use Rattle.dj_image_effects.specs.Frugal as acting
+use Rattle.dj_image_effects.specs.Frugal.{HasRoomAfter}
+use Rattle.dj_numbering.specs.Members.{all_methods}
+use Rattle.dj_image_step.specs.Doing.{IsTop, IsUsed, PreparesNext, next_of}
+use Rattle.dj_image_step.specs.Frugal.{IsFrugalActed, IsFrugalRun, IsReadyFor}
+use Rattle.dj_image_step.specs.Memory.{NeedsNoMemory, makes, raises}
+use Rattle.dj_image_step.specs.Running.{IsRunning, Running, account_of, state_of, terms_of}
+use Rattle.dj_image_step.proofs.SoundActed.{acted_frugal, acted_ready}
+use Rattle.dj_image_step.proofs.SoundFlows.{effect_went}
+use Rattle.dj_image_step.specs.Short.{AreBounded}
+use Rattle.dj_image_step.proofs.SoundNext.{HasRoomLeft, does_soundly, makes_no_call, sound_next}
+use Rattle.dj_image_step.proofs.SoundPrepared.{ready_initialised}
+use Rattle.dj_image_step.proofs.Tops.{next_is}
 
 -- what was done in frames that stand is fit for what follows
 pub ready_for : (imaged : Imaged) → IsSound (program_of imaged) imaged.prefix → (frames : List StackFrame) (i : Instruction) (st : Store) (m : Machine) → AreActivations imaged frames

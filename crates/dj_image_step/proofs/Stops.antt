@@ -6,8 +6,8 @@ use Rattle.dj_model.specs.trusted.Types.{Prefix, is_stop}
 use Rattle.dj_model.specs.trusted.Step.{stop_from}
 use Rattle.dj_model.specs.Laws.{Grows, blank}
 use Rattle.dj_heap.specs.Heaps.{LimitedHeap}
-use Rattle.dj_calls.specs.Calls.{typed_heap}
-use Rattle.dj_types.specs.Typed.{types_of}
+use Rattle.dj_natives.specs.Calls.{typed_heap}
+use Rattle.dj_numbering.specs.Typed.{types_of}
 use Rattle.dj_image.specs.Imaged.{Imaged, typed_of}
 use Rattle.dj_settling.specs.Settling.{IsStop}
 

@@ -5,20 +5,20 @@ use Rattle.dj_names.specs.trusted.Types.{Name, class_type}
 use Rattle.dj_model.specs.trusted.Types.{throwable_name}
 use Rattle.dj_model.specs.trusted.Program.{Program}
 use Rattle.dj_model.specs.Sound.{IsSound}
-use Rattle.dj_classes.specs.Tables.{class_number}
-use Rattle.dj_linking.specs.Linked.{Linked, prefix_of}
-use Rattle.dj_linking.specs.declared.linker.BaseNames.{BaseNames}
-use Rattle.dj_types.specs.Typed.{types_of}
+use Rattle.dj_class_table.specs.Tables.{class_number}
+use Rattle.dj_resolution.specs.Linked.{Linked, prefix_of}
+use Rattle.dj_resolution.specs.declared.linker.BaseNames.{BaseNames}
+use Rattle.dj_numbering.specs.Typed.{types_of}
 use Rattle.dj_image.specs.Imaged.{Imaged, IsNumbered, program_of, typed_of}
 use Rattle.dj_image.proofs.Bare.{bare_program}
-use Rattle.dj_initialising.specs.Places.{ArePlaces}
-use Rattle.dj_initialising.specs.Initialisers.{AreInitialisers}
-use Rattle.dj_initialising.proofs.StartLaws.{texts_of_numbered}
-use Rattle.dj_invoking.specs.Natives.{AreNatives}
-use Rattle.dj_invoking.proofs.NativeFacts.{class_reported}
+use Rattle.dj_initialisation.specs.Places.{ArePlaces}
+use Rattle.dj_initialisation.specs.Initialisers.{AreInitialisers}
+use Rattle.dj_initialisation.proofs.StartLaws.{texts_of_numbered}
+use Rattle.dj_invocation.specs.Natives.{AreNatives}
+use Rattle.dj_invocation.proofs.NativeFacts.{class_reported}
 use Rattle.dj_settling.specs.Settling.{HasOwn}
-use Rattle.dj_turning.specs.Running.{IsKept, Kept}
-use Rattle.dj_turning.specs.Short.{AreBounded}
+use Rattle.dj_image_step.specs.Running.{IsKept, Kept}
+use Rattle.dj_image_step.specs.Short.{AreBounded}
 
 pub kept : (imaged : Imaged) (k : Kept) → IsSound (program_of imaged) imaged.prefix → IsNumbered imaged → HasOwn imaged → AreBounded imaged → ArePlaces (program_of imaged) k.places → AreInitialisers imaged k.initialisers
     → AreNatives imaged k.natives → slice_get (types_of (typed_of imaged)) k.throwable ≡ Some (class_type (throwable_name imaged.prefix)) → IsKept imaged k

@@ -5,12 +5,12 @@ use Rattle.dj_model.specs.trusted.State.{instruction_in}
 use Rattle.dj_model.specs.Standing.{AreStanding}
 use Rattle.dj_model.proofs.SoundFrames.{code_is}
 use Rattle.dj_stack.specs.Frames.{StackFrame, top_method, top_number}
-use Rattle.dj_types.specs.Members.{all_methods}
+use Rattle.dj_numbering.specs.Members.{all_methods}
 use Rattle.dj_image.specs.Imaged.{Imaged, program_of}
-use Rattle.dj_activations.specs.Activations.{AreActivations, declared_at, frames_seen}
-use Rattle.dj_activations.specs.Instructions.{HasInstruction, instruction_of_number}
-use Rattle.dj_activations.proofs.Standing.{top_within}
-use Rattle.dj_turning.specs.Doing.{IsTop, next_of}
+use Rattle.dj_current_method.specs.Activations.{AreActivations, declared_at, frames_seen}
+use Rattle.dj_current_method.specs.Instructions.{HasInstruction, instruction_of_number}
+use Rattle.dj_current_method.proofs.Standing.{top_within}
+use Rattle.dj_image_step.specs.Doing.{IsTop, next_of}
 
 pub some_standing : (program : Program) (frames : List StackFrame) → AreStanding program (frames_seen program frames) → 0 < length frames
 some_standing program [] standing = absurd standing

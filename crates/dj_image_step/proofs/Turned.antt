@@ -19,15 +19,15 @@ use Rattle.dj_model.specs.Laws.{AnswerGrows}
 use Rattle.dj_model.proofs.SoundRuns.{step_stands}
 use Rattle.dj_model.proofs.StepFits.{steps_grow}
 use Rattle.dj_image.specs.Imaged.{Imaged, program_of}
-use Rattle.dj_activations.specs.Activations.{frames_seen}
+use Rattle.dj_current_method.specs.Activations.{frames_seen}
 use Rattle.dj_settling.specs.declared.settled.Settled.{Settled}
 use Rattle.dj_settling.specs.declared.settled.Settled.TheVariants as settles
 use Rattle.dj_settling.specs.Reported.{On, reported_of}
 use Rattle.dj_settling.specs.Settling.{IsStop}
-use Rattle.dj_turning.specs.Running.{IsKept, IsRunning, Kept, Running, state_of, terms_of}
-use Rattle.dj_turning.specs.Turning.{MakesStep}
-use Rattle.dj_turning.specs.Doing.{TurnsBy, stepping}
-use Rattle.dj_turning.proofs.Stops.{stop_kept}
+use Rattle.dj_image_step.specs.Running.{IsKept, IsRunning, Kept, Running, state_of, terms_of}
+use Rattle.dj_image_step.specs.Turning.{MakesStep}
+use Rattle.dj_image_step.specs.Doing.{TurnsBy, stepping}
+use Rattle.dj_image_step.proofs.Stops.{stop_kept}
 
 -- ---- a call that finds no answer of the host is no step
 

@@ -11,13 +11,13 @@ use Rattle.dj_model.specs.trusted.Natives.{Nanos, Word}
 use Rattle.dj_model.specs.trusted.Step.{IllFormed}
 use Rattle.dj_model.specs.trusted.Runs.{empty_heap}
 use Rattle.dj_heap.specs.Heaps.{LimitedHeap}
-use Rattle.dj_calls.specs.Counting.{Counter}
+use Rattle.dj_natives.specs.Counting.{Counter}
 use Rattle.dj_image.specs.Imaged.{Imaged}
-use Rattle.dj_acting.specs.declared.acted.Acted.TheVariants as acts
+use Rattle.dj_image_effects.specs.declared.acted.Acted.TheVariants as acts
 use Rattle.dj_settling.specs.declared.settled.Settled.TheVariants as settles
-use Rattle.dj_turning.specs.Running.{Counts}
-use Rattle.dj_turning.specs.Doing.{ActedSettles, IsTop, IsUsed, doing_next}
-use Rattle.dj_turning.specs.Natives.{IsQuiet}
+use Rattle.dj_image_step.specs.Running.{Counts}
+use Rattle.dj_image_step.specs.Doing.{ActedSettles, IsTop, IsUsed, doing_next}
+use Rattle.dj_image_step.specs.Natives.{IsQuiet}
 
 abbrev image : Imaged
 image = record { sources = []; prefix = []; arrays = []; texts = [] }

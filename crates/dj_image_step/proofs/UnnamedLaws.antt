@@ -10,9 +10,9 @@ use Rattle.dj_effects.specs.Actions.{action_view}
 use Rattle.dj_effects.specs.declared.actions.PlainAction.{PlainAction}
 use Rattle.dj_effects.specs.declared.actions.PlainAction.TheVariants as actions
 use Rattle.dj_image.specs.Imaged.{Imaged}
-use Rattle.dj_activations.specs.Instructions.{IsInstrAt, instruction_of_number}
-use Rattle.dj_acting.specs.Unnamed.{IsUnnamed}
-use Rattle.dj_turning.specs.Doing.{IsUsed}
+use Rattle.dj_current_method.specs.Instructions.{IsInstrAt, instruction_of_number}
+use Rattle.dj_image_effects.specs.Unnamed.{IsUnnamed}
+use Rattle.dj_image_step.specs.Doing.{IsUsed}
 
 pub none_used : (imaged : Imaged) (action : PlainAction) → IsUsed imaged (action_view action) None
 unfolding used_class

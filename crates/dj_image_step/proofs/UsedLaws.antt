@@ -20,34 +20,34 @@ use Rattle.dj_model.specs.trusted.Linking.{FoundField, FoundMethod, member_class
 use Rattle.dj_model.specs.trusted.Effects.{field_class, method_class, used_class}
 use Rattle.dj_model.specs.Sound.{IsSound, is_linked}
 use Rattle.dj_effects.specs.Actions.{is_other}
-use Rattle.dj_classes.specs.Tables.{name_at, name_of}
-use Rattle.dj_linking.specs.Linked.{class_name}
-use Rattle.dj_types.specs.Members.{IsFieldThere, IsMethodThere, all_fields, all_methods}
-use Rattle.dj_types.specs.Typed.{type_number}
-use Rattle.dj_types.specs.declared.types.MethodId.{MethodId}
-use Rattle.dj_types.specs.declared.types.MemberOf.{MemberOf}
+use Rattle.dj_class_table.specs.Tables.{name_at, name_of}
+use Rattle.dj_resolution.specs.Linked.{class_name}
+use Rattle.dj_numbering.specs.Members.{IsFieldThere, IsMethodThere, all_fields, all_methods}
+use Rattle.dj_numbering.specs.Typed.{type_number}
+use Rattle.dj_numbering.specs.declared.types.MethodId.{MethodId}
+use Rattle.dj_numbering.specs.declared.types.MemberOf.{MemberOf}
 use Rattle.dj_image.specs.Codes.{IsOperandAt}
 use Rattle.dj_image.specs.Imaged.{Imaged, program_of, typed_of}
-use Rattle.dj_activations.specs.Instructions.{IsInstrAt, instruction_of_number}
-use Rattle.dj_activations.proofs.InstructionFacts.{operand_is}
+use Rattle.dj_current_method.specs.Instructions.{IsInstrAt, instruction_of_number}
+use Rattle.dj_current_method.proofs.InstructionFacts.{operand_is}
 use Rattle.dj_image.specs.declared.operand.Operand.{Operand}
 use Rattle.dj_image.specs.declared.operand.Operand.TheVariants as operands
-use Rattle.dj_invoking.specs.declared.choosing.Mode.{Mode}
-use Rattle.dj_invoking.specs.declared.choosing.Mode.TheVariants as modes
-use Rattle.dj_invoking.specs.Choosing.{IsMethod, reported_mode}
-use Rattle.dj_invoking.specs.declared.site.CallSite.{CallSite}
-use Rattle.dj_invoking.specs.Sites.{IsCallAt}
-use Rattle.dj_invoking.proofs.Bodies.{static_mode}
-use Rattle.dj_acting.specs.declared.uses.ClassUse.{ClassUse}
-use Rattle.dj_acting.specs.declared.uses.ClassUse.TheVariants as classes
-use Rattle.dj_acting.specs.declared.uses.FieldUse.{FieldUse}
-use Rattle.dj_acting.specs.declared.uses.FieldUse.TheVariants as fields
-use Rattle.dj_acting.specs.Uses.{class_use, field_use}
-use Rattle.dj_acting.proofs.Standing.{linked_at}
-use Rattle.dj_acting.proofs.Finding.{names_nothing, pushes_int, pushes_long, pushes_text, uses_class, uses_field}
-use Rattle.dj_acting.proofs.Using.{IsClassInstruction, IsFieldInstruction, class_instruction, field_instruction, new_class}
-use Rattle.dj_turning.specs.Doing.{IsUsed}
-use Rattle.dj_turning.specs.Uses.{IsOperandNamed}
+use Rattle.dj_invocation.specs.declared.choosing.Mode.{Mode}
+use Rattle.dj_invocation.specs.declared.choosing.Mode.TheVariants as modes
+use Rattle.dj_invocation.specs.Choosing.{IsMethod, reported_mode}
+use Rattle.dj_invocation.specs.declared.site.CallSite.{CallSite}
+use Rattle.dj_invocation.specs.Sites.{IsCallAt}
+use Rattle.dj_invocation.proofs.Bodies.{static_mode}
+use Rattle.dj_image_effects.specs.declared.uses.ClassUse.{ClassUse}
+use Rattle.dj_image_effects.specs.declared.uses.ClassUse.TheVariants as classes
+use Rattle.dj_image_effects.specs.declared.uses.FieldUse.{FieldUse}
+use Rattle.dj_image_effects.specs.declared.uses.FieldUse.TheVariants as fields
+use Rattle.dj_image_effects.specs.Uses.{class_use, field_use}
+use Rattle.dj_image_effects.proofs.Standing.{linked_at}
+use Rattle.dj_image_effects.proofs.Finding.{names_nothing, pushes_int, pushes_long, pushes_text, uses_class, uses_field}
+use Rattle.dj_image_effects.proofs.Using.{IsClassInstruction, IsFieldInstruction, class_instruction, field_instruction, new_class}
+use Rattle.dj_image_step.specs.Doing.{IsUsed}
+use Rattle.dj_image_step.specs.Uses.{IsOperandNamed}
 
 -- ---- instructions that use none
 

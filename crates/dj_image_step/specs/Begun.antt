@@ -4,21 +4,21 @@ use Rattle.dj_model.specs.trusted.Instructions.{Instruction}
 use Rattle.dj_model.specs.trusted.State.{Flow}
 use Rattle.dj_heap.specs.Heaps.{LimitedHeap}
 use Rattle.dj_stack.specs.Frames.{StackFrame}
-use Rattle.dj_calls.specs.Known.{AreKnown}
-use Rattle.dj_types.specs.Typed.{types_of}
+use Rattle.dj_natives.specs.Known.{AreKnown}
+use Rattle.dj_numbering.specs.Typed.{types_of}
 use Rattle.dj_image.specs.Imaged.{Imaged, typed_of}
-use Rattle.dj_activations.specs.Instructions.{instruction_of_number}
-use Rattle.dj_initialising.specs.Store.{store}
-use Rattle.dj_initialising.specs.Preparing.{parts}
-use Rattle.dj_acting.specs.declared.acted.Acted.{Acted}
-use Rattle.dj_acting.specs.declared.begun.Begun.{Begun}
-use Rattle.dj_acting.specs.declared.begun.Begun.TheVariants as begins
-use Rattle.dj_acting.specs.Acting.{ActsOnHeap, flow_reported}
+use Rattle.dj_current_method.specs.Instructions.{instruction_of_number}
+use Rattle.dj_initialisation.specs.Store.{store}
+use Rattle.dj_initialisation.specs.Preparing.{parts}
+use Rattle.dj_image_effects.specs.declared.acted.Acted.{Acted}
+use Rattle.dj_image_effects.specs.declared.begun.Begun.{Begun}
+use Rattle.dj_image_effects.specs.declared.begun.Begun.TheVariants as begins
+use Rattle.dj_image_effects.specs.Acting.{ActsOnHeap, flow_reported}
 use Rattle.dj_settling.specs.declared.settled.Settled.TheVariants as settles
-use Rattle.dj_turning.specs.Running.{Running, IsRunning}
-use Rattle.dj_turning.specs.Doing.{IsTop, IsUsed}
-use Rattle.dj_turning.specs.Turning.{MakesStep}
-use Rattle.dj_turning.specs.Frugal.{IsFrugalRun}
+use Rattle.dj_image_step.specs.Running.{Running, IsRunning}
+use Rattle.dj_image_step.specs.Doing.{IsTop, IsUsed}
+use Rattle.dj_image_step.specs.Turning.{MakesStep}
+use Rattle.dj_image_step.specs.Frugal.{IsFrugalRun}
 
 -- the run with another heap and other frames
 abbrev pub with_heap : Running → LimitedHeap → List StackFrame → Running

@@ -4,13 +4,13 @@ use Rattle.dj_model.specs.trusted.Types.{Member}
 use Rattle.dj_model.specs.trusted.Instructions.{Mode}
 use Rattle.dj_stack.specs.Frames.{StackFrame, top_method}
 use Rattle.dj_image.specs.Imaged.{Imaged, program_of}
-use Rattle.dj_activations.specs.Activations.{declared_at}
-use Rattle.dj_initialising.specs.Preparing.{parts}
-use Rattle.dj_invoking.specs.declared.answers.Invoked.{Invoked}
-use Rattle.dj_invoking.specs.Invoking.{Invokes, site}
+use Rattle.dj_current_method.specs.Activations.{declared_at}
+use Rattle.dj_initialisation.specs.Preparing.{parts}
+use Rattle.dj_invocation.specs.declared.answers.Invoked.{Invoked}
+use Rattle.dj_invocation.specs.Invoking.{Invokes, site}
 use Rattle.dj_settling.specs.Settling.{IsStop}
-use Rattle.dj_turning.specs.Running.{Running}
-use Rattle.dj_turning.specs.Doing.{IsStill}
+use Rattle.dj_image_step.specs.Running.{Running}
+use Rattle.dj_image_step.specs.Doing.{IsStill}
 
 -- the run with other frames
 abbrev pub before : Running → List StackFrame → Running

@@ -9,24 +9,24 @@ use Rattle.dj_model.specs.trusted.Effects.{effect, used_class}
 use Rattle.dj_model.specs.trusted.Step.{StepAnswer, IllFormed, part_of, settled, prepared, step}
 use Rattle.dj_heap.specs.Heaps.{LimitedHeap}
 use Rattle.dj_stack.specs.Frames.{StackFrame, top_method, top_number}
-use Rattle.dj_calls.specs.Calls.{counting_of}
-use Rattle.dj_calls.specs.Known.{AreKnown}
-use Rattle.dj_types.specs.Members.{all_methods}
-use Rattle.dj_types.specs.Typed.{types_of}
+use Rattle.dj_natives.specs.Calls.{counting_of}
+use Rattle.dj_natives.specs.Known.{AreKnown}
+use Rattle.dj_numbering.specs.Members.{all_methods}
+use Rattle.dj_numbering.specs.Typed.{types_of}
 use Rattle.dj_image.specs.Imaged.{Imaged, program_of, typed_of}
-use Rattle.dj_linking.specs.Linked.{class_name}
-use Rattle.dj_activations.specs.Activations.{AreActivations, frames_seen}
-use Rattle.dj_activations.specs.Instructions.{HasInstruction, instruction_of_number}
-use Rattle.dj_initialising.specs.declared.prepare.Prepared.{Prepared}
-use Rattle.dj_initialising.specs.Flags.{AreFlags}
-use Rattle.dj_initialising.specs.Store.{IsStore}
-use Rattle.dj_initialising.specs.Preparing.{prepared_reported, with_parts}
-use Rattle.dj_acting.specs.declared.acted.Acted.{Acted}
-use Rattle.dj_acting.specs.Acting.{flow_reported}
+use Rattle.dj_resolution.specs.Linked.{class_name}
+use Rattle.dj_current_method.specs.Activations.{AreActivations, frames_seen}
+use Rattle.dj_current_method.specs.Instructions.{HasInstruction, instruction_of_number}
+use Rattle.dj_initialisation.specs.declared.prepare.Prepared.{Prepared}
+use Rattle.dj_initialisation.specs.Flags.{AreFlags}
+use Rattle.dj_initialisation.specs.Store.{IsStore}
+use Rattle.dj_initialisation.specs.Preparing.{prepared_reported, with_parts}
+use Rattle.dj_image_effects.specs.declared.acted.Acted.{Acted}
+use Rattle.dj_image_effects.specs.Acting.{flow_reported}
 use Rattle.dj_settling.specs.declared.settled.Settled.{Settled}
 use Rattle.dj_settling.specs.Reported.{reported_of}
 use Rattle.dj_settling.specs.Settling.{KeepsStop, Settles, settled_reported, top_settled}
-use Rattle.dj_turning.specs.Running.{Counts, Running, state_of, terms_of}
+use Rattle.dj_image_step.specs.Running.{Counts, Running, state_of, terms_of}
 
 -- ---- in the model
 

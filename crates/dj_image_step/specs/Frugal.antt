@@ -3,12 +3,12 @@ use Rattle.std.specs.Prelude.{⊤, [], List}
 use Rattle.dj_heap.specs.Heaps.{LimitedHeap}
 use Rattle.dj_stack.specs.Frames.{StackFrame}
 use Rattle.dj_image.specs.Imaged.{Imaged, program_of}
-use Rattle.dj_acting.specs.declared.acted.Acted.{Acted}
-use Rattle.dj_acting.specs.declared.acted.Acted.TheVariants as acts
+use Rattle.dj_image_effects.specs.declared.acted.Acted.{Acted}
+use Rattle.dj_image_effects.specs.declared.acted.Acted.TheVariants as acts
 use Rattle.dj_settling.specs.Frugal.{IsFrugal, IsFrugalThrow}
 use Rattle.dj_settling.specs.Settling.{HasRoomFor, IsThrown}
-use Rattle.dj_turning.specs.Memory.{NeedsNoMemory}
-use Rattle.dj_turning.specs.Running.{Running, state_of, terms_of}
+use Rattle.dj_image_step.specs.Memory.{NeedsNoMemory}
+use Rattle.dj_image_step.specs.Running.{Running, state_of, terms_of}
 
 -- the next instruction of the run needs none
 abbrev pub IsFrugalRun : Imaged → Running → Type 0

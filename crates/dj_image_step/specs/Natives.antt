@@ -16,14 +16,14 @@ use Rattle.dj_model.specs.trusted.Performing.{native}
 use Rattle.dj_model.specs.NativeKinds.{native_signature}
 use Rattle.dj_heap.specs.Heaps.{LimitedHeap}
 use Rattle.dj_stack.specs.Frames.{StackFrame, top_method, top_operands}
-use Rattle.dj_calls.specs.declared.answer.NativeAnswer.{NativeAnswer}
-use Rattle.dj_calls.specs.Counting.{Counter}
-use Rattle.dj_calls.specs.Calls.{KeepsCounter, KeepsHeap, effect_with, flow_reported, given, part_with, terms_of, typed_heap}
-use Rattle.dj_calls.specs.Known.{AreKnown}
+use Rattle.dj_natives.specs.declared.answer.NativeAnswer.{NativeAnswer}
+use Rattle.dj_natives.specs.Counting.{Counter}
+use Rattle.dj_natives.specs.Calls.{KeepsCounter, KeepsHeap, effect_with, flow_reported, given, part_with, terms_of, typed_heap}
+use Rattle.dj_natives.specs.Known.{AreKnown}
 use Rattle.dj_host.specs.Hosted.{with_answers}
-use Rattle.dj_types.specs.Typed.{types_of}
+use Rattle.dj_numbering.specs.Typed.{types_of}
 use Rattle.dj_image.specs.Imaged.{Imaged, program_of, typed_of}
-use Rattle.dj_activations.specs.Activations.{declared_at}
+use Rattle.dj_current_method.specs.Activations.{declared_at}
 use Rattle.dj_settling.specs.declared.settled.Settled.{Settled}
 use Rattle.dj_settling.specs.Settling.{IsExpected, Settles, native_settled}
 

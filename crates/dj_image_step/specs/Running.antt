@@ -8,21 +8,21 @@ use Rattle.dj_model.specs.Standing.{AreStanding}
 use Rattle.dj_model.specs.trusted.State.{State, Account, Terms}
 use Rattle.dj_model.specs.trusted.Charging.{new_account}
 use Rattle.dj_model.specs.trusted.Runs.{empty_heap}
-use Rattle.dj_calls.specs.Counting.{Counter}
-use Rattle.dj_calls.specs.Calls.{counting_of}
-use Rattle.dj_calls.specs.Known.{AreKnown}
-use Rattle.dj_types.specs.Typed.{types_of}
+use Rattle.dj_natives.specs.Counting.{Counter}
+use Rattle.dj_natives.specs.Calls.{counting_of}
+use Rattle.dj_natives.specs.Known.{AreKnown}
+use Rattle.dj_numbering.specs.Typed.{types_of}
 use Rattle.dj_image.specs.Imaged.{Imaged, program_of, typed_of}
-use Rattle.dj_activations.specs.Activations.{frames_seen, AreActivations}
-use Rattle.dj_initialising.specs.declared.initialisers.Initialiser.{Initialiser}
-use Rattle.dj_initialising.specs.Flags.{AreFlags}
-use Rattle.dj_initialising.specs.Places.{Places, ArePlaces}
-use Rattle.dj_initialising.specs.Initialisers.{AreInitialisers}
-use Rattle.dj_initialising.specs.Store.{AreTexts, IsStore}
-use Rattle.dj_initialising.specs.Preparing.{Parts, with_parts}
-use Rattle.dj_invoking.specs.Natives.{AreNatives}
+use Rattle.dj_current_method.specs.Activations.{frames_seen, AreActivations}
+use Rattle.dj_initialisation.specs.declared.initialisers.Initialiser.{Initialiser}
+use Rattle.dj_initialisation.specs.Flags.{AreFlags}
+use Rattle.dj_initialisation.specs.Places.{Places, ArePlaces}
+use Rattle.dj_initialisation.specs.Initialisers.{AreInitialisers}
+use Rattle.dj_initialisation.specs.Store.{AreTexts, IsStore}
+use Rattle.dj_initialisation.specs.Preparing.{Parts, with_parts}
+use Rattle.dj_invocation.specs.Natives.{AreNatives}
 use Rattle.dj_settling.specs.Settling.{HasOwn, IsStop}
-use Rattle.dj_turning.specs.Short.{AreBounded}
+use Rattle.dj_image_step.specs.Short.{AreBounded}
 
 -- ---- what is made once of an image
 

@@ -4,10 +4,10 @@ use Rattle.dj_ops.specs.declared.instruction.Instr.{Instr}
 use Rattle.dj_ops.specs.declared.instruction.Instr.TheVariants as instrs
 use Rattle.dj_model.specs.trusted.Program.{Code, Runs}
 use Rattle.dj_model.specs.trusted.Linking.{FoundMethod}
-use Rattle.dj_types.specs.Members.{all_methods}
+use Rattle.dj_numbering.specs.Members.{all_methods}
 use Rattle.dj_image.specs.Imaged.{Imaged, program_of}
 use Rattle.dj_unwinding.specs.Short.{IsShort}
-use Rattle.dj_acting.specs.Frugal.{LoadsByKnown}
+use Rattle.dj_image_effects.specs.Frugal.{LoadsByKnown}
 
 -- instructions and rows of the method's code have numbers of 32 bits, and each literal is loaded by one of the three opcodes that do
 pub record IsBoundedCode (imaged : Imaged) (method : ℕ) (code : Code) : Type 0 where

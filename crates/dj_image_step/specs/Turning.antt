@@ -2,13 +2,13 @@
 use Rattle.std.specs.Prelude.{◌≡◌, List, ◌++◌, Some}
 use Rattle.dj_edge.specs.declared.host.HostAnswer.{HostAnswer}
 use Rattle.dj_model.specs.trusted.Step.{step}
-use Rattle.dj_calls.specs.Calls.{counting_of}
+use Rattle.dj_natives.specs.Calls.{counting_of}
 use Rattle.dj_image.specs.Imaged.{Imaged, program_of}
 use Rattle.dj_settling.specs.declared.settled.Settled.{Settled}
 use Rattle.dj_settling.specs.declared.settled.Settled.TheVariants as settles
 use Rattle.dj_settling.specs.Reported.{reported_of}
 use Rattle.dj_settling.specs.Settling.{settled_reported}
-use Rattle.dj_turning.specs.Running.{Running, IsRunning, state_of, terms_of}
+use Rattle.dj_image_step.specs.Running.{Running, IsRunning, state_of, terms_of}
 
 -- the step is the model's, where what the host gave comes first among the model's answers, whatever the others are; and a run that goes on is still one
 pub record MakesStep (imaged : Imaged) (old new : Running) (gave : List HostAnswer) (settled : Settled) : Type 0 where

@@ -1,13 +1,13 @@
 ghost use Rattle.std.specs.Prelude.{◌≡◌, ◌<◌, true, length, Some, IsSome};
 ghost use Rattle.dj_model.specs.Sound.{IsProgram};
 ghost use Rattle.dj_stack.specs.Frames.{StackFrame, frame_at, top_operands, top_room};
-ghost use Rattle.dj_calls.specs.Known.{AreKnown};
-ghost use Rattle.dj_types.specs.Typed.{types_of};
+ghost use Rattle.dj_natives.specs.Known.{AreKnown};
+ghost use Rattle.dj_numbering.specs.Typed.{types_of};
 ghost use Rattle.dj_image.specs.Imaged.{program_of, typed_of};
-ghost use Rattle.dj_activations.specs.Activations.{AreActivations};
+ghost use Rattle.dj_current_method.specs.Activations.{AreActivations};
 ghost use Rattle.dj_settling.specs.Settling.{IsThrown};
 
-use dj_activations::code_of;
+use dj_current_method::code_of;
 use dj_heap::{Heap, Made};
 use dj_image::{Image, MethodId};
 use dj_stack::Frames;

@@ -1,8 +1,8 @@
 ghost use Rattle.std.specs.Prelude.{◌≡◌};
-ghost use Rattle.dj_turning.specs.Running.{account_of};
+ghost use Rattle.dj_image_step.specs.Running.{account_of};
 
-use dj_calls::Accounter;
 use dj_names::Charge;
+use dj_natives::Accounter;
 
 /// The charge that has passed its threshold, where one has; none where nobody counts.
 pub(crate) fn exceeded(accounter: &Option<Accounter>) -> Option<Charge>

@@ -2,8 +2,8 @@ ghost use Rattle.std.specs.Prelude.{◌≡◌, ◌<◌, length};
 ghost use Rattle.dj_model.specs.Standing.{AreStanding};
 ghost use Rattle.dj_stack.specs.Frames as tops;
 ghost use Rattle.dj_image.specs.Imaged.{program_of};
-ghost use Rattle.dj_activations.specs.Activations.{AreActivations, frames_seen};
-ghost use Rattle.dj_turning.specs.Doing.{IsTop};
+ghost use Rattle.dj_current_method.specs.Activations.{AreActivations, frames_seen};
+ghost use Rattle.dj_image_step.specs.Doing.{IsTop};
 
 use dj_image::{Image, MethodId};
 use dj_stack::Frames;

@@ -2,20 +2,20 @@ ghost use Rattle.std.specs.Prelude.{◌≡◌, ◌++◌, [], Some, None, true, f
 ghost use Rattle.dj_names.specs.trusted.Values.{value_kind};
 ghost use Rattle.dj_model.specs.NativeKinds.{native_signature};
 ghost use Rattle.dj_heap.specs.Heaps.{object_in};
-ghost use Rattle.dj_calls.specs.Calls.{Calls};
-ghost use Rattle.dj_calls.specs.Known.{AreArguments, AreKnown, IsFitting, IsOfChars};
+ghost use Rattle.dj_natives.specs.Calls.{Calls};
+ghost use Rattle.dj_natives.specs.Known.{AreArguments, AreKnown, IsFitting, IsOfChars};
 ghost use Rattle.dj_host.specs.trusted.Hosted.{given_since};
 ghost use Rattle.dj_host.specs.Hosted.{is_hosted};
-ghost use Rattle.dj_types.specs.Typed.{types_of};
+ghost use Rattle.dj_numbering.specs.Typed.{types_of};
 ghost use Rattle.dj_image.specs.Imaged.{program_of, typed_of};
-ghost use Rattle.dj_turning.specs.Natives.{AnswersNative, IsQuiet};
+ghost use Rattle.dj_image_step.specs.Natives.{AnswersNative, IsQuiet};
 
-use dj_calls::{Accounter, NativeAnswer, call_native, reference};
 use dj_edge::Host;
 use dj_heap::{Heap, Made};
 use dj_host::{call_host, is_hosted};
 use dj_image::Image;
 use dj_names::{Element, NativeId, Value};
+use dj_natives::{Accounter, NativeAnswer, call_native, reference};
 use std::alloc::{AllocError, Global};
 
 /// What a native method answers: of the host where it is asked, and else of itself, with the accounter where there is one.

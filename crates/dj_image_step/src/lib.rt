@@ -16,7 +16,7 @@ mod turning;
 mod unnamed;
 mod uses;
 
-pub use dj_acting::Begun;
+pub use dj_image_effects::Begun;
 pub use dj_settling::Settled;
 pub use run::Run;
 pub use tables::Tables;

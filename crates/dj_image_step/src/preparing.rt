@@ -1,14 +1,14 @@
 ghost use Rattle.std.specs.Prelude.{IfErr, IfOk};
-ghost use Rattle.dj_turning.specs.Running.{IsKept, IsRunning};
-ghost use Rattle.dj_turning.specs.Doing.{PreparesNext};
-ghost use Rattle.dj_turning.specs.Frugal.{IsFrugalRun};
+ghost use Rattle.dj_image_step.specs.Running.{IsKept, IsRunning};
+ghost use Rattle.dj_image_step.specs.Doing.{PreparesNext};
+ghost use Rattle.dj_image_step.specs.Frugal.{IsFrugalRun};
 
 use crate::frames::top_of;
 use crate::run::Run;
 use crate::tables::Tables;
 use crate::uses::used_class;
 use dj_image::Image;
-use dj_initialising::{Prepared, initialise};
+use dj_initialisation::{Prepared, initialise};
 use std::alloc::{AllocError, Global};
 
 /// The class that the top frame's next instruction uses is initialised (JVMS 5.5).

@@ -1,8 +1,8 @@
-use dj_calls::Accounter;
 use dj_heap::Heap;
-use dj_initialising::Initialised;
-use dj_members::{Literals, Statics};
+use dj_initialisation::Initialised;
+use dj_member_effects::{Literals, Statics};
 use dj_names::Value;
+use dj_natives::Accounter;
 use dj_stack::Frames;
 use std::marker::Model;
 
@@ -24,9 +24,9 @@ pub struct Run {
 }
 
 impl Model for Run {
-    ghost use Rattle.dj_initialising.specs.Store.{store};
-    ghost use Rattle.dj_initialising.specs.Preparing.{parts};
-    ghost use Rattle.dj_turning.specs.Running.{Running};
+    ghost use Rattle.dj_initialisation.specs.Store.{store};
+    ghost use Rattle.dj_initialisation.specs.Preparing.{parts};
+    ghost use Rattle.dj_image_step.specs.Running.{Running};
 
     ghost Value = { Running };
 

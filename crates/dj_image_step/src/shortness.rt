@@ -1,9 +1,9 @@
 // What holds of the code of class files, and isn't known of that of an image: its instructions and rows have numbers of 32 bits, and each literal is loaded
 // by one of the three opcodes that do.
 ghost use Rattle.std.specs.Prelude.{◌≡◌, ◌<◌, ◌^◌, true, length, IfOk};
-ghost use Rattle.dj_types.specs.Members.{all_methods};
+ghost use Rattle.dj_numbering.specs.Members.{all_methods};
 ghost use Rattle.dj_image.specs.Imaged.{program_of};
-ghost use Rattle.dj_turning.specs.Short.{AreBounded, IsBounded, LoadByKnown, is_known_load};
+ghost use Rattle.dj_image_step.specs.Short.{AreBounded, IsBounded, LoadByKnown, is_known_load};
 
 use dj_image::{Body, Image, MethodCode, MethodId};
 use dj_ops::Instr;

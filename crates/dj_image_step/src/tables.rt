@@ -2,18 +2,18 @@ ghost use Rattle.std.specs.Prelude.{◌≡◌, Some, IfOk, IfSome, slice_get};
 ghost use Rattle.dj_names.specs.trusted.Types.{class_type};
 ghost use Rattle.dj_model.specs.trusted.Types as named;
 ghost use Rattle.dj_model.specs.Sound.{IsSound};
-ghost use Rattle.dj_linking.specs.Linked.{prefix_of};
-ghost use Rattle.dj_types.specs.Typed.{types_of};
+ghost use Rattle.dj_resolution.specs.Linked.{prefix_of};
+ghost use Rattle.dj_numbering.specs.Typed.{types_of};
 ghost use Rattle.dj_image.specs.Imaged.{program_of, typed_of};
-ghost use Rattle.dj_invoking.specs.Natives.{AreNatives};
+ghost use Rattle.dj_invocation.specs.Natives.{AreNatives};
 ghost use Rattle.dj_settling.specs.Settling.{HasOwn};
-ghost use Rattle.dj_turning.specs.Running.{IsKept};
-ghost use Rattle.dj_turning.specs.Short.{AreBounded};
+ghost use Rattle.dj_image_step.specs.Running.{IsKept};
+ghost use Rattle.dj_image_step.specs.Short.{AreBounded};
 
 use crate::shortness::are_bounded;
 use dj_image::{BaseNames, Image};
-use dj_initialising::{Initialisers, StaticPlaces};
-use dj_invoking::Natives;
+use dj_initialisation::{Initialisers, StaticPlaces};
+use dj_invocation::Natives;
 use dj_settling::has_own;
 use std::alloc::{AllocError, Global};
 use std::marker::Model;
@@ -29,7 +29,7 @@ pub struct Tables {
 }
 
 impl Model for Tables {
-    ghost use Rattle.dj_turning.specs.Running.{Kept};
+    ghost use Rattle.dj_image_step.specs.Running.{Kept};
 
     ghost Value = { Kept };
 

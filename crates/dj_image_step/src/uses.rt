@@ -5,19 +5,19 @@ ghost use Rattle.dj_model.specs.trusted.Instructions.{Instruction, Invoke, Named
 ghost use Rattle.dj_model.specs.trusted.Linking.{FoundMethod, resolve_method};
 ghost use Rattle.dj_model.specs.trusted.Opcodes.{instruction_of};
 ghost use Rattle.dj_model.specs.Sound.{IsSound};
-ghost use Rattle.dj_types.specs.Members.{all_fields, all_methods};
+ghost use Rattle.dj_numbering.specs.Members.{all_fields, all_methods};
 ghost use Rattle.dj_image.specs.Imaged.{program_of};
 ghost use Rattle.dj_image.specs.declared.operand.Operand.TheVariants as operands;
-ghost use Rattle.dj_activations.specs.Instructions.{HasInstruction, instruction_of_number};
-ghost use Rattle.dj_invoking.specs.Choosing.{IsMethod, reported_mode};
-ghost use Rattle.dj_acting.specs.Frugal.{LoadsByKnown, makes};
-ghost use Rattle.dj_turning.specs.Doing.{IsUsed};
-ghost use Rattle.dj_turning.specs.Uses.{IsOperandNamed, is_given};
+ghost use Rattle.dj_current_method.specs.Instructions.{HasInstruction, instruction_of_number};
+ghost use Rattle.dj_invocation.specs.Choosing.{IsMethod, reported_mode};
+ghost use Rattle.dj_image_effects.specs.Frugal.{LoadsByKnown, makes};
+ghost use Rattle.dj_image_step.specs.Doing.{IsUsed};
+ghost use Rattle.dj_image_step.specs.Uses.{IsOperandNamed, is_given};
 
-use dj_acting::{ClassUse, FieldUse, class_use, field_use};
-use dj_activations::instr_of;
+use dj_current_method::instr_of;
 use dj_image::{FieldId, Image, MethodId, Operand};
-use dj_invoking::{Mode, call_at};
+use dj_image_effects::{ClassUse, FieldUse, class_use, field_use};
+use dj_invocation::{Mode, call_at};
 use dj_ops::Instr;
 use std::alloc::AllocError;
 

@@ -13,23 +13,23 @@ use Rattle.dj_model.specs.trusted.Linking.{FoundField, place_of_static}
 use Rattle.dj_model.specs.Sound.{IsProgram}
 use Rattle.dj_model.specs.trusted.State.{State, Terms}
 use Rattle.dj_model.specs.trusted.Initialisation.{Initialised, Ready, then_ready, with_constant, with_constants, constants_of}
-use Rattle.dj_classes.specs.Tables.{fields_at}
-use Rattle.dj_linking.specs.Linked.{class_name}
-use Rattle.dj_linking.proofs.Resolution.{DoNamesDiffer, class_of_name}
-use Rattle.dj_types.specs.Members.{all_fields, fields_in, fields_before, IsFieldThere}
-use Rattle.dj_types.specs.declared.types.MemberOf.{MemberOf}
-use Rattle.dj_types.proofs.Starts.{some_there}
+use Rattle.dj_class_table.specs.Tables.{fields_at}
+use Rattle.dj_resolution.specs.Linked.{class_name}
+use Rattle.dj_resolution.proofs.Resolution.{DoNamesDiffer, class_of_name}
+use Rattle.dj_numbering.specs.Members.{all_fields, fields_in, fields_before, IsFieldThere}
+use Rattle.dj_numbering.specs.declared.types.MemberOf.{MemberOf}
+use Rattle.dj_numbering.proofs.Starts.{some_there}
 use Rattle.dj_image.specs.Imaged.{Imaged, program_of, typed_of, IsValue}
 use Rattle.dj_image.specs.Codes.{IsConstantAt}
 use Rattle.dj_image.specs.declared.operand.Operand.{Operand}
 use Rattle.dj_image.specs.declared.operand.Operand.TheVariants as operands
-use Rattle.dj_initialising.specs.declared.filled.Filled.{Filled}
-use Rattle.dj_initialising.specs.declared.filled.Filled.TheVariants as filled
-use Rattle.dj_initialising.specs.Store.{Store, stored, IsStore, AreTexts, Leads, Fills, FillsConstant, FillsField, field_constant, constants_from, class_constants, all_constants}
-use Rattle.dj_initialising.proofs.Members.{found_field, field_of_number}
-use Rattle.dj_initialising.specs.Places.{Places, ArePlaces}
-use Rattle.dj_initialising.proofs.PlaceLaws.{place_reported, place_within}
-use Rattle.dj_initialising.proofs.StoreLaws.{leads_on, leads_to_full, nothing_reported, constant_is}
+use Rattle.dj_initialisation.specs.declared.filled.Filled.{Filled}
+use Rattle.dj_initialisation.specs.declared.filled.Filled.TheVariants as filled
+use Rattle.dj_initialisation.specs.Store.{Store, stored, IsStore, AreTexts, Leads, Fills, FillsConstant, FillsField, field_constant, constants_from, class_constants, all_constants}
+use Rattle.dj_initialisation.proofs.Members.{found_field, field_of_number}
+use Rattle.dj_initialisation.specs.Places.{Places, ArePlaces}
+use Rattle.dj_initialisation.proofs.PlaceLaws.{place_reported, place_within}
+use Rattle.dj_initialisation.proofs.StoreLaws.{leads_on, leads_to_full, nothing_reported, constant_is}
 
 prefix_or_rest : {A : Type 0} (xs ys : List A) (n : ℕ) (x : A) → slice_get (xs ++ ys) n ≡ Some x → (slice_get xs n ≡ Some x) ⊎ ((k : ℕ) × (slice_get ys k ≡ Some x))
 prefix_or_rest [] ys n x e = inr (n, e)

@@ -9,12 +9,12 @@ use Rattle.dj_names.specs.trusted.Types.{Name, same_name}
 use Rattle.dj_model.specs.trusted.Program.{Program}
 use Rattle.dj_model.specs.trusted.Linking.{option_list}
 use Rattle.dj_model.specs.trusted.Initialisation.{is_initialised, mark, mark_all, not_initialised}
-use Rattle.dj_classes.specs.Tables.{class_number, class_numbers}
-use Rattle.dj_classes.proofs.Numbered.{name_at-number}
-use Rattle.dj_linking.specs.Linked.{class_name}
-use Rattle.dj_linking.proofs.Resolution.{DoNamesDiffer, number_of_name}
-use Rattle.dj_initialising.specs.Flags.{has_begun, not_begun}
-use Rattle.dj_initialising.specs.Waiting.{names_of, marks, waiting_count}
+use Rattle.dj_class_table.specs.Tables.{class_number, class_numbers}
+use Rattle.dj_class_table.proofs.Numbered.{name_at-number}
+use Rattle.dj_resolution.specs.Linked.{class_name}
+use Rattle.dj_resolution.proofs.Resolution.{DoNamesDiffer, number_of_name}
+use Rattle.dj_initialisation.specs.Flags.{has_begun, not_begun}
+use Rattle.dj_initialisation.specs.Waiting.{names_of, marks, waiting_count}
 
 -- ---- one flag
 

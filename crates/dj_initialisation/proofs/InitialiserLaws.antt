@@ -18,28 +18,28 @@ use Rattle.dj_model.specs.trusted.Initialisation as initialisation
 use Rattle.dj_model.specs.trusted.Initialisation.{initialiser_frames, locals_for}
 use Rattle.dj_model.specs.Sound.{IsProgram}
 use Rattle.dj_stack.specs.Frames.{StackFrame, new_frame}
-use Rattle.dj_declared.proofs.DescTests.{same_name_is, same_name_itself, same_desc_is}
-use Rattle.dj_classes.specs.Tables.{methods_at, methods_of}
-use Rattle.dj_linking.specs.Linked.{class_name}
-use Rattle.dj_linking.proofs.Resolution.{class_of_name}
-use Rattle.dj_types.specs.Members.{all_methods, methods_before, IsMethodThere}
-use Rattle.dj_types.specs.declared.types.MemberOf.{MemberOf}
-use Rattle.dj_types.proofs.Starts.{some_there}
+use Rattle.dj_declarations.proofs.DescTests.{same_name_is, same_name_itself, same_desc_is}
+use Rattle.dj_class_table.specs.Tables.{methods_at, methods_of}
+use Rattle.dj_resolution.specs.Linked.{class_name}
+use Rattle.dj_resolution.proofs.Resolution.{class_of_name}
+use Rattle.dj_numbering.specs.Members.{all_methods, methods_before, IsMethodThere}
+use Rattle.dj_numbering.specs.declared.types.MemberOf.{MemberOf}
+use Rattle.dj_numbering.proofs.Starts.{some_there}
 use Rattle.dj_program.specs.trusted.Codes as part_codes
 use Rattle.dj_program.specs.declared.code.MethodCode.{MethodCode}
 use Rattle.dj_image.specs.Codes.{SaysBody, IsBodyAt}
 use Rattle.dj_image.specs.declared.image.Body.TheVariants as bodies
 use Rattle.dj_image.specs.Imaged.{Imaged, program_of, typed_of}
-use Rattle.dj_activations.specs.Activations.{declared_at, frame_seen, frames_seen, AreActivations}
-use Rattle.dj_activations.proofs.Numbers.{declared_there, method_of_number, initialiser_of_number}
-use Rattle.dj_activations.proofs.Reported.{no_initialiser_reported, initialiser_reported}
-use Rattle.dj_initialising.specs.declared.initialisers.Initialiser.{Initialiser}
-use Rattle.dj_initialising.specs.Waiting.{names_of}
-use Rattle.dj_initialising.specs.Initialisers.{AreInitialisers, IsInitialiser, IsInitialiserOf, RunsIt, RunsAt, initialiser_count, one_if, pushed, spells_initialiser, with_initialiser}
-use Rattle.dj_initialising.proofs.Members as members
-use Rattle.dj_initialising.proofs.Members.{found_method}
-use Rattle.dj_initialising.proofs.PlaceLaws.{names_differ}
-use Rattle.dj_initialising.proofs.FieldLaws.{reported_if}
+use Rattle.dj_current_method.specs.Activations.{declared_at, frame_seen, frames_seen, AreActivations}
+use Rattle.dj_current_method.proofs.Numbers.{declared_there, method_of_number, initialiser_of_number}
+use Rattle.dj_current_method.proofs.Reported.{no_initialiser_reported, initialiser_reported}
+use Rattle.dj_initialisation.specs.declared.initialisers.Initialiser.{Initialiser}
+use Rattle.dj_initialisation.specs.Waiting.{names_of}
+use Rattle.dj_initialisation.specs.Initialisers.{AreInitialisers, IsInitialiser, IsInitialiserOf, RunsIt, RunsAt, initialiser_count, one_if, pushed, spells_initialiser, with_initialiser}
+use Rattle.dj_initialisation.proofs.Members as members
+use Rattle.dj_initialisation.proofs.Members.{found_method}
+use Rattle.dj_initialisation.proofs.PlaceLaws.{names_differ}
+use Rattle.dj_initialisation.proofs.FieldLaws.{reported_if}
 
 -- ---- loops over classes
 

@@ -8,14 +8,14 @@ use Rattle.dj_model.specs.trusted.Program.{Program, Class, Field}
 use Rattle.dj_model.specs.trusted.Linking.{static_place}
 use Rattle.dj_model.specs.SmallRuns.{class_with, field_with, initialiser_with}
 use Rattle.dj_stack.specs.Frames.{new_frame}
-use Rattle.dj_classes.specs.Tables.{super_number}
-use Rattle.dj_initialising.specs.declared.initialisers.Initialiser.{Initialiser}
-use Rattle.dj_initialising.specs.declared.prepare.Prepared.TheVariants as prepared
-use Rattle.dj_initialising.specs.Flags.{AreFlags, not_begun}
-use Rattle.dj_initialising.specs.Waiting.{marks, names_of}
-use Rattle.dj_initialising.specs.Places.{all_places, places_from}
-use Rattle.dj_initialising.specs.Initialisers.{initialiser_count, pushed, spells_initialiser}
-use Rattle.dj_initialising.specs.Preparing.{IsCause}
+use Rattle.dj_class_table.specs.Tables.{super_number}
+use Rattle.dj_initialisation.specs.declared.initialisers.Initialiser.{Initialiser}
+use Rattle.dj_initialisation.specs.declared.prepare.Prepared.TheVariants as prepared
+use Rattle.dj_initialisation.specs.Flags.{AreFlags, not_begun}
+use Rattle.dj_initialisation.specs.Waiting.{marks, names_of}
+use Rattle.dj_initialisation.specs.Places.{all_places, places_from}
+use Rattle.dj_initialisation.specs.Initialisers.{initialiser_count, pushed, spells_initialiser}
+use Rattle.dj_initialisation.specs.Preparing.{IsCause}
 
 -- ---- a program: A, and B below it; s, t and u are static
 

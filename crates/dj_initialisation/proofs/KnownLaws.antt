@@ -5,8 +5,8 @@ use Rattle.std.proofs.lemmas.Option.{none-some, same_Some}
 use Rattle.dj_names.specs.declared.descriptor.Ty.{Ty}
 use Rattle.dj_names.specs.trusted.Heaps.{Heap, Text, next_number, text_size, with_new}
 use Rattle.dj_model.specs.trusted.Arrays.{passes_limit}
-use Rattle.dj_calls.specs.Known.{IsKnown}
-use Rattle.dj_members.specs.Literals.{KeptBy, kept_by, kept_or_made_by, object_of}
+use Rattle.dj_natives.specs.Known.{IsKnown}
+use Rattle.dj_member_effects.specs.Literals.{KeptBy, kept_by, kept_or_made_by, object_of}
 
 -- the objects of a heap without its limit
 abbrev pub AreKnownIn : List Ty → Heap ℕ → Type 0

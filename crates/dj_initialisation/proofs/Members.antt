@@ -7,10 +7,10 @@ use Rattle.std.proofs.lemmas.Option.{slice_get-map}
 use Rattle.dj_model.specs.trusted.Program.{Program, Class, Method, Field}
 use Rattle.dj_names.specs.trusted.Types.{class_type}
 use Rattle.dj_model.specs.trusted.Linking.{FoundMethod, FoundField}
-use Rattle.dj_classes.specs.Tables.{name_of}
-use Rattle.dj_types.specs.Typed.{Typed, types_of}
-use Rattle.dj_types.specs.Members.{all_methods, all_fields, methods_in, fields_in, methods_before, fields_before}
-use Rattle.dj_types.proofs.Starts.{before_count, member_of_number}
+use Rattle.dj_class_table.specs.Tables.{name_of}
+use Rattle.dj_numbering.specs.Typed.{Typed, types_of}
+use Rattle.dj_numbering.specs.Members.{all_methods, all_fields, methods_in, fields_in, methods_before, fields_before}
+use Rattle.dj_numbering.proofs.Starts.{before_count, member_of_number}
 
 abbrev pub found_field : Class → Field → FoundField
 found_field c f = record { class = c.name; field = f }

@@ -13,16 +13,16 @@ use Rattle.dj_model.specs.trusted.Program.{Program, Class, Field, fields_of, is_
 use Rattle.dj_model.specs.trusted.Linking.{FoundField, count_fields, fields_before, static_place, place_of_static, static_count}
 use Rattle.dj_model.specs.Sound.{IsProgram, fields_differ}
 use Rattle.dj_model.proofs.MappedNames.{either}
-use Rattle.dj_declared.proofs.DescTests.{same_name_is, same_name_itself, same_desc_is, same_desc_itself}
-use Rattle.dj_classes.specs.Tables.{name_at, fields_at}
-use Rattle.dj_classes.specs.ClassRows.{RiseStrictly}
-use Rattle.dj_classes.proofs.Orders.{not_same_if_less, rise-from_names_rise}
-use Rattle.dj_classes.proofs.Shared.{first_differs}
-use Rattle.dj_classes.proofs.Numbered.{class_number-rise}
-use Rattle.dj_linking.proofs.Resolution.{DoNamesDiffer}
-use Rattle.dj_types.specs.Members.{all_fields, fields_in}
-use Rattle.dj_initialising.specs.Places.{Places, ArePlaces, AreCounted, IsCounted, places_from, all_places, one_if_static}
-use Rattle.dj_initialising.proofs.Members.{found_field}
+use Rattle.dj_declarations.proofs.DescTests.{same_name_is, same_name_itself, same_desc_is, same_desc_itself}
+use Rattle.dj_class_table.specs.Tables.{name_at, fields_at}
+use Rattle.dj_class_table.specs.ClassRows.{RiseStrictly}
+use Rattle.dj_class_table.proofs.Orders.{not_same_if_less, rise-from_names_rise}
+use Rattle.dj_class_table.proofs.Shared.{first_differs}
+use Rattle.dj_class_table.proofs.Numbered.{class_number-rise}
+use Rattle.dj_resolution.proofs.Resolution.{DoNamesDiffer}
+use Rattle.dj_numbering.specs.Members.{all_fields, fields_in}
+use Rattle.dj_initialisation.specs.Places.{Places, ArePlaces, AreCounted, IsCounted, places_from, all_places, one_if_static}
+use Rattle.dj_initialisation.proofs.Members.{found_field}
 
 abbrev one : Field → ℕ
 one f = count_fields true (f ∷ [])

@@ -10,23 +10,23 @@ use Rattle.dj_model.specs.trusted.State.{Frame, State, Terms}
 use Rattle.dj_model.specs.trusted.Initialisation.{Initialised, Waits, Fails, most_frames, then_ready, not_initialised, constants_of, initialiser_frames, with_frames, initialise_all, initialise}
 use Rattle.dj_model.specs.Sound.{IsProgram}
 use Rattle.dj_stack.specs.Frames.{StackFrame}
-use Rattle.dj_linking.specs.Linked.{class_name}
-use Rattle.dj_linking.proofs.Resolution.{numbers_of_class}
+use Rattle.dj_resolution.specs.Linked.{class_name}
+use Rattle.dj_resolution.proofs.Resolution.{numbers_of_class}
 use Rattle.dj_image.specs.Imaged.{Imaged, program_of}
-use Rattle.dj_activations.specs.Activations.{frame_seen, frames_seen, AreActivations}
-use Rattle.dj_initialising.specs.declared.filled.Filled.TheVariants as filled
-use Rattle.dj_initialising.specs.declared.initialisers.Initialiser.{Initialiser}
-use Rattle.dj_initialising.specs.declared.prepare.Prepared.{Prepared}
-use Rattle.dj_initialising.specs.declared.prepare.Prepared.TheVariants as prepared
-use Rattle.dj_initialising.specs.Flags.{AreFlags, has_begun, not_begun}
-use Rattle.dj_initialising.specs.Waiting.{AreWaiting, names_of}
-use Rattle.dj_initialising.specs.Initialisers.{AreInitialisers, initialiser_count, pushed}
-use Rattle.dj_initialising.specs.Store.{Store, IsStore, Fills, all_constants, stored}
-use Rattle.dj_initialising.specs.Preparing.{Prepares, Pushes, IsCause, left_of, parts, prepared_reported, with_parts}
-use Rattle.dj_initialising.proofs.FlagLaws.{names_reversed, waits}
-use Rattle.dj_initialising.proofs.Walks.{none_waits}
-use Rattle.dj_initialising.proofs.PlaceLaws.{names_differ}
-use Rattle.dj_initialising.proofs.InitialiserLaws.{frames_above, frames_count, stand_on}
+use Rattle.dj_current_method.specs.Activations.{frame_seen, frames_seen, AreActivations}
+use Rattle.dj_initialisation.specs.declared.filled.Filled.TheVariants as filled
+use Rattle.dj_initialisation.specs.declared.initialisers.Initialiser.{Initialiser}
+use Rattle.dj_initialisation.specs.declared.prepare.Prepared.{Prepared}
+use Rattle.dj_initialisation.specs.declared.prepare.Prepared.TheVariants as prepared
+use Rattle.dj_initialisation.specs.Flags.{AreFlags, has_begun, not_begun}
+use Rattle.dj_initialisation.specs.Waiting.{AreWaiting, names_of}
+use Rattle.dj_initialisation.specs.Initialisers.{AreInitialisers, initialiser_count, pushed}
+use Rattle.dj_initialisation.specs.Store.{Store, IsStore, Fills, all_constants, stored}
+use Rattle.dj_initialisation.specs.Preparing.{Prepares, Pushes, IsCause, left_of, parts, prepared_reported, with_parts}
+use Rattle.dj_initialisation.proofs.FlagLaws.{names_reversed, waits}
+use Rattle.dj_initialisation.proofs.Walks.{none_waits}
+use Rattle.dj_initialisation.proofs.PlaceLaws.{names_differ}
+use Rattle.dj_initialisation.proofs.InitialiserLaws.{frames_above, frames_count, stand_on}
 
 -- ---- what is initialised already
 

@@ -10,15 +10,15 @@ use Rattle.dj_names.specs.trusted.Types.{same_name}
 use Rattle.dj_model.specs.trusted.Program.{Program, Class, superclass_of}
 use Rattle.dj_model.specs.trusted.Linking.{static_count}
 use Rattle.dj_model.proofs.MappedNames.{either}
-use Rattle.dj_declared.proofs.DescTests.{same_name_is, same_name_itself}
-use Rattle.dj_classes.specs.Tables.{class_number, super_number}
+use Rattle.dj_declarations.proofs.DescTests.{same_name_is, same_name_itself}
+use Rattle.dj_class_table.specs.Tables.{class_number, super_number}
 use Rattle.dj_heap.specs.Heaps.{LimitedHeap}
-use Rattle.dj_members.specs.Literals.{text_at}
-use Rattle.dj_types.proofs.Starts.{some_there}
+use Rattle.dj_member_effects.specs.Literals.{text_at}
+use Rattle.dj_numbering.proofs.Starts.{some_there}
 use Rattle.dj_image.specs.Imaged.{Imaged, program_of, IsNumbered}
 use Rattle.dj_image.specs.Operands.{units_number}
-use Rattle.dj_initialising.specs.Flags.{AreFlags, has_begun}
-use Rattle.dj_initialising.specs.Store.{AreTexts, IsStore, store}
+use Rattle.dj_initialisation.specs.Flags.{AreFlags, has_begun}
+use Rattle.dj_initialisation.specs.Store.{AreTexts, IsStore, store}
 
 -- ---- flags
 

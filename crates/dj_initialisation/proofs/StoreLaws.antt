@@ -12,7 +12,7 @@ use Rattle.dj_names.specs.declared.descriptor.Ty.{Ty}
 use Rattle.dj_names.specs.trusted.Heaps.{field_bits, text_size}
 use Rattle.dj_names.specs.Heaps.{heap_map}
 use Rattle.dj_names.specs.trusted.Types.{Name, same_name, class_type}
-use Rattle.dj_natives.specs.Numbered.{type_at}
+use Rattle.dj_library_types.specs.Numbered.{type_at}
 use Rattle.dj_model.specs.trusted.Types.{string_name}
 use Rattle.dj_model.specs.trusted.Program as programs
 use Rattle.dj_model.specs.trusted.Program.{Program, Class, Field, Constant, is_static, fields_of, class_at}
@@ -22,26 +22,26 @@ use Rattle.dj_model.specs.trusted.Members as members
 use Rattle.dj_model.specs.trusted.Members.{with_literal}
 use Rattle.dj_model.specs.trusted.Initialisation.{Initialised, Ready, Fails, then_ready, with_text, with_static}
 use Rattle.dj_heap.specs.Heaps.{LimitedHeap}
-use Rattle.dj_calls.specs.Known.{AreKnown}
-use Rattle.dj_members.specs.Literals as literals
-use Rattle.dj_members.specs.Literals.{Differ, Keeps, LiteralTable, kept_by, kept_map, literals_map, text_at}
-use Rattle.dj_members.specs.declared.literals.Kept as keeping
-use Rattle.dj_members.specs.declared.literals.Kept.TheVariants as kept
-use Rattle.dj_members.proofs.LiteralLaws.{keep_text_is, texts_kept}
-use Rattle.dj_classes.proofs.Numbered.{name_at-number, class_number-within}
-use Rattle.dj_types.specs.Typed.{types_of, string_at}
-use Rattle.dj_types.specs.Members.{all_fields}
-use Rattle.dj_types.proofs.Reported.{type_of_class}
+use Rattle.dj_natives.specs.Known.{AreKnown}
+use Rattle.dj_member_effects.specs.Literals as literals
+use Rattle.dj_member_effects.specs.Literals.{Differ, Keeps, LiteralTable, kept_by, kept_map, literals_map, text_at}
+use Rattle.dj_member_effects.specs.declared.literals.Kept as keeping
+use Rattle.dj_member_effects.specs.declared.literals.Kept.TheVariants as kept
+use Rattle.dj_member_effects.proofs.LiteralLaws.{keep_text_is, texts_kept}
+use Rattle.dj_class_table.proofs.Numbered.{name_at-number, class_number-within}
+use Rattle.dj_numbering.specs.Typed.{types_of, string_at}
+use Rattle.dj_numbering.specs.Members.{all_fields}
+use Rattle.dj_numbering.proofs.Reported.{type_of_class}
 use Rattle.dj_image.specs.Imaged.{Imaged, program_of, typed_of}
 use Rattle.dj_image.specs.Codes.{IsConstantAt}
 use Rattle.dj_image.specs.Operands.{units_number, text_operand, value_operand}
 use Rattle.dj_image.specs.declared.operand.Operand.{Operand}
 use Rattle.dj_image.specs.declared.operand.Operand.TheVariants as operands
-use Rattle.dj_initialising.specs.declared.filled.Filled.{Filled}
-use Rattle.dj_initialising.specs.declared.filled.Filled.TheVariants as filled
-use Rattle.dj_initialising.specs.Store.{Store, store, stored, IsStore, AreTexts, Leads, Fills, FillsConstant, one_constant}
-use Rattle.dj_initialising.proofs.Members.{types_longer}
-use Rattle.dj_initialising.proofs.KnownLaws.{kept_known}
+use Rattle.dj_initialisation.specs.declared.filled.Filled.{Filled}
+use Rattle.dj_initialisation.specs.declared.filled.Filled.TheVariants as filled
+use Rattle.dj_initialisation.specs.Store.{Store, store, stored, IsStore, AreTexts, Leads, Fills, FillsConstant, one_constant}
+use Rattle.dj_initialisation.proofs.Members.{types_longer}
+use Rattle.dj_initialisation.proofs.KnownLaws.{kept_known}
 
 abbrev Doing : Type 0
 Doing = Terms → State → Initialised

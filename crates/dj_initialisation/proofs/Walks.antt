@@ -10,15 +10,15 @@ use Rattle.std.proofs.lemmas.Option.{none-some, same_Some}
 use Rattle.dj_model.specs.trusted.Program.{Program}
 use Rattle.dj_model.specs.trusted.Linking.{most_classes, chain}
 use Rattle.dj_model.proofs.MappedNames.{either}
-use Rattle.dj_classes.specs.Tables.{super_number}
-use Rattle.dj_classes.proofs.Numbered.{super_number-within}
-use Rattle.dj_linking.specs.Linked.{class_name}
-use Rattle.dj_linking.specs.Numbers.{numbers_up}
-use Rattle.dj_linking.proofs.Levels.{most_is}
-use Rattle.dj_linking.proofs.Resolution.{DoNamesDiffer, numbers_of_class}
-use Rattle.dj_initialising.specs.Flags.{has_begun, not_begun, AreFlags}
-use Rattle.dj_initialising.specs.Waiting.{names_of, marks, waiting_count, IsWalked, AreWaiting}
-use Rattle.dj_initialising.proofs.FlagLaws.{waits, marks_push, marks_length, marked_names, one_less, at_most, begun_within}
+use Rattle.dj_class_table.specs.Tables.{super_number}
+use Rattle.dj_class_table.proofs.Numbered.{super_number-within}
+use Rattle.dj_resolution.specs.Linked.{class_name}
+use Rattle.dj_resolution.specs.Numbers.{numbers_up}
+use Rattle.dj_resolution.proofs.Levels.{most_is}
+use Rattle.dj_resolution.proofs.Resolution.{DoNamesDiffer, numbers_of_class}
+use Rattle.dj_initialisation.specs.Flags.{has_begun, not_begun, AreFlags}
+use Rattle.dj_initialisation.specs.Waiting.{names_of, marks, waiting_count, IsWalked, AreWaiting}
+use Rattle.dj_initialisation.proofs.FlagLaws.{waits, marks_push, marks_length, marked_names, one_less, at_most, begun_within}
 
 -- ---- where a class is initialised nothing waits above it
 

@@ -1,7 +1,7 @@
 -- Which classes are initialised, by their numbers.
 use Rattle.std.specs.Prelude.{◌≡◌, ℕ, Bool, true, List, [], ◌∷◌, ◌++◌, ◌<◌, ◌^◌, length, set, get_or, Some, if◌then◌else◌}
 use Rattle.dj_model.specs.trusted.Program.{Program}
-use Rattle.dj_classes.specs.Tables.{super_number}
+use Rattle.dj_class_table.specs.Tables.{super_number}
 
 -- past the last class, as for an array, there is nothing to initialise
 abbrev pub has_begun : List Bool → ℕ → Bool

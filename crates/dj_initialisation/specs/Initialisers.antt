@@ -5,10 +5,10 @@ use Rattle.dj_model.specs.trusted.Types.{initialiser_name}
 use Rattle.dj_model.specs.trusted.Program.{Code, Runs, code_of, has_code, has_initialiser, initialiser_of, is_static}
 use Rattle.dj_model.specs.trusted.Linking.{FoundMethod, declared_of}
 use Rattle.dj_stack.specs.Frames.{StackFrame, new_frame}
-use Rattle.dj_linking.specs.Linked.{class_name}
-use Rattle.dj_types.specs.Members.{all_methods}
+use Rattle.dj_resolution.specs.Linked.{class_name}
+use Rattle.dj_numbering.specs.Members.{all_methods}
 use Rattle.dj_image.specs.Imaged.{Imaged, program_of}
-use Rattle.dj_initialising.specs.declared.initialisers.Initialiser.{Initialiser}
+use Rattle.dj_initialisation.specs.declared.initialisers.Initialiser.{Initialiser}
 
 -- the class of this name has an initialiser, and it is this method
 pub record IsInitialiser (imaged : Imaged) (class : Name) (i : Initialiser) : Type 0 where

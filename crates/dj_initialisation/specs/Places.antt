@@ -2,7 +2,7 @@
 use Rattle.std.specs.Prelude.{◌≡◌, ℕ, ◌+◌, true, List, [], ◌∷◌, ◌++◌, map, if◌then◌else◌}
 use Rattle.dj_model.specs.trusted.Program.{Program, Field, is_static}
 use Rattle.dj_model.specs.trusted.Linking.{count_fields, place_of_static, static_count}
-use Rattle.dj_types.specs.Members.{all_fields}
+use Rattle.dj_numbering.specs.Members.{all_fields}
 
 -- one place for each field, and how many static fields there are
 pub record Places : Type 0 where

@@ -4,15 +4,15 @@ use Rattle.dj_names.specs.declared.run.Outcome.TheVariants as outcomes
 use Rattle.dj_model.specs.trusted.State.{State, Terms}
 use Rattle.dj_model.specs.trusted.Initialisation.{Initialised, Ready, Waits, Fails, initialise}
 use Rattle.dj_stack.specs.Frames.{StackFrame}
-use Rattle.dj_linking.specs.Linked.{class_name}
+use Rattle.dj_resolution.specs.Linked.{class_name}
 use Rattle.dj_image.specs.Imaged.{Imaged, program_of}
-use Rattle.dj_activations.specs.Activations.{frames_seen, AreActivations}
-use Rattle.dj_initialising.specs.declared.prepare.Prepared.{Prepared}
-use Rattle.dj_initialising.specs.declared.prepare.Prepared.TheVariants as prepared
-use Rattle.dj_initialising.specs.declared.initialisers.Initialiser.{Initialiser}
-use Rattle.dj_initialising.specs.Flags.{AreFlags}
-use Rattle.dj_initialising.specs.Initialisers.{initialiser_count, pushed}
-use Rattle.dj_initialising.specs.Store.{Store, IsStore, stored}
+use Rattle.dj_current_method.specs.Activations.{frames_seen, AreActivations}
+use Rattle.dj_initialisation.specs.declared.prepare.Prepared.{Prepared}
+use Rattle.dj_initialisation.specs.declared.prepare.Prepared.TheVariants as prepared
+use Rattle.dj_initialisation.specs.declared.initialisers.Initialiser.{Initialiser}
+use Rattle.dj_initialisation.specs.Flags.{AreFlags}
+use Rattle.dj_initialisation.specs.Initialisers.{initialiser_count, pushed}
+use Rattle.dj_initialisation.specs.Store.{Store, IsStore, stored}
 
 -- what an initialisation may change of a machine
 pub record Parts : Type 0 where

@@ -3,24 +3,24 @@ use Rattle.std.specs.Prelude.{◌≡◌, ℕ, List, length, Option, Some, slice_
 use Rattle.dj_names.specs.declared.run.Outcome.TheVariants as outcomes
 use Rattle.dj_names.specs.Heaps.{heap_map}
 use Rattle.dj_names.specs.trusted.Types.{Name}
-use Rattle.dj_natives.specs.Numbered.{type_at}
+use Rattle.dj_library_types.specs.Numbered.{type_at}
 use Rattle.dj_model.specs.trusted.Program.{Constant, Field, is_static}
 use Rattle.dj_model.specs.trusted.Linking.{FoundField, place_of_static, static_count}
 use Rattle.dj_model.specs.trusted.State.{State, Terms}
 use Rattle.dj_model.specs.trusted.Initialisation.{Initialised, Ready, Fails, with_constant, with_constants, constants_of}
 use Rattle.dj_heap.specs.Heaps.{LimitedHeap}
-use Rattle.dj_calls.specs.Known.{AreKnown}
-use Rattle.dj_members.specs.Literals as literals
-use Rattle.dj_members.specs.Literals.{Differ, LiteralTable, literals_map}
-use Rattle.dj_classes.specs.Tables.{fields_at}
-use Rattle.dj_linking.specs.Linked.{class_name}
-use Rattle.dj_types.specs.Typed.{types_of}
-use Rattle.dj_types.specs.Members.{all_fields}
+use Rattle.dj_natives.specs.Known.{AreKnown}
+use Rattle.dj_member_effects.specs.Literals as literals
+use Rattle.dj_member_effects.specs.Literals.{Differ, LiteralTable, literals_map}
+use Rattle.dj_class_table.specs.Tables.{fields_at}
+use Rattle.dj_resolution.specs.Linked.{class_name}
+use Rattle.dj_numbering.specs.Typed.{types_of}
+use Rattle.dj_numbering.specs.Members.{all_fields}
 use Rattle.dj_image.specs.Imaged.{Imaged, program_of, typed_of, IsValue}
 use Rattle.dj_image.specs.Operands.{units_number}
-use Rattle.dj_initialising.specs.declared.filled.Filled.{Filled}
-use Rattle.dj_initialising.specs.declared.filled.Filled.TheVariants as filled
-use Rattle.dj_initialising.specs.Waiting.{names_of}
+use Rattle.dj_initialisation.specs.declared.filled.Filled.{Filled}
+use Rattle.dj_initialisation.specs.declared.filled.Filled.TheVariants as filled
+use Rattle.dj_initialisation.specs.Waiting.{names_of}
 
 pub record Store : Type 0 where
   pub heap : LimitedHeap

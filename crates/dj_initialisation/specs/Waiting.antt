@@ -4,10 +4,10 @@ use Rattle.dj_names.specs.trusted.Types.{Name}
 use Rattle.dj_model.specs.trusted.Program.{Program}
 use Rattle.dj_model.specs.trusted.Linking.{chain}
 use Rattle.dj_model.specs.trusted.Initialisation.{mark_all, not_initialised}
-use Rattle.dj_classes.specs.Tables.{super_number}
-use Rattle.dj_linking.specs.Linked.{class_name}
-use Rattle.dj_linking.specs.Numbers.{numbers_up}
-use Rattle.dj_initialising.specs.Flags.{AreFlags, has_begun, not_begun}
+use Rattle.dj_class_table.specs.Tables.{super_number}
+use Rattle.dj_resolution.specs.Linked.{class_name}
+use Rattle.dj_resolution.specs.Numbers.{numbers_up}
+use Rattle.dj_initialisation.specs.Flags.{AreFlags, has_begun, not_begun}
 
 abbrev pub names_of : Program → List ℕ → List Name
 names_of program classes = map (class_name program) classes

@@ -2,20 +2,20 @@ ghost use Rattle.std.specs.Prelude.{◌≡◌, ◌<◌, All, Some, length, rever
 ghost use Rattle.dj_model.specs.trusted.Program.{Text};
 ghost use Rattle.dj_model.specs.trusted.Linking.{FoundField};
 ghost use Rattle.dj_model.specs.Sound.{IsProgram};
-ghost use Rattle.dj_members.specs.Literals.{text_at};
-ghost use Rattle.dj_types.specs.Members.{all_fields};
+ghost use Rattle.dj_member_effects.specs.Literals.{text_at};
+ghost use Rattle.dj_numbering.specs.Members.{all_fields};
 ghost use Rattle.dj_image.specs.Imaged.{program_of, IsNumbered};
-ghost use Rattle.dj_initialising.specs.Places.{ArePlaces};
-ghost use Rattle.dj_initialising.specs.Store.{AreTexts, Fills, FillsField, FillsConstant, IsStore, class_constants, all_constants, one_constant, store};
+ghost use Rattle.dj_initialisation.specs.Places.{ArePlaces};
+ghost use Rattle.dj_initialisation.specs.Store.{AreTexts, Fills, FillsField, FillsConstant, IsStore, class_constants, all_constants, one_constant, store};
 
 use crate::bits::is_static;
 use crate::filled::Filled;
 use crate::places::StaticPlaces;
 use dj_heap::Heap;
 use dj_image::{Image, Operand};
-use dj_members::{Kept, Literals, Statics, field_bits, keep_text};
+use dj_member_effects::{Kept, Literals, Statics, field_bits, keep_text};
 use dj_names::Value;
-use dj_types::FieldId;
+use dj_numbering::FieldId;
 use std::alloc::AllocError;
 
 // A static field begins with the object of a text.

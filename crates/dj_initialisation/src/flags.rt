@@ -1,5 +1,5 @@
 ghost use Rattle.std.specs.Prelude.{◌≡◌, ◌<◌, length, replicate, set, false, true, IfOk};
-ghost use Rattle.dj_initialising.specs.Flags.{has_begun};
+ghost use Rattle.dj_initialisation.specs.Flags.{has_begun};
 
 use std::alloc::{AllocError, Global};
 use std::marker::Model;

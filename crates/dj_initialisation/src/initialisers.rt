@@ -1,14 +1,14 @@
 ghost use Rattle.std.specs.Prelude.{◌≡◌, ◌<◌, None, length, get_or, IfOk};
 ghost use Rattle.dj_model.specs.Sound.{IsProgram};
-ghost use Rattle.dj_linking.specs.Linked.{class_name};
-ghost use Rattle.dj_types.specs.Members.{all_methods};
-ghost use Rattle.dj_types.specs.Typed.{types_of};
+ghost use Rattle.dj_resolution.specs.Linked.{class_name};
+ghost use Rattle.dj_numbering.specs.Members.{all_methods};
+ghost use Rattle.dj_numbering.specs.Typed.{types_of};
 ghost use Rattle.dj_image.specs.Imaged.{program_of, typed_of};
-ghost use Rattle.dj_initialising.specs.Initialisers.{AreInitialisers, IsInitialiserOf, RunsAt, spells_initialiser};
+ghost use Rattle.dj_initialisation.specs.Initialisers.{AreInitialisers, IsInitialiserOf, RunsAt, spells_initialiser};
 
 use crate::bits::is_static;
 use dj_image::{Body, Image};
-use dj_types::MethodId;
+use dj_numbering::MethodId;
 use std::alloc::{AllocError, Global};
 use std::marker::Model;
 
@@ -28,7 +28,7 @@ pub struct Initialisers {
 
 impl Model for Initialisers {
     ghost use Rattle.std.specs.Prelude.{List, Option};
-    ghost use Rattle.dj_initialising.specs.declared.initialisers.Initialiser.{Initialiser};
+    ghost use Rattle.dj_initialisation.specs.declared.initialisers.Initialiser.{Initialiser};
 
     ghost Value = { List (Option Initialiser) };
 

@@ -1,14 +1,14 @@
 ghost use Rattle.std.specs.Prelude.{◌≡◌, ◌+◌, ◌++◌, ◌<◌, true, length, Some, IfOk, OnOk, slice_get};
 ghost use Rattle.dj_model.specs.trusted.Linking.{count_fields};
 ghost use Rattle.dj_model.specs.Sound.{IsProgram};
-ghost use Rattle.dj_classes.specs.Tables.{fields_at};
-ghost use Rattle.dj_types.specs.Typed.{types_of};
+ghost use Rattle.dj_class_table.specs.Tables.{fields_at};
+ghost use Rattle.dj_numbering.specs.Typed.{types_of};
 ghost use Rattle.dj_image.specs.Imaged.{program_of, typed_of};
-ghost use Rattle.dj_initialising.specs.Places.{ArePlaces, IsCounted, one_if_static};
+ghost use Rattle.dj_initialisation.specs.Places.{ArePlaces, IsCounted, one_if_static};
 
 use crate::bits::is_static;
 use dj_image::Image;
-use dj_types::FieldId;
+use dj_numbering::FieldId;
 use std::alloc::{AllocError, Global};
 use std::marker::Model;
 
@@ -21,7 +21,7 @@ pub struct StaticPlaces {
 }
 
 impl Model for StaticPlaces {
-    ghost use Rattle.dj_initialising.specs.Places.{Places};
+    ghost use Rattle.dj_initialisation.specs.Places.{Places};
 
     ghost Value = { Places };
 

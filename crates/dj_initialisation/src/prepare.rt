@@ -1,13 +1,13 @@
 ghost use Rattle.std.specs.Prelude.{◌<◌, length, IfOk};
 ghost use Rattle.dj_model.specs.Sound.{IsProgram};
-ghost use Rattle.dj_calls.specs.Known.{AreKnown};
-ghost use Rattle.dj_types.specs.Typed.{types_of};
+ghost use Rattle.dj_natives.specs.Known.{AreKnown};
+ghost use Rattle.dj_numbering.specs.Typed.{types_of};
 ghost use Rattle.dj_image.specs.Imaged.{program_of, typed_of};
-ghost use Rattle.dj_initialising.specs.Flags.{AreFlags};
-ghost use Rattle.dj_initialising.specs.Places.{ArePlaces};
-ghost use Rattle.dj_initialising.specs.Initialisers.{AreInitialisers};
-ghost use Rattle.dj_initialising.specs.Store.{AreTexts, IsStore, store};
-ghost use Rattle.dj_initialising.specs.Preparing.{Prepares, Pushes, parts};
+ghost use Rattle.dj_initialisation.specs.Flags.{AreFlags};
+ghost use Rattle.dj_initialisation.specs.Places.{ArePlaces};
+ghost use Rattle.dj_initialisation.specs.Initialisers.{AreInitialisers};
+ghost use Rattle.dj_initialisation.specs.Store.{AreTexts, IsStore, store};
+ghost use Rattle.dj_initialisation.specs.Preparing.{Prepares, Pushes, parts};
 
 use crate::constants::fill_all;
 use crate::filled::Filled;
@@ -18,7 +18,7 @@ use crate::pushing::{count_of, push_all};
 use crate::waiting::begin_upward;
 use dj_heap::Heap;
 use dj_image::Image;
-use dj_members::{Literals, Statics};
+use dj_member_effects::{Literals, Statics};
 use dj_stack::Frames;
 use std::alloc::{AllocError, Global};
 

@@ -1,5 +1,5 @@
 ghost use Rattle.std.specs.Prelude.{◌≡◌, ◌≤◌, length, get_or, None, OnOk};
-ghost use Rattle.dj_initialising.specs.Initialisers.{initialiser_count, one_if, pushed, with_initialiser};
+ghost use Rattle.dj_initialisation.specs.Initialisers.{initialiser_count, one_if, pushed, with_initialiser};
 
 use crate::initialisers::{Initialiser, Initialisers};
 use dj_stack::Frames;

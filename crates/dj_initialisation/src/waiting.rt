@@ -1,8 +1,8 @@
 ghost use Rattle.std.specs.Prelude.{◌<◌, length, IfOk};
 ghost use Rattle.dj_model.specs.Sound.{IsProgram};
 ghost use Rattle.dj_image.specs.Imaged.{program_of};
-ghost use Rattle.dj_initialising.specs.Flags.{AreFlags};
-ghost use Rattle.dj_initialising.specs.Waiting.{AreWaiting};
+ghost use Rattle.dj_initialisation.specs.Flags.{AreFlags};
+ghost use Rattle.dj_initialisation.specs.Waiting.{AreWaiting};
 
 use crate::flags::Initialised;
 use dj_image::Image;

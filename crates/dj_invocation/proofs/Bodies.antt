@@ -14,22 +14,22 @@ use Rattle.dj_model.specs.trusted.Linking.{FoundMethod}
 use Rattle.dj_program.specs.trusted.Codes.{code_in}
 use Rattle.dj_program.specs.declared.code.MethodCode.{MethodCode}
 use Rattle.dj_stack.specs.Frames.{StackFrame, top_operands}
-use Rattle.dj_types.specs.Members.{IsMethodThere}
-use Rattle.dj_types.specs.declared.types.MemberOf.{MemberOf}
-use Rattle.dj_types.specs.declared.types.MethodId.{MethodId}
+use Rattle.dj_numbering.specs.Members.{IsMethodThere}
+use Rattle.dj_numbering.specs.declared.types.MemberOf.{MemberOf}
+use Rattle.dj_numbering.specs.declared.types.MethodId.{MethodId}
 use Rattle.dj_image.specs.declared.image.Body.TheVariants as variants
 use Rattle.dj_image.specs.Imaged.{Imaged, program_of, typed_of}
 use Rattle.dj_image.specs.Codes.{SaysBody, IsBodyAt}
-use Rattle.dj_invoking.specs.declared.answers.Invoked.{Invoked}
-use Rattle.dj_invoking.specs.declared.answers.Invoked.TheVariants as invoked
-use Rattle.dj_invoking.specs.declared.entering.Room.{Room}
-use Rattle.dj_invoking.specs.Operands.{with_operands}
-use Rattle.dj_invoking.specs.declared.choosing.Mode.TheVariants as modes
-use Rattle.dj_invoking.specs.Choosing.{IsMethod, reported_mode}
-use Rattle.dj_invoking.specs.Entering.{entered, EntersIfAllowed}
-use Rattle.dj_invoking.specs.Natives.{AreClasses, AreNatives, AreTyped, row_at}
-use Rattle.dj_invoking.specs.Invoking.{Site, Steps, Invokes, RunsBody, taken_kinds, taken_values}
-use Rattle.dj_invoking.proofs.Sites.{calls_code}
+use Rattle.dj_invocation.specs.declared.answers.Invoked.{Invoked}
+use Rattle.dj_invocation.specs.declared.answers.Invoked.TheVariants as invoked
+use Rattle.dj_invocation.specs.declared.entering.Room.{Room}
+use Rattle.dj_invocation.specs.Operands.{with_operands}
+use Rattle.dj_invocation.specs.declared.choosing.Mode.TheVariants as modes
+use Rattle.dj_invocation.specs.Choosing.{IsMethod, reported_mode}
+use Rattle.dj_invocation.specs.Entering.{entered, EntersIfAllowed}
+use Rattle.dj_invocation.specs.Natives.{AreClasses, AreNatives, AreTyped, row_at}
+use Rattle.dj_invocation.specs.Invoking.{Site, Steps, Invokes, RunsBody, taken_kinds, taken_values}
+use Rattle.dj_invocation.proofs.Sites.{calls_code}
 
 same_body : (imaged : Imaged) (method : MethodId) (found other : FoundMethod) → IsMethod (program_of imaged) method found → IsMethod (program_of imaged) method other
     → found.method.body ≡ other.method.body

@@ -12,7 +12,7 @@ use Rattle.dj_model.specs.Instructions.{calls}
 use Rattle.dj_model.specs.trusted.Opcodes.{Row, row_does, rows_of, simple, constant_rows, store_rows, stack_rows, number_rows, bit_rows, last_rows, local_rows, jump_rows, operand_does, literal, member, interface_call, class_use, array_rows, new_array, instruction_of}
 use Rattle.dj_model.specs.trusted.Program.{Program}
 use Rattle.dj_model.specs.Sound.{is_linked}
-use Rattle.dj_invoking.specs.Sites.{opcode_mode, call_mode}
+use Rattle.dj_invocation.specs.Sites.{opcode_mode, call_mode}
 
 -- ---- instructions that call nothing
 

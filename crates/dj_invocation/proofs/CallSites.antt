@@ -18,17 +18,17 @@ use Rattle.dj_model.specs.trusted.State.{instruction_in}
 use Rattle.dj_model.specs.trusted.Kinds.{Signature, call_signature}
 use Rattle.dj_model.specs.trusted.Members.{kinds_of}
 use Rattle.dj_model.specs.trusted.Linking.{FoundMethod, resolve_method}
-use Rattle.dj_check.specs.trusted.Instructions.{index_of}
+use Rattle.dj_early_rules.specs.trusted.Instructions.{index_of}
 use Rattle.dj_program.specs.trusted.Codes.{code_in}
 use Rattle.dj_program.specs.trusted.Naming.{named_at, named_if}
 use Rattle.dj_program.specs.trusted.Naming as naming
 use Rattle.dj_program.specs.declared.code.MethodCode.{MethodCode}
-use Rattle.dj_shape.specs.Kept.{KeptKinds}
-use Rattle.dj_shape.specs.Pools.{SaysKind, call_at}
-use Rattle.dj_shape.specs.declared.pool.ConstantKind.{ConstantKind}
-use Rattle.dj_shape.specs.declared.pool.ConstantKind.TheVariants as constants
-use Rattle.dj_types.specs.Members.{found_method_number}
-use Rattle.dj_types.specs.declared.types.MethodId.{MethodId}
+use Rattle.dj_shape_rule.specs.Kept.{KeptKinds}
+use Rattle.dj_shape_rule.specs.Pools.{SaysKind, call_at}
+use Rattle.dj_shape_rule.specs.declared.pool.ConstantKind.{ConstantKind}
+use Rattle.dj_shape_rule.specs.declared.pool.ConstantKind.TheVariants as constants
+use Rattle.dj_numbering.specs.Members.{found_method_number}
+use Rattle.dj_numbering.specs.declared.types.MethodId.{MethodId}
 use Rattle.dj_image.specs.declared.operand.Operand.{Operand}
 use Rattle.dj_image.specs.declared.operand.Operand.TheVariants as operands
 use Rattle.dj_image.specs.declared.shaped.ShapeParts.{ShapeParts}
@@ -36,17 +36,17 @@ use Rattle.dj_image.specs.Imaged.{Imaged, program_of}
 use Rattle.dj_image.specs.Operands.{method_operand, operand_of, resolved_method_number}
 use Rattle.dj_image.specs.Codes.{IsOperandAt}
 use Rattle.dj_image.specs.Shaped.{AreShapeParts}
-use Rattle.dj_activations.specs.Instructions.{IsInstrAt, instruction_of_number}
-use Rattle.dj_activations.proofs.Numbers.{code_of_number}
-use Rattle.dj_activations.proofs.InstructionFacts.{operand_is}
-use Rattle.dj_invoking.specs.declared.choosing.Mode.{Mode}
-use Rattle.dj_invoking.specs.declared.choosing.Mode.TheVariants as modes
-use Rattle.dj_invoking.specs.declared.site.CallSite.{CallSite}
-use Rattle.dj_invoking.specs.Choosing.{IsMethod, reported_mode}
-use Rattle.dj_invoking.specs.Operands.{parameters_in}
-use Rattle.dj_invoking.specs.Sites.{AreParametersAt, IsCallAt, call_index, call_mode, call_named, desc_index, opcode_mode}
-use Rattle.dj_invoking.proofs.Found.{found_numbered, resolved_own}
-use Rattle.dj_invoking.proofs.SignatureFacts.{kinds_there}
+use Rattle.dj_current_method.specs.Instructions.{IsInstrAt, instruction_of_number}
+use Rattle.dj_current_method.proofs.Numbers.{code_of_number}
+use Rattle.dj_current_method.proofs.InstructionFacts.{operand_is}
+use Rattle.dj_invocation.specs.declared.choosing.Mode.{Mode}
+use Rattle.dj_invocation.specs.declared.choosing.Mode.TheVariants as modes
+use Rattle.dj_invocation.specs.declared.site.CallSite.{CallSite}
+use Rattle.dj_invocation.specs.Choosing.{IsMethod, reported_mode}
+use Rattle.dj_invocation.specs.Operands.{parameters_in}
+use Rattle.dj_invocation.specs.Sites.{AreParametersAt, IsCallAt, call_index, call_mode, call_named, desc_index, opcode_mode}
+use Rattle.dj_invocation.proofs.Found.{found_numbered, resolved_own}
+use Rattle.dj_invocation.proofs.SignatureFacts.{kinds_there}
 
 -- ---- by the opcode and the operand
 

@@ -12,8 +12,8 @@ use Rattle.dj_model.specs.trusted.Initialisation.{locals_for, new_frame}
 use Rattle.dj_model.specs.trusted.Step.{Went, Ended, called}
 use Rattle.dj_stack.specs.Frames.{StackFrame}
 use Rattle.dj_image.specs.Imaged.{program_of}
-use Rattle.dj_invoking.specs.Operands.{with_operands}
-use Rattle.dj_invoking.specs.Invoking.{Site, Calls, Enters, IsTooDeep, taken_values, left_frames}
+use Rattle.dj_invocation.specs.Operands.{with_operands}
+use Rattle.dj_invocation.specs.Invoking.{Site, Calls, Enters, IsTooDeep, taken_values, left_frames}
 
 -- a frame in the model, where methods have these names
 abbrev pub seen_as : (ℕ → Declared) → StackFrame → Frame Declared

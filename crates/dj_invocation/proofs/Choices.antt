@@ -19,17 +19,17 @@ use Rattle.dj_model.specs.trusted.Performing.{class_in, class_at_number, is_inst
 use Rattle.dj_model.specs.trusted.Members.{asked_class}
 use Rattle.dj_model.proofs.MappedHeaps.{object_at_mapped, class_of_mapped}
 use Rattle.dj_effects.proofs.ArrayFacts.{not_null}
-use Rattle.dj_classes.specs.Tables.{name_of, name_at}
-use Rattle.dj_linking.specs.Linked.{class_name}
-use Rattle.dj_types.specs.Typed.{Typed, types_of, type_at, is_subtype_at}
-use Rattle.dj_types.specs.Members.{found_method_number, selected, special_of}
-use Rattle.dj_types.specs.declared.types.MethodId.{MethodId}
+use Rattle.dj_class_table.specs.Tables.{name_of, name_at}
+use Rattle.dj_resolution.specs.Linked.{class_name}
+use Rattle.dj_numbering.specs.Typed.{Typed, types_of, type_at, is_subtype_at}
+use Rattle.dj_numbering.specs.Members.{found_method_number, selected, special_of}
+use Rattle.dj_numbering.specs.declared.types.MethodId.{MethodId}
 use Rattle.dj_image.specs.Imaged.{Imaged, program_of, typed_of}
-use Rattle.dj_invoking.specs.declared.choosing.Chosen.{Chosen}
-use Rattle.dj_invoking.specs.declared.choosing.Chosen.TheVariants as chosen
-use Rattle.dj_invoking.specs.Choosing.{IsNumber, IsThere, special_choice, Choice, IsNull, IsBroken, IsMethod, IsMethodOrNone, IsChosen, RefusesWith, chosen_method, received_choice, taken_method}
-use Rattle.dj_invoking.specs.Receivers.{AreNumbered, AreObjects, IsObject, typed_heap}
-use Rattle.dj_invoking.proofs.Found.{reported_method, resolved_own, selected_there, special_there, own_there}
+use Rattle.dj_invocation.specs.declared.choosing.Chosen.{Chosen}
+use Rattle.dj_invocation.specs.declared.choosing.Chosen.TheVariants as chosen
+use Rattle.dj_invocation.specs.Choosing.{IsNumber, IsThere, special_choice, Choice, IsNull, IsBroken, IsMethod, IsMethodOrNone, IsChosen, RefusesWith, chosen_method, received_choice, taken_method}
+use Rattle.dj_invocation.specs.Receivers.{AreNumbered, AreObjects, IsObject, typed_heap}
+use Rattle.dj_invocation.proofs.Found.{reported_method, resolved_own, selected_there, special_there, own_there}
 
 -- ---- classes of objects
 

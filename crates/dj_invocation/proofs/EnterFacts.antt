@@ -8,9 +8,9 @@ use Rattle.dj_model.specs.trusted.Numbers.{is_long}
 use Rattle.dj_model.specs.trusted.Values.{in_slots}
 use Rattle.dj_model.specs.trusted.Initialisation.{padded}
 use Rattle.dj_stack.specs.Frames.{StackFrame, SameButLocals, SameButOperands, top_locals, top_operands, new_frame}
-use Rattle.dj_invoking.specs.Operands.{with_operands}
-use Rattle.dj_invoking.specs.Entering.{entered}
-use Rattle.dj_invoking.proofs.OperandFacts.{frames_left}
+use Rattle.dj_invocation.specs.Operands.{with_operands}
+use Rattle.dj_invocation.specs.Entering.{entered}
+use Rattle.dj_invocation.proofs.OperandFacts.{frames_left}
 
 -- ---- slots
 

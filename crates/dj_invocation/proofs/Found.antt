@@ -13,10 +13,10 @@ use Rattle.dj_model.specs.trusted.Program.{Program, Class, Method, class_at, met
 use Rattle.dj_model.specs.trusted.Linking.{FoundMethod, method_or, first_method, is_plain, is_not_static, with_body, has_body, member_class, chain, superclasses, is_among, select, special_method, resolve_method}
 use Rattle.dj_model.proofs.MappedNames.{either}
 use Rattle.dj_model.proofs.SoundLinks.{IsThere, resolved_there, there_name}
-use Rattle.dj_declared.proofs.DescTests.{same_name_itself}
-use Rattle.dj_types.specs.Members.{all_methods, methods_in, method_number, found_method_number}
-use Rattle.dj_types.specs.declared.types.MethodId.{MethodId}
-use Rattle.dj_invoking.specs.Choosing.{IsNumber, IsMethodOrNone}
+use Rattle.dj_declarations.proofs.DescTests.{same_name_itself}
+use Rattle.dj_numbering.specs.Members.{all_methods, methods_in, method_number, found_method_number}
+use Rattle.dj_numbering.specs.declared.types.MethodId.{MethodId}
+use Rattle.dj_invocation.specs.Choosing.{IsNumber, IsMethodOrNone}
 
 -- a method of its class by its own name and descriptor
 abbrev pub IsOwn : Program → FoundMethod → Type 0

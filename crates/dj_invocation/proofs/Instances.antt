@@ -17,12 +17,12 @@ use Rattle.dj_model.specs.trusted.Numbers.{is_of_kind}
 use Rattle.dj_model.specs.trusted.Linking.{is_subtype}
 use Rattle.dj_model.specs.trusted.Performing.{is_instance, class_at_number}
 use Rattle.dj_model.specs.trusted.Members.{with_kind, kinds_of, are_instances}
-use Rattle.dj_types.specs.Typed.{Typed, types_of}
+use Rattle.dj_numbering.specs.Typed.{Typed, types_of}
 use Rattle.dj_image.specs.Imaged.{Imaged, program_of, typed_of}
-use Rattle.dj_invoking.specs.Operands.{fit}
-use Rattle.dj_invoking.specs.Natives.{IsClassOf, SaysClass, AreClasses, AreTyped}
-use Rattle.dj_invoking.specs.Receivers.{HasObject, IsObject, takes_argument, typed_heap}
-use Rattle.dj_invoking.proofs.OperandFacts.{from_end, first_left, same_kind_is, within_take}
+use Rattle.dj_invocation.specs.Operands.{fit}
+use Rattle.dj_invocation.specs.Natives.{IsClassOf, SaysClass, AreClasses, AreTyped}
+use Rattle.dj_invocation.specs.Receivers.{HasObject, IsObject, takes_argument, typed_heap}
+use Rattle.dj_invocation.proofs.OperandFacts.{from_end, first_left, same_kind_is, within_take}
 
 fit_at : (ks : List Kind) (vs : List Value) (at : ℕ) (k : Kind) (v : Value) → fit ks vs ≡ true → slice_get ks at ≡ Some k → slice_get vs at ≡ Some v → k ≡ value_kind v
 fit_at [] vs at k v e there is = absurd (none-some k there)

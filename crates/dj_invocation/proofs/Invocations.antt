@@ -8,16 +8,16 @@ use Rattle.dj_model.specs.trusted.Linking.{FoundMethod, resolve_method}
 use Rattle.dj_model.specs.trusted.State.{Raise, Goes, End}
 use Rattle.dj_model.specs.trusted.Members.{kinds_of}
 use Rattle.dj_stack.specs.Frames.{StackFrame, top_operands}
-use Rattle.dj_types.specs.declared.types.MethodId.{MethodId}
+use Rattle.dj_numbering.specs.declared.types.MethodId.{MethodId}
 use Rattle.dj_image.specs.Imaged.{program_of}
-use Rattle.dj_invoking.specs.declared.choosing.Mode.TheVariants as modes
-use Rattle.dj_invoking.specs.declared.choosing.Chosen.TheVariants as chosen
-use Rattle.dj_invoking.specs.Operands.{fit, receiver_in}
-use Rattle.dj_invoking.specs.Receivers.{typed_heap}
-use Rattle.dj_invoking.specs.Choosing.{IsMethod, IsChosen, reported_mode, choice_of}
-use Rattle.dj_invoking.specs.Invoking.{Site, CallIs, GoesOn, RunsBody, left_values, left_frames}
-use Rattle.dj_invoking.proofs.Found.{resolved_own, resolved_described}
-use Rattle.dj_invoking.proofs.Sites.{is_null, is_broken, is_method, call_no_receiver, runs_received, goes_null, goes_broken}
+use Rattle.dj_invocation.specs.declared.choosing.Mode.TheVariants as modes
+use Rattle.dj_invocation.specs.declared.choosing.Chosen.TheVariants as chosen
+use Rattle.dj_invocation.specs.Operands.{fit, receiver_in}
+use Rattle.dj_invocation.specs.Receivers.{typed_heap}
+use Rattle.dj_invocation.specs.Choosing.{IsMethod, IsChosen, reported_mode, choice_of}
+use Rattle.dj_invocation.specs.Invoking.{Site, CallIs, GoesOn, RunsBody, left_values, left_frames}
+use Rattle.dj_invocation.proofs.Found.{resolved_own, resolved_described}
+use Rattle.dj_invocation.proofs.Sites.{is_null, is_broken, is_method, call_no_receiver, runs_received, goes_null, goes_broken}
 
 module _ (s : Site) (resolved : FoundMethod) (kinds : List Kind) (count : ℕ) (n : count ≡ length kinds)
     (found : resolve_method (program_of s.imaged) s.imaged.prefix s.member ≡ Some resolved) (kinds_are : kinds_of (parameters_of s.member.desc) ≡ Some kinds)

@@ -7,12 +7,12 @@ use Rattle.dj_names.specs.trusted.Heaps.{Heap}
 use Rattle.dj_names.specs.declared.descriptor.Ty.{Ty}
 use Rattle.dj_model.specs.trusted.Instructions.{Virtual, Special, Static, Interface}
 use Rattle.dj_stack.specs.Frames.{StackFrame}
-use Rattle.dj_invoking.specs.declared.choosing.Mode.TheVariants as modes
-use Rattle.dj_invoking.specs.declared.choosing.Chosen.TheVariants as chosen
-use Rattle.dj_invoking.specs.declared.entering.Room.{Room}
-use Rattle.dj_invoking.specs.Operands.{fit, receiver_in}
-use Rattle.dj_invoking.specs.Entering.{entered, EntersIfAllowed}
-use Rattle.dj_invoking.specs.Choosing.{IsNull, IsBroken, IsChosen, reported_mode, received_choice, taken_method}
+use Rattle.dj_invocation.specs.declared.choosing.Mode.TheVariants as modes
+use Rattle.dj_invocation.specs.declared.choosing.Chosen.TheVariants as chosen
+use Rattle.dj_invocation.specs.declared.entering.Room.{Room}
+use Rattle.dj_invocation.specs.Operands.{fit, receiver_in}
+use Rattle.dj_invocation.specs.Entering.{entered, EntersIfAllowed}
+use Rattle.dj_invocation.specs.Choosing.{IsNull, IsBroken, IsChosen, reported_mode, received_choice, taken_method}
 
 -- the top first: an int above a long above a reference
 abbrev some_operands : List Value

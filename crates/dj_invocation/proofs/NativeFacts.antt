@@ -13,16 +13,16 @@ use Rattle.dj_names.specs.declared.descriptor.Of.TheVariants as ofs
 use Rattle.dj_names.specs.trusted.Types.{Name, base_array, parameters_of}
 use Rattle.dj_model.specs.trusted.Program.{Program, Method, Native}
 use Rattle.dj_model.specs.trusted.Linking.{FoundMethod}
-use Rattle.dj_classes.specs.Tables.{methods_at, class_number}
-use Rattle.dj_classes.proofs.Numbered.{name_at-number}
-use Rattle.dj_linking.specs.Linked.{Linked}
-use Rattle.dj_types.specs.Typed.{Typed, types_of}
-use Rattle.dj_types.specs.Members.{all_methods, methods_in}
+use Rattle.dj_class_table.specs.Tables.{methods_at, class_number}
+use Rattle.dj_class_table.proofs.Numbered.{name_at-number}
+use Rattle.dj_resolution.specs.Linked.{Linked}
+use Rattle.dj_numbering.specs.Typed.{Typed, types_of}
+use Rattle.dj_numbering.specs.Members.{all_methods, methods_in}
 use Rattle.dj_image.specs.Imaged.{Imaged, program_of, typed_of}
 use Rattle.dj_image.proofs.Bare.{bare_program}
 use Rattle.dj_image.proofs.BareTyped.{methods_at_bare, number_bare}
-use Rattle.dj_invoking.specs.Natives.{SaysClass, AreClasses, row_at}
-use Rattle.dj_invoking.proofs.Choices.{class_type_there}
+use Rattle.dj_invocation.specs.Natives.{SaysClass, AreClasses, row_at}
+use Rattle.dj_invocation.proofs.Choices.{class_type_there}
 
 -- ---- how many methods
 

@@ -15,7 +15,7 @@ use Rattle.dj_model.specs.trusted.Numbers.{is_of_kind, same_kind}
 use Rattle.dj_model.specs.trusted.Members.{with_last, taken_from}
 use Rattle.dj_stack.specs.Frames.{StackFrame, SameButOperands, operand_at, top_operands}
 use Rattle.dj_effects.proofs.TopFacts.{last_frame}
-use Rattle.dj_invoking.specs.Operands.{fit, receiver_in, with_operands}
+use Rattle.dj_invocation.specs.Operands.{fit, receiver_in, with_operands}
 
 -- ---- from the top
 

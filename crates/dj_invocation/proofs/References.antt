@@ -9,11 +9,11 @@ use Rattle.dj_names.specs.declared.run.Value.TheVariants as values
 use Rattle.dj_names.specs.trusted.Heaps.{Object, Heap, class_of}
 use Rattle.dj_heap.specs.Heaps.{LimitedHeap}
 use Rattle.dj_effects.proofs.ArrayFacts.{not_null}
-use Rattle.dj_calls.specs.Known.{IsKnown, AreKnown}
-use Rattle.dj_types.specs.Typed.{types_of}
+use Rattle.dj_natives.specs.Known.{IsKnown, AreKnown}
+use Rattle.dj_numbering.specs.Typed.{types_of}
 use Rattle.dj_image.specs.Imaged.{Imaged, typed_of}
-use Rattle.dj_invoking.specs.Receivers.{AreNumbered, AreObjects, HasObject, IsObject}
-use Rattle.dj_invoking.proofs.OperandFacts.{within_take}
+use Rattle.dj_invocation.specs.Receivers.{AreNumbered, AreObjects, HasObject, IsObject}
+use Rattle.dj_invocation.proofs.OperandFacts.{within_take}
 
 -- ---- objects
 

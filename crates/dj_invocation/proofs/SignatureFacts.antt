@@ -9,12 +9,12 @@ use Rattle.dj_names.specs.trusted.Types.{parameters_of}
 use Rattle.dj_model.specs.trusted.Linking.{FoundMethod}
 use Rattle.dj_model.specs.trusted.Members.{kinds_of}
 use Rattle.dj_model.specs.trusted.Kinds.{Signature, signature_with, signature_result, call_signature}
-use Rattle.dj_shape.specs.Pools.{call_at}
-use Rattle.dj_types.specs.declared.types.MethodId.{MethodId}
+use Rattle.dj_shape_rule.specs.Pools.{call_at}
+use Rattle.dj_numbering.specs.declared.types.MethodId.{MethodId}
 use Rattle.dj_image.specs.declared.shaped.ShapeParts.{ShapeParts}
 use Rattle.dj_image.specs.Imaged.{Imaged, program_of}
 use Rattle.dj_image.specs.Shaped.{AreShapeParts}
-use Rattle.dj_invoking.specs.Choosing.{IsMethod}
+use Rattle.dj_invocation.specs.Choosing.{IsMethod}
 
 -- the call that is kept is of the method's descriptor
 pub call_reported : (imaged : Imaged) (method : MethodId) (found : FoundMethod) (parts : ShapeParts) → AreShapeParts imaged method.number parts → IsMethod (program_of imaged) method found

@@ -10,16 +10,16 @@ use Rattle.dj_ops.specs.Mnemonics.{getstatic, putfield, invokevirtual, invokespe
 use Rattle.dj_model.specs.trusted.Types.{Member, no_parameters}
 use Rattle.dj_model.specs.trusted.Instructions.{Instruction, Nop, Invoke, Static}
 use Rattle.dj_model.specs.trusted.Members.{kinds_of}
-use Rattle.dj_shape.specs.Kept.{KeptKinds}
-use Rattle.dj_shape.specs.declared.pool.ConstantKind.TheVariants as constants
+use Rattle.dj_shape_rule.specs.Kept.{KeptKinds}
+use Rattle.dj_shape_rule.specs.declared.pool.ConstantKind.TheVariants as constants
 use Rattle.dj_image.specs.Imaged.{Imaged}
-use Rattle.dj_activations.specs.Instructions.{instruction_of_number}
-use Rattle.dj_invoking.specs.declared.choosing.Mode.{Mode}
-use Rattle.dj_invoking.specs.declared.choosing.Mode.TheVariants as modes
-use Rattle.dj_invoking.specs.declared.site.CallSite.{CallSite}
-use Rattle.dj_invoking.specs.Choosing.{reported_mode}
-use Rattle.dj_invoking.specs.Operands.{parameters_in}
-use Rattle.dj_invoking.specs.Sites.{IsCallAt, call_index, call_mode, call_named, opcode_mode}
+use Rattle.dj_current_method.specs.Instructions.{instruction_of_number}
+use Rattle.dj_invocation.specs.declared.choosing.Mode.{Mode}
+use Rattle.dj_invocation.specs.declared.choosing.Mode.TheVariants as modes
+use Rattle.dj_invocation.specs.declared.site.CallSite.{CallSite}
+use Rattle.dj_invocation.specs.Choosing.{reported_mode}
+use Rattle.dj_invocation.specs.Operands.{parameters_in}
+use Rattle.dj_invocation.specs.Sites.{IsCallAt, call_index, call_mode, call_named, opcode_mode}
 
 -- ---- forms
 

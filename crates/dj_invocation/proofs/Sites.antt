@@ -23,16 +23,16 @@ use Rattle.dj_model.specs.trusted.Performing.{is_instance, class_at_number, nati
 use Rattle.dj_model.specs.trusted.Members.{broken, kinds_of, Arguments, taken_from, arguments_of, are_instances, run_body, run_method, received, call, call_with, invoke}
 use Rattle.dj_model.proofs.SoundLinks.{IsThere, declared_there}
 use Rattle.dj_stack.specs.Frames.{StackFrame, top_operands}
-use Rattle.dj_types.specs.declared.types.MethodId.{MethodId}
+use Rattle.dj_numbering.specs.declared.types.MethodId.{MethodId}
 use Rattle.dj_image.specs.Imaged.{program_of}
-use Rattle.dj_invoking.specs.declared.choosing.Mode.TheVariants as modes
-use Rattle.dj_invoking.specs.declared.choosing.Chosen.TheVariants as chosen
-use Rattle.dj_invoking.specs.Operands.{fit, receiver_in}
-use Rattle.dj_invoking.specs.Receivers.{typed_heap}
-use Rattle.dj_invoking.specs.Choosing.{Choice, Takes, IsNull, IsBroken, IsMethod, IsChosen, reported_mode, taken_method, received_choice, choice_of, effect_of}
-use Rattle.dj_invoking.specs.Invoking.{Site, CallIs, taken_values, left_values, left_part, left_frames, GoesOn, Calls, IsNative, RunsBody, taken_kinds}
-use Rattle.dj_invoking.proofs.OperandFacts.{fit_within, taken_fit, taken_not, values_taken, with_receiver}
-use Rattle.dj_invoking.proofs.Found.{IsOwn, selected_there, special_there, described_there}
+use Rattle.dj_invocation.specs.declared.choosing.Mode.TheVariants as modes
+use Rattle.dj_invocation.specs.declared.choosing.Chosen.TheVariants as chosen
+use Rattle.dj_invocation.specs.Operands.{fit, receiver_in}
+use Rattle.dj_invocation.specs.Receivers.{typed_heap}
+use Rattle.dj_invocation.specs.Choosing.{Choice, Takes, IsNull, IsBroken, IsMethod, IsChosen, reported_mode, taken_method, received_choice, choice_of, effect_of}
+use Rattle.dj_invocation.specs.Invoking.{Site, CallIs, taken_values, left_values, left_part, left_frames, GoesOn, Calls, IsNative, RunsBody, taken_kinds}
+use Rattle.dj_invocation.proofs.OperandFacts.{fit_within, taken_fit, taken_not, values_taken, with_receiver}
+use Rattle.dj_invocation.proofs.Found.{IsOwn, selected_there, special_there, described_there}
 
 -- ---- choices
 

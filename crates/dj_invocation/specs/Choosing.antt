@@ -13,12 +13,12 @@ use Rattle.dj_model.specs.trusted.Linking.{FoundMethod, select, special_method}
 use Rattle.dj_model.specs.trusted.State.{Terms, Part, Raise, Goes, Effect, goes}
 use Rattle.dj_model.specs.trusted.Performing.{is_instance, class_at_number}
 use Rattle.dj_model.specs.trusted.Members.{broken, asked_class, run_body}
-use Rattle.dj_types.specs.Members.{all_methods}
-use Rattle.dj_types.specs.declared.types.MethodId.{MethodId}
-use Rattle.dj_invoking.specs.declared.choosing.Mode.{Mode}
-use Rattle.dj_invoking.specs.declared.choosing.Mode.TheVariants as modes
-use Rattle.dj_invoking.specs.declared.choosing.Chosen.{Chosen}
-use Rattle.dj_invoking.specs.declared.choosing.Chosen.TheVariants as chosen
+use Rattle.dj_numbering.specs.Members.{all_methods}
+use Rattle.dj_numbering.specs.declared.types.MethodId.{MethodId}
+use Rattle.dj_invocation.specs.declared.choosing.Mode.{Mode}
+use Rattle.dj_invocation.specs.declared.choosing.Mode.TheVariants as modes
+use Rattle.dj_invocation.specs.declared.choosing.Chosen.{Chosen}
+use Rattle.dj_invocation.specs.declared.choosing.Chosen.TheVariants as chosen
 
 -- without the count of a call of an interface's method
 abbrev pub reported_mode : model.Mode → Mode

@@ -5,8 +5,8 @@ use Rattle.dj_model.specs.trusted.Numbers.{is_long}
 use Rattle.dj_model.specs.trusted.Values.{in_slots}
 use Rattle.dj_model.specs.trusted.Initialisation.{padded}
 use Rattle.dj_stack.specs.Frames.{StackFrame, most_frames, top_operands}
-use Rattle.dj_invoking.specs.declared.entering.Room.{Room}
-use Rattle.dj_invoking.specs.Operands.{with_operands}
+use Rattle.dj_invocation.specs.declared.entering.Room.{Room}
+use Rattle.dj_invocation.specs.Operands.{with_operands}
 
 -- at instruction 0, without operands; the first local variables are arguments, a long in two of them, and the others have no value
 abbrev pub entered : ℕ → ℕ → ℕ → List Value → StackFrame

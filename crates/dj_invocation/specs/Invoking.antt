@@ -19,14 +19,14 @@ use Rattle.dj_model.specs.trusted.Members as model
 use Rattle.dj_model.specs.trusted.Members.{are_instances, kinds_of, run_body}
 use Rattle.dj_stack.specs.Frames.{StackFrame, most_frames, top_operands}
 use Rattle.dj_program.specs.declared.code.MethodCode.{MethodCode}
-use Rattle.dj_types.specs.declared.types.MethodId.{MethodId}
+use Rattle.dj_numbering.specs.declared.types.MethodId.{MethodId}
 use Rattle.dj_image.specs.Imaged.{Imaged, program_of}
-use Rattle.dj_invoking.specs.declared.answers.Invoked.{Invoked}
-use Rattle.dj_invoking.specs.declared.answers.Invoked.TheVariants as invoked
-use Rattle.dj_invoking.specs.Operands.{fit, with_operands}
-use Rattle.dj_invoking.specs.Receivers.{typed_heap}
-use Rattle.dj_invoking.specs.Choosing.{IsMethod}
-use Rattle.dj_invoking.specs.Entering.{entered}
+use Rattle.dj_invocation.specs.declared.answers.Invoked.{Invoked}
+use Rattle.dj_invocation.specs.declared.answers.Invoked.TheVariants as invoked
+use Rattle.dj_invocation.specs.Operands.{fit, with_operands}
+use Rattle.dj_invocation.specs.Receivers.{typed_heap}
+use Rattle.dj_invocation.specs.Choosing.{IsMethod}
+use Rattle.dj_invocation.specs.Entering.{entered}
 
 -- the state before a call, in a method of the class `own`
 pub record Site : Type 0 where

@@ -10,10 +10,10 @@ use Rattle.dj_names.specs.trusted.Types.{parameters_of}
 use Rattle.dj_model.specs.trusted.Program.{Native}
 use Rattle.dj_model.specs.trusted.Linking.{FoundMethod}
 use Rattle.dj_model.specs.trusted.Members.{kinds_of}
-use Rattle.dj_types.specs.Typed.{Typed, types_of}
-use Rattle.dj_types.specs.Members.{all_methods}
+use Rattle.dj_numbering.specs.Typed.{Typed, types_of}
+use Rattle.dj_numbering.specs.Members.{all_methods}
 use Rattle.dj_image.specs.Imaged.{Imaged, program_of, typed_of}
-use Rattle.dj_invoking.specs.Operands.{fit}
+use Rattle.dj_invocation.specs.Operands.{fit}
 
 abbrev pub IsClassOf : Typed → Ty → Option ℕ → Type 0
 IsClassOf typed ty None = ⊥

@@ -9,7 +9,7 @@ use Rattle.dj_names.specs.Heaps.{heap_map}
 use Rattle.dj_model.specs.trusted.Types.{Prefix}
 use Rattle.dj_model.specs.trusted.Program.{Program}
 use Rattle.dj_model.specs.trusted.Performing.{is_instance}
-use Rattle.dj_types.specs.Typed.{types_of, type_at}
+use Rattle.dj_numbering.specs.Typed.{types_of, type_at}
 use Rattle.dj_image.specs.Imaged.{Imaged, typed_of}
 
 -- the heap with types for the numbers of classes

@@ -10,17 +10,17 @@ use Rattle.dj_model.specs.trusted.Members.{kinds_of}
 use Rattle.dj_model.specs.trusted.Kinds.{Signature}
 use Rattle.dj_model.specs.trusted.Linking.{FoundMethod, resolve_method}
 use Rattle.dj_program.specs.declared.code.MethodCode.{MethodCode}
-use Rattle.dj_shape.specs.Kept.{KeptKinds}
-use Rattle.dj_shape.specs.Pools.{call_at}
-use Rattle.dj_shape.specs.declared.pool.ConstantKind.{ConstantKind}
-use Rattle.dj_shape.specs.declared.pool.ConstantKind.TheVariants as constants
+use Rattle.dj_shape_rule.specs.Kept.{KeptKinds}
+use Rattle.dj_shape_rule.specs.Pools.{call_at}
+use Rattle.dj_shape_rule.specs.declared.pool.ConstantKind.{ConstantKind}
+use Rattle.dj_shape_rule.specs.declared.pool.ConstantKind.TheVariants as constants
 use Rattle.dj_image.specs.Imaged.{Imaged, program_of}
-use Rattle.dj_activations.specs.Instructions.{instruction_of_number}
-use Rattle.dj_invoking.specs.declared.choosing.Mode.{Mode}
-use Rattle.dj_invoking.specs.declared.choosing.Mode.TheVariants as modes
-use Rattle.dj_invoking.specs.declared.site.CallSite.{CallSite}
-use Rattle.dj_invoking.specs.Choosing.{IsMethod, reported_mode}
-use Rattle.dj_invoking.specs.Operands.{parameters_in}
+use Rattle.dj_current_method.specs.Instructions.{instruction_of_number}
+use Rattle.dj_invocation.specs.declared.choosing.Mode.{Mode}
+use Rattle.dj_invocation.specs.declared.choosing.Mode.TheVariants as modes
+use Rattle.dj_invocation.specs.declared.site.CallSite.{CallSite}
+use Rattle.dj_invocation.specs.Choosing.{IsMethod, reported_mode}
+use Rattle.dj_invocation.specs.Operands.{parameters_in}
 
 -- the instruction of the number in the method of the number calls this, by this mode, on arguments of these kinds
 pub record IsCallAt (imaged : Imaged) (caller number : ℕ) (site : CallSite) : Type 0 where

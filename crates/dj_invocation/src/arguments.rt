@@ -5,10 +5,10 @@ ghost use Rattle.dj_names.specs.trusted.Values.{value_kind};
 ghost use Rattle.dj_model.specs.trusted.Members as model;
 ghost use Rattle.dj_model.specs.trusted.Performing.{is_instance};
 ghost use Rattle.dj_stack.specs.Frames.{top_operands};
-ghost use Rattle.dj_types.specs.Typed.{types_of};
+ghost use Rattle.dj_numbering.specs.Typed.{types_of};
 ghost use Rattle.dj_image.specs.Imaged.{program_of, typed_of};
-ghost use Rattle.dj_invoking.specs.Natives.{AreTyped, IsClassOf};
-ghost use Rattle.dj_invoking.specs.Receivers.{AreNumbered, AreObjects, HasObject, IsObject, takes_argument, typed_heap};
+ghost use Rattle.dj_invocation.specs.Natives.{AreTyped, IsClassOf};
+ghost use Rattle.dj_invocation.specs.Receivers.{AreNumbered, AreObjects, HasObject, IsObject, takes_argument, typed_heap};
 
 use crate::operands::operand;
 use dj_heap::Heap;

@@ -2,11 +2,11 @@ ghost use Rattle.std.specs.Prelude.{◌≡◌, ◌<◌, None, Some, IfSome, leng
 ghost use Rattle.dj_model.specs.trusted.Instructions as model;
 ghost use Rattle.dj_model.specs.trusted.Types.{Member};
 ghost use Rattle.dj_model.specs.trusted.Linking.{FoundMethod, resolve_method, special_method};
-ghost use Rattle.dj_linking.specs.Linked.{class_name};
-ghost use Rattle.dj_types.specs.Members.{all_methods};
+ghost use Rattle.dj_resolution.specs.Linked.{class_name};
+ghost use Rattle.dj_numbering.specs.Members.{all_methods};
 ghost use Rattle.dj_image.specs.Imaged.{program_of};
-ghost use Rattle.dj_invoking.specs.Choosing.{IsNumber, IsThere, IsMethod, IsMethodOrNone, IsChosen, RefusesWith, choice_of, chosen_method, special_choice, reported_mode, virtual_choice};
-ghost use Rattle.dj_invoking.specs.Receivers.{AreNumbered, IsObject, typed_heap};
+ghost use Rattle.dj_invocation.specs.Choosing.{IsNumber, IsThere, IsMethod, IsMethodOrNone, IsChosen, RefusesWith, choice_of, chosen_method, special_choice, reported_mode, virtual_choice};
+ghost use Rattle.dj_invocation.specs.Receivers.{AreNumbered, IsObject, typed_heap};
 
 use dj_heap::Heap;
 use dj_image::{Image, MethodId};

@@ -3,8 +3,8 @@ ghost use Rattle.dj_model.specs.trusted.Numbers.{is_long};
 ghost use Rattle.dj_model.specs.trusted.Values.{in_slots};
 ghost use Rattle.dj_model.specs.trusted.Initialisation.{padded};
 ghost use Rattle.dj_stack.specs.Frames.{SameButLocals, most_frames, top_locals, top_operands};
-ghost use Rattle.dj_invoking.specs.Operands.{with_operands};
-ghost use Rattle.dj_invoking.specs.Entering.{EntersIfAllowed};
+ghost use Rattle.dj_invocation.specs.Operands.{with_operands};
+ghost use Rattle.dj_invocation.specs.Entering.{EntersIfAllowed};
 
 use crate::operands::{copy_operands, drop_operands};
 use dj_names::Value;

@@ -6,15 +6,15 @@ ghost use Rattle.dj_names.specs.declared.descriptor.Of.TheVariants as ofs;
 ghost use Rattle.dj_names.specs.declared.native.NativeId.{NativeId};
 ghost use Rattle.dj_model.specs.trusted.Program.{Native};
 ghost use Rattle.dj_model.specs.trusted.Linking.{FoundMethod};
-ghost use Rattle.dj_types.specs.Typed.{types_of};
-ghost use Rattle.dj_types.specs.Members.{all_methods};
+ghost use Rattle.dj_numbering.specs.Typed.{types_of};
+ghost use Rattle.dj_numbering.specs.Members.{all_methods};
 ghost use Rattle.dj_image.specs.Imaged.{program_of, typed_of};
-ghost use Rattle.dj_invoking.specs.Choosing.{IsMethod, IsNumber};
-ghost use Rattle.dj_invoking.specs.Natives.{AreClasses, AreNatives, SaysClass, row_at};
+ghost use Rattle.dj_invocation.specs.Choosing.{IsMethod, IsNumber};
+ghost use Rattle.dj_invocation.specs.Natives.{AreClasses, AreNatives, SaysClass, row_at};
 
 use dj_image::{Body, Image, MethodId};
+use dj_library_types::Classes;
 use dj_names::{Base, Desc, DescError, Kind, Of, Ty, kind_of, read_desc};
-use dj_natives::Classes;
 use std::alloc::{AllocError, AllocFailed, Global};
 use std::marker::Model;
 use thiserror::Error;
@@ -31,7 +31,7 @@ pub enum NativesError {
 }
 
 impl From<AllocError> for NativesError {
-    ghost use Rattle.dj_invoking.specs.declared.natives.NativesError.TheVariants.{Memory};
+    ghost use Rattle.dj_invocation.specs.declared.natives.NativesError.TheVariants.{Memory};
 
     ghost from_gives = { λ _ e. e ≡ Memory };
 
@@ -41,7 +41,7 @@ impl From<AllocError> for NativesError {
 }
 
 impl<T: Drop> From<AllocFailed<T>> for NativesError {
-    ghost use Rattle.dj_invoking.specs.declared.natives.NativesError.TheVariants.{Memory};
+    ghost use Rattle.dj_invocation.specs.declared.natives.NativesError.TheVariants.{Memory};
 
     ghost from_gives = { λ _ e. e ≡ Memory };
 
@@ -51,7 +51,7 @@ impl<T: Drop> From<AllocFailed<T>> for NativesError {
 }
 
 impl From<DescError> for NativesError {
-    ghost use Rattle.dj_invoking.specs.declared.natives.NativesError.TheVariants.{Memory};
+    ghost use Rattle.dj_invocation.specs.declared.natives.NativesError.TheVariants.{Memory};
 
     ghost from_gives = { λ _ e. e ≡ Memory };
 

@@ -1,6 +1,6 @@
 ghost use Rattle.std.specs.Prelude.{◌≡◌, ◌<◌, ◌≤◌, Some, None, true, length, reverse, take, drop, slice_get, OnOk, IfSome};
 ghost use Rattle.dj_stack.specs.Frames.{SameButOperands, top_operands};
-ghost use Rattle.dj_invoking.specs.Operands.{fit, receiver_in};
+ghost use Rattle.dj_invocation.specs.Operands.{fit, receiver_in};
 
 use dj_effects::is_of_kind;
 use dj_names::{Kind, Value};

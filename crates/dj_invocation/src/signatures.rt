@@ -4,8 +4,8 @@ ghost use Rattle.dj_model.specs.trusted.Program.{Code, Runs};
 ghost use Rattle.dj_model.specs.trusted.Linking.{FoundMethod};
 ghost use Rattle.dj_model.specs.trusted.Kinds.{call_signature};
 ghost use Rattle.dj_image.specs.Imaged.{program_of};
-ghost use Rattle.dj_invoking.specs.Choosing.{IsMethod, IsNumber};
-ghost use Rattle.dj_invoking.specs.Operands.{parameters_in};
+ghost use Rattle.dj_invocation.specs.Choosing.{IsMethod, IsNumber};
+ghost use Rattle.dj_invocation.specs.Operands.{parameters_in};
 
 use dj_image::{Image, MethodId};
 use dj_names::Kind;

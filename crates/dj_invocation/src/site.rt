@@ -6,18 +6,18 @@ ghost use Rattle.dj_model.specs.Instructions as more_model;
 ghost use Rattle.dj_model.specs.trusted.Opcodes.{instruction_of};
 ghost use Rattle.dj_model.specs.trusted.Program.{Program};
 ghost use Rattle.dj_model.specs.Sound.{IsSound, is_linked};
-ghost use Rattle.dj_types.specs.Members.{all_methods};
+ghost use Rattle.dj_numbering.specs.Members.{all_methods};
 ghost use Rattle.dj_image.specs.Imaged.{program_of};
-ghost use Rattle.dj_activations.specs.Instructions.{HasInstruction};
-ghost use Rattle.dj_invoking.specs.Operands.{parameters_in};
-ghost use Rattle.dj_invoking.specs.Sites.{AreParametersAt, IsCallAt, call_index, call_mode, call_named, desc_index, opcode_mode};
+ghost use Rattle.dj_current_method.specs.Instructions.{HasInstruction};
+ghost use Rattle.dj_invocation.specs.Operands.{parameters_in};
+ghost use Rattle.dj_invocation.specs.Sites.{AreParametersAt, IsCallAt, call_index, call_mode, call_named, desc_index, opcode_mode};
 
 use crate::choosing::Mode;
-use dj_activations::{instr_in, instr_of};
+use dj_current_method::{instr_in, instr_of};
 use dj_image::{Image, MethodCode, MethodId, Operand};
 use dj_names::Kind;
 use dj_ops::Instr;
-use dj_shape::{ConstantKind, PoolKinds};
+use dj_shape_rule::{ConstantKind, PoolKinds};
 
 /// What a call instruction names.
 #[derive(Debug, Drop)]

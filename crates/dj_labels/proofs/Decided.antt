@@ -6,8 +6,8 @@ use Rattle.std.proofs.lemmas.Int.{ints}
 use Rattle.std.proofs.lemmas.List.{length-map, get_or-map}
 use Rattle.std.proofs.lemmas.List.Elements.{Contains-get_or}
 use Rattle.std.proofs.lemmas.Option.{slice_get-get_or, slice_get_within}
-use Rattle.dj_bytes.specs.Reading.{cursor_at}
-use Rattle.dj_bytes.proofs.Bytes.{IsBytes}
+use Rattle.dj_cursor.specs.Reading.{cursor_at}
+use Rattle.dj_cursor.proofs.Bytes.{IsBytes}
 use Rattle.dj_ops.specs.declared.instruction.Instr.{Instr}
 use Rattle.dj_ops.specs.declared.rows.CatchRow.{CatchRow}
 use Rattle.dj_ops.specs.Reading.{instr_at}

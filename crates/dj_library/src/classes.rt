@@ -1,11 +1,11 @@
 ghost use Rattle.std.specs.Prelude.{◌≡◌, IfOk, map, option_map};
-ghost use Rattle.dj_natives.specs.Views.{library_class_view, library_view};
+ghost use Rattle.dj_library_types.specs.Views.{library_class_view, library_view};
 ghost use Rattle.dj_library.specs.TableRows.{name_of_row, class_in};
 
 use crate::errors::LibraryError;
 use crate::methods::{MethodRow, Which, methods_of};
+use dj_library_types::{LibClass, Library, Names};
 use dj_names::Name;
-use dj_natives::{LibClass, Library, Names};
 use std::alloc::Global;
 
 /// A class of the libraries, with its superclass and interfaces.

@@ -1,6 +1,6 @@
 ghost use Rattle.std.specs.Prelude.{◌≡◌, IfOk, map};
 ghost use Rattle.dj_names.specs.trusted.Library.{deterministic_library, raw_library};
-ghost use Rattle.dj_natives.specs.Views.{library_view};
+ghost use Rattle.dj_library_types.specs.Views.{library_view};
 ghost use Rattle.dj_library.specs.trusted.Heads.{head_of_library};
 ghost use Rattle.dj_library.specs.TableRows.{class_in, head_view};
 
@@ -8,7 +8,7 @@ use crate::classes::{LibraryHead, classes_of};
 use crate::errors::LibraryError;
 use crate::methods::Which;
 use crate::rows::CLASSES;
-use dj_natives::Library;
+use dj_library_types::Library;
 use std::alloc::Global;
 
 /// The rows of all classes.

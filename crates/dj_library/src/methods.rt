@@ -1,11 +1,11 @@
 ghost use Rattle.std.specs.Prelude.{◌≡◌, ◌++◌, IfOk, OnOk, map, option_map};
-ghost use Rattle.dj_natives.specs.Views.{library_method_view};
+ghost use Rattle.dj_library_types.specs.Views.{library_method_view};
 ghost use Rattle.dj_library.specs.TableRows.{method_of_row, method_of_parts, host_native, native_in, method_in, rows_of_hosts};
 
 use crate::errors::LibraryError;
 use crate::types::{TypeRow, result_of, types_of};
+use dj_library_types::{LibMethod, LibMethods};
 use dj_names::{Desc, Name, NativeId};
-use dj_natives::{LibMethod, LibMethods};
 use std::alloc::Global;
 
 /// Which library a class is made for.

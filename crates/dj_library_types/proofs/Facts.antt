@@ -4,9 +4,9 @@ use Rattle.std.proofs.Common.{refl}
 use Rattle.dj_names.specs.declared.descriptor.Desc.TheVariants as descs
 use Rattle.dj_names.specs.declared.native.NativeId.TheVariants as natives
 use Rattle.dj_names.specs.trusted.Library as named
-use Rattle.dj_natives.specs.declared.library.LibMethod.{LibMethod}
-use Rattle.dj_natives.specs.declared.library.LibClass.{LibClass}
-use Rattle.dj_natives.specs.Views.{library_method_view, library_class_view, library_view}
+use Rattle.dj_library_types.specs.declared.library.LibMethod.{LibMethod}
+use Rattle.dj_library_types.specs.declared.library.LibClass.{LibClass}
+use Rattle.dj_library_types.specs.Views.{library_method_view, library_class_view, library_view}
 
 abbrev run : LibMethod
 run = record {

@@ -1,8 +1,8 @@
 -- The classes of a library as the definitions see them.
 use Rattle.std.specs.Prelude.{List, map}
 use Rattle.dj_names.specs.trusted.Library as named
-use Rattle.dj_natives.specs.declared.library.LibMethod.{LibMethod}
-use Rattle.dj_natives.specs.declared.library.LibClass.{LibClass}
+use Rattle.dj_library_types.specs.declared.library.LibMethod.{LibMethod}
+use Rattle.dj_library_types.specs.declared.library.LibClass.{LibClass}
 
 abbrev pub library_method_view : LibMethod → named.LibraryMethod
 library_method_view m = record {

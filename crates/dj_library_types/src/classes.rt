@@ -9,7 +9,7 @@ ghost use Rattle.dj_model.specs.trusted.Natives.{class_name};
 
 /// The classes and arrays of a program, by numbers.
 pub trait Classes {
-    ghost use Rattle.dj_natives.specs.Numbered.{type_at, IsNumberOf, superclass_type, component_of, SaysStop, ArePlain, HaveComponents};
+    ghost use Rattle.dj_library_types.specs.Numbered.{type_at, IsNumberOf, superclass_type, component_of, SaysStop, ArePlain, HaveComponents};
 
     /// The class or the array of each number.
     ghost types: { Self → List Ty };

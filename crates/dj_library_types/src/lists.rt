@@ -53,7 +53,7 @@ pub struct LibMethods {
 
 impl Model for LibMethods {
     ghost use Rattle.std.specs.Prelude.{List};
-    ghost use Rattle.dj_natives.specs.declared.library.LibMethod.{LibMethod};
+    ghost use Rattle.dj_library_types.specs.declared.library.LibMethod.{LibMethod};
 
     ghost Value = { List LibMethod };
 
@@ -94,7 +94,7 @@ pub struct Library {
 
 impl Model for Library {
     ghost use Rattle.std.specs.Prelude.{List};
-    ghost use Rattle.dj_natives.specs.declared.library.LibClass.{LibClass};
+    ghost use Rattle.dj_library_types.specs.declared.library.LibClass.{LibClass};
 
     ghost Value = { List LibClass };
 

@@ -7,11 +7,11 @@ use Rattle.dj_names.specs.trusted.Types.{Name, same_name}
 use Rattle.dj_model.specs.trusted.Program.{Program, class_at, superclass_of, Class}
 use Rattle.dj_model.specs.trusted.Linking.{most_classes, chain_of, chain, is_among}
 use Rattle.dj_model.proofs.MappedNames.{either}
-use Rattle.dj_classes.specs.Tables.{class_number, name_at}
-use Rattle.dj_linking.specs.Linked.{class_name}
-use Rattle.dj_link.specs.Known.{is_named_above}
-use Rattle.dj_link.proofs.Numbers.{no_class, number_named}
-use Rattle.dj_link.proofs.NamedLaws.{names_decide}
+use Rattle.dj_class_table.specs.Tables.{class_number, name_at}
+use Rattle.dj_resolution.specs.Linked.{class_name}
+use Rattle.dj_link_rules.specs.Known.{is_named_above}
+use Rattle.dj_link_rules.proofs.Numbers.{no_class, number_named}
+use Rattle.dj_link_rules.proofs.NamedLaws.{names_decide}
 
 some_name : (a b : Name) → Some a ≡ Some b → a ≡ b
 some_name a b e = cc

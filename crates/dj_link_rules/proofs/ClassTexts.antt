@@ -19,8 +19,8 @@ use Rattle.dj_names.proofs.TestLaws.{class_name_test-decides}
 use Rattle.dj_names.proofs.DescLaws.{desc_again}
 use Rattle.dj_pool.specs.trusted.Pool.{IsClassText}
 use Rattle.dj_model.specs.trusted.Types.{no_parameters}
-use Rattle.dj_declared.specs.trusted.Files.{desc_in, type_in, field_type}
-use Rattle.dj_link.specs.Constants.{brackets}
+use Rattle.dj_declarations.specs.trusted.Files.{desc_in, type_in, field_type}
+use Rattle.dj_link_rules.specs.Constants.{brackets}
 
 -- ---- descriptors
 

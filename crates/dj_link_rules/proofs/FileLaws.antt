@@ -11,17 +11,17 @@ use Rattle.dj_report.specs.declared.report.PathFile.{PathFile}
 use Rattle.dj_report.specs.Lines.{Adds, Gains, IsLineAmong}
 use Rattle.dj_report.proofs.Sorted.{contains_none}
 use Rattle.dj_report.proofs.Adding.{adds_same, among_map}
-use Rattle.dj_rules.specs.Views.{path_file_view}
+use Rattle.dj_file_rules.specs.Views.{path_file_view}
 use Rattle.dj_model.specs.trusted.Program.{Program}
-use Rattle.dj_check.specs.declared.judged.JudgedText.{JudgedText}
-use Rattle.dj_check.specs.declared.marks.Mark.{Mark}
-use Rattle.dj_check.specs.Judged.{AreTexts}
-use Rattle.dj_check.specs.trusted.Malformed.{IsGood}
-use Rattle.dj_check.specs.Marks.{AreMarksOf, IsMarkLine}
-use Rattle.dj_check.specs.trusted.Rules.{IsMemberLine}
-use Rattle.dj_check.proofs.FileLaws.{member_lines}
-use Rattle.dj_link.specs.trusted.Lines.{MethodLinkViolates, IsFileLinkLine, IsLinkLine}
-use Rattle.dj_link.specs.Known.{is_unmakeable, AreUnmakeable}
+use Rattle.dj_early_rules.specs.declared.judged.JudgedText.{JudgedText}
+use Rattle.dj_early_rules.specs.declared.marks.Mark.{Mark}
+use Rattle.dj_early_rules.specs.Judged.{AreTexts}
+use Rattle.dj_early_rules.specs.trusted.Malformed.{IsGood}
+use Rattle.dj_early_rules.specs.Marks.{AreMarksOf, IsMarkLine}
+use Rattle.dj_early_rules.specs.trusted.Rules.{IsMemberLine}
+use Rattle.dj_early_rules.proofs.FileLaws.{member_lines}
+use Rattle.dj_link_rules.specs.trusted.Lines.{MethodLinkViolates, IsFileLinkLine, IsLinkLine}
+use Rattle.dj_link_rules.specs.Known.{is_unmakeable, AreUnmakeable}
 
 -- the marks of methods, as lines
 pub mark_lines : (texts : List JudgedText) (Violates : MemberInfo → Option ℕ → ℕ → Type 0) (path : List ℕ) (c : ClassFile) (marks : List Mark) (a b : List Violation) → AreTexts c.pool texts

@@ -9,17 +9,17 @@ use Rattle.dj_ops.specs.declared.instruction.Instr.TheVariants as instrs
 use Rattle.dj_pool.specs.trusted.Pool.{Constant, Method, InterfaceMethod, constant_at, both}
 use Rattle.dj_model.specs.trusted.Types.{Member, constructor_name, initialiser_name}
 use Rattle.dj_model.specs.trusted.Program.{Program, class_at, is_interface}
-use Rattle.dj_check.specs.trusted.Classes.{names_at}
-use Rattle.dj_check.specs.trusted.Instructions.{index_of, NamesSuch}
-use Rattle.dj_link.specs.trusted.Named.{named_type, class_of_type, member_of, named_member, NamesNoClass, NamesNoMember, MakesSuch}
-use Rattle.dj_link.specs.trusted.Foreign.{IsForeignConstant, NamesUnmakeable, IsForeign}
-use Rattle.dj_link.specs.trusted.Unlinked.{is_class, takes, HasWrongTag, asks_static, differ, IsOtherwiseStatic, is_special, IsMisusedConstructor, IsInitialiser, is_own_or_above, IsFarSpecial, IsUnlinkedMember, is_interface_type, HasWrongKind, NamesAbstract, IsTooDeep, IsUnlinkedType, IsUnlinkedConstant, IsUnlinked, IsUnlinkedCatch}
-use Rattle.dj_link.specs.Judged.{tag_of, judged_class, judged_member, judged, kept_at}
-use Rattle.dj_link.specs.declared.known.Known.{Known}
-use Rattle.dj_link.specs.Known.{lacks_class, lacks_member, is_foreign_named, is_unmakeable_class, is_interface_class, is_abstract_class, makes, makes_array, takes_tag, is_class_tag, is_own_or_above_class, is_far_special, is_misused_member, is_unlinked_member, has_wrong_kind, is_unlinked_class, is_unlinked_named, is_foreign_by, is_foreign, is_unlinked_by, is_unlinked_at, is_unlinked, is_foreign_catch_by, is_foreign_catch, is_unlinked_catch_by, is_unlinked_catch, IsKnown}
-use Rattle.dj_link.proofs.Numbers.{flags_named, above_named}
-use Rattle.dj_link.proofs.Tags.{class_tag, takes_same}
-use Rattle.dj_link.proofs.NamedLaws.{itself, names_decide, class_decides, member_decides, foreign_decides, makeable_decides, abstract_decides}
+use Rattle.dj_early_rules.specs.trusted.Classes.{names_at}
+use Rattle.dj_early_rules.specs.trusted.Instructions.{index_of, NamesSuch}
+use Rattle.dj_link_rules.specs.trusted.Named.{named_type, class_of_type, member_of, named_member, NamesNoClass, NamesNoMember, MakesSuch}
+use Rattle.dj_link_rules.specs.trusted.Foreign.{IsForeignConstant, NamesUnmakeable, IsForeign}
+use Rattle.dj_link_rules.specs.trusted.Unlinked.{is_class, takes, HasWrongTag, asks_static, differ, IsOtherwiseStatic, is_special, IsMisusedConstructor, IsInitialiser, is_own_or_above, IsFarSpecial, IsUnlinkedMember, is_interface_type, HasWrongKind, NamesAbstract, IsTooDeep, IsUnlinkedType, IsUnlinkedConstant, IsUnlinked, IsUnlinkedCatch}
+use Rattle.dj_link_rules.specs.Judged.{tag_of, judged_class, judged_member, judged, kept_at}
+use Rattle.dj_link_rules.specs.declared.known.Known.{Known}
+use Rattle.dj_link_rules.specs.Known.{lacks_class, lacks_member, is_foreign_named, is_unmakeable_class, is_interface_class, is_abstract_class, makes, makes_array, takes_tag, is_class_tag, is_own_or_above_class, is_far_special, is_misused_member, is_unlinked_member, has_wrong_kind, is_unlinked_class, is_unlinked_named, is_foreign_by, is_foreign, is_unlinked_by, is_unlinked_at, is_unlinked, is_foreign_catch_by, is_foreign_catch, is_unlinked_catch_by, is_unlinked_catch, IsKnown}
+use Rattle.dj_link_rules.proofs.Numbers.{flags_named, above_named}
+use Rattle.dj_link_rules.proofs.Tags.{class_tag, takes_same}
+use Rattle.dj_link_rules.proofs.NamedLaws.{itself, names_decide, class_decides, member_decides, foreign_decides, makeable_decides, abstract_decides}
 
 -- ---- tests
 

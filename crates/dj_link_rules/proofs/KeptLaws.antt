@@ -8,12 +8,12 @@ use Rattle.dj_pool.specs.declared.pool.Entry.{Entry}
 use Rattle.dj_pool.specs.trusted.Pool.{Constant, text_at, IsLinked, IsPool}
 use Rattle.dj_pool.specs.Views.{constant_of}
 use Rattle.dj_model.specs.trusted.Program.{Program}
-use Rattle.dj_link.specs.Judged.{judged, AreJudged}
-use Rattle.dj_directory.specs.Numberings.{Numbering}
-use Rattle.dj_link.specs.Constants.{text_class, AreSeen, AreNumbersSeen}
-use Rattle.dj_link.specs.declared.named.NamedClass.{NamedClass}
-use Rattle.dj_link.specs.declared.named.NamedConstant.{NamedConstant}
-use Rattle.dj_link.proofs.PoolLinks.{linked}
+use Rattle.dj_link_rules.specs.Judged.{judged, AreJudged}
+use Rattle.dj_member_index.specs.Numberings.{Numbering}
+use Rattle.dj_link_rules.specs.Constants.{text_class, AreSeen, AreNumbersSeen}
+use Rattle.dj_link_rules.specs.declared.named.NamedClass.{NamedClass}
+use Rattle.dj_link_rules.specs.declared.named.NamedConstant.{NamedConstant}
+use Rattle.dj_link_rules.proofs.PoolLinks.{linked}
 
 -- ---- texts
 

@@ -8,12 +8,12 @@ use Rattle.dj_labels.specs.declared.labelled.Labelled.{Labelled}
 use Rattle.dj_report.proofs.Sorted.{contains_none, contains_cases}
 use Rattle.dj_names.specs.trusted.Types.{Name}
 use Rattle.dj_model.specs.trusted.Program.{Program}
-use Rattle.dj_declared.specs.trusted.Files.{type_in}
-use Rattle.dj_check.specs.trusted.Classes.{BeginsWith, IsReserved}
-use Rattle.dj_check.specs.trusted.Methods.{CatchesError}
-use Rattle.dj_link.specs.trusted.Foreign.{IsOfLibrary}
-use Rattle.dj_link.specs.trusted.Lines.{IsFirstOf, LinkViolates, HandlerLinkViolates}
-use Rattle.dj_link.proofs.RuleNumbers.{catch_reported}
+use Rattle.dj_declarations.specs.trusted.Files.{type_in}
+use Rattle.dj_early_rules.specs.trusted.Classes.{BeginsWith, IsReserved}
+use Rattle.dj_early_rules.specs.trusted.Methods.{CatchesError}
+use Rattle.dj_link_rules.specs.trusted.Foreign.{IsOfLibrary}
+use Rattle.dj_link_rules.specs.trusted.Lines.{IsFirstOf, LinkViolates, HandlerLinkViolates}
+use Rattle.dj_link_rules.proofs.RuleNumbers.{catch_reported}
 
 -- ---- the packages of rule 17: of all names, those that rule 4 reserves, other than the sandbox's
 

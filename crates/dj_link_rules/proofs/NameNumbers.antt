@@ -2,10 +2,10 @@
 use Rattle.std.proofs.Common.{◌≡◌, ℕ, List, Option, Some, None, ap, ◌∙◌, Bor}
 use Rattle.std.specs.Prelude.{IfSome, option_and_then}
 use Rattle.dj_pool.specs.trusted.Pool.{Constant, text_at}
-use Rattle.dj_declared.specs.Members.{IsDescriptor}
-use Rattle.dj_directory.specs.Numberings.{Numbering, number_of}
-use Rattle.dj_link.specs.declared.name_numbers.NumberedName.{NumberedName}
-use Rattle.dj_link.specs.Constants.{number_at, IsNumbered}
+use Rattle.dj_declarations.specs.Members.{IsDescriptor}
+use Rattle.dj_member_index.specs.Numberings.{Numbering, number_of}
+use Rattle.dj_link_rules.specs.declared.name_numbers.NumberedName.{NumberedName}
+use Rattle.dj_link_rules.specs.Constants.{number_at, IsNumbered}
 
 -- the numbers are those of the texts of two indexes
 abbrev pub AreNumbersAt : List Constant → ℕ → ℕ → NumberedName → Option (Bor Numbering) → Type 0

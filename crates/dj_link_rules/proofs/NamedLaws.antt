@@ -9,14 +9,14 @@ use Rattle.dj_names.specs.trusted.Types.{Name, same_name}
 use Rattle.dj_pool.specs.trusted.Pool.{Constant}
 use Rattle.dj_model.specs.trusted.Types.{Member, constructor_name}
 use Rattle.dj_model.specs.trusted.Program.{Program, Class, class_at, flags_of, is_interface, is_abstract}
-use Rattle.dj_declared.specs.trusted.Members.{has_method_named}
-use Rattle.dj_link.specs.trusted.Named.{named_type, class_of_type, named_member, is_static_found, NamesNoClass, NamesNoMember}
-use Rattle.dj_link.specs.trusted.Foreign.{IsOfLibrary, IsForeignConstant, IsUnmakeable, NamesUnmakeable}
-use Rattle.dj_link.specs.trusted.Unlinked.{IsAbstractClass, IsAbstractType, NamesAbstract}
-use Rattle.dj_link.specs.Judged.{is_of_library, judged_class, judged_member, judged}
-use Rattle.dj_link.specs.Known.{lacks_class, lacks_member, is_library_class, is_foreign_named, is_unmakeable, AreUnmakeable, is_unmakeable_class, is_abstract_flags, is_abstract_class, is_marked, flags_at}
-use Rattle.dj_classes.specs.Tables.{class_number}
-use Rattle.dj_link.proofs.Numbers.{none_decides, lacking, flags_named, marked_named}
+use Rattle.dj_declarations.specs.trusted.Members.{has_method_named}
+use Rattle.dj_link_rules.specs.trusted.Named.{named_type, class_of_type, named_member, is_static_found, NamesNoClass, NamesNoMember}
+use Rattle.dj_link_rules.specs.trusted.Foreign.{IsOfLibrary, IsForeignConstant, IsUnmakeable, NamesUnmakeable}
+use Rattle.dj_link_rules.specs.trusted.Unlinked.{IsAbstractClass, IsAbstractType, NamesAbstract}
+use Rattle.dj_link_rules.specs.Judged.{is_of_library, judged_class, judged_member, judged}
+use Rattle.dj_link_rules.specs.Known.{lacks_class, lacks_member, is_library_class, is_foreign_named, is_unmakeable, AreUnmakeable, is_unmakeable_class, is_abstract_flags, is_abstract_class, is_marked, flags_at}
+use Rattle.dj_class_table.specs.Tables.{class_number}
+use Rattle.dj_link_rules.proofs.Numbers.{none_decides, lacking, flags_named, marked_named}
 
 -- a test decides that it is true
 pub itself : (b : Bool) → Decides b (IsTrue b)

@@ -6,9 +6,9 @@ use Rattle.std.proofs.lemmas.Bool.Decides.{Decides-like}
 use Rattle.dj_names.specs.trusted.Types.{Name, same_name}
 use Rattle.dj_model.specs.trusted.Program.{Program, Class, class_at, flags_of}
 use Rattle.dj_model.specs.trusted.Linking.{chain, is_among}
-use Rattle.dj_classes.specs.Tables.{class_number, name_at}
-use Rattle.dj_link.specs.Known.{is_marked, flags_at, is_unmakeable, AreUnmakeable, AreAbove, is_above}
-use Rattle.dj_link.specs.declared.above.OwnClass.{OwnClass}
+use Rattle.dj_class_table.specs.Tables.{class_number, name_at}
+use Rattle.dj_link_rules.specs.Known.{is_marked, flags_at, is_unmakeable, AreUnmakeable, AreAbove, is_above}
+use Rattle.dj_link_rules.specs.declared.above.OwnClass.{OwnClass}
 
 after_first : (c : Class) (program : Program) (number : Option ℕ) → option_and_then (slice_get (c ∷ program)) (option_map suc number) ≡ option_and_then (slice_get program) number
 after_first c program None = refl

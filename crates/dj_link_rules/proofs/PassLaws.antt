@@ -11,22 +11,22 @@ use Rattle.dj_labels.specs.declared.labelled.Protected.{Protected}
 use Rattle.dj_labels.specs.declared.labelled.Labelled.{Labelled}
 use Rattle.dj_report.specs.Lines.{Gains}
 use Rattle.dj_report.proofs.Adding.{adds_same, adds_nothing, adds_both, not_both}
-use Rattle.dj_rules.specs.trusted.Violations.{this_name}
-use Rattle.dj_check.specs.declared.code.WholeCode.{WholeCode}
-use Rattle.dj_check.specs.declared.marks.MarkPlace.{MarkPlace}
-use Rattle.dj_check.specs.declared.marks.Mark.{Mark}
-use Rattle.dj_check.specs.trusted.Attributes.{codes_of}
-use Rattle.dj_check.specs.trusted.Instructions.{index_of}
-use Rattle.dj_check.specs.trusted.Methods.{InstrViolates, CatchesError}
-use Rattle.dj_check.specs.Passes.{IsWholeMethod}
-use Rattle.dj_check.specs.Marks.{mark_at, place_of, MarksAt, MarksOf}
-use Rattle.dj_check.proofs.MethodLaws.{one_labelled, labelled_own, no_code_of}
-use Rattle.dj_link.specs.trusted.Lines.{IsUnreported, IsFirstOf, LinkViolates, CatchViolates, CodeLinkViolates, MethodLinkViolates}
-use Rattle.dj_link.specs.declared.known.Known.{Known}
-use Rattle.dj_link.specs.Judged.{kept_at}
-use Rattle.dj_link.specs.Known.{is_foreign, is_foreign_by, is_unlinked, is_unlinked_at, is_foreign_catch, is_unlinked_catch, IsKnown, IsRuled, KnownInstr, KnownCatch, KnownBelow, KnownRange, KnownCode}
-use Rattle.dj_link.specs.Marks.{AreRangeMarks, AreUnreported, IsUnreportedMethod}
-use Rattle.dj_link.proofs.Judging.{foreign_instr, unlinked_instr, foreign_catch, unlinked_catch}
+use Rattle.dj_file_rules.specs.trusted.Violations.{this_name}
+use Rattle.dj_early_rules.specs.declared.code.WholeCode.{WholeCode}
+use Rattle.dj_early_rules.specs.declared.marks.MarkPlace.{MarkPlace}
+use Rattle.dj_early_rules.specs.declared.marks.Mark.{Mark}
+use Rattle.dj_early_rules.specs.trusted.Attributes.{codes_of}
+use Rattle.dj_early_rules.specs.trusted.Instructions.{index_of}
+use Rattle.dj_early_rules.specs.trusted.Methods.{InstrViolates, CatchesError}
+use Rattle.dj_early_rules.specs.Passes.{IsWholeMethod}
+use Rattle.dj_early_rules.specs.Marks.{mark_at, place_of, MarksAt, MarksOf}
+use Rattle.dj_early_rules.proofs.MethodLaws.{one_labelled, labelled_own, no_code_of}
+use Rattle.dj_link_rules.specs.trusted.Lines.{IsUnreported, IsFirstOf, LinkViolates, CatchViolates, CodeLinkViolates, MethodLinkViolates}
+use Rattle.dj_link_rules.specs.declared.known.Known.{Known}
+use Rattle.dj_link_rules.specs.Judged.{kept_at}
+use Rattle.dj_link_rules.specs.Known.{is_foreign, is_foreign_by, is_unlinked, is_unlinked_at, is_foreign_catch, is_unlinked_catch, IsKnown, IsRuled, KnownInstr, KnownCatch, KnownBelow, KnownRange, KnownCode}
+use Rattle.dj_link_rules.specs.Marks.{AreRangeMarks, AreUnreported, IsUnreportedMethod}
+use Rattle.dj_link_rules.proofs.Judging.{foreign_instr, unlinked_instr, foreign_catch, unlinked_catch}
 
 -- ---- one mark
 

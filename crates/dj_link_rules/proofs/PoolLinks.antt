@@ -4,9 +4,9 @@ use Rattle.std.specs.List.{AllByRecursion}
 use Rattle.dj_names.specs.declared.descriptor.Desc.TheVariants as descs
 use Rattle.dj_names.specs.trusted.Descriptors.{Describes, IsFieldDescriptor, IsMethodDescriptor}
 use Rattle.dj_pool.specs.trusted.Pool.{Constant, Class, Field, Method, InterfaceMethod, Hole, takes_two, indexed, constant_at, text_at, class_text_of, names_of, both, IsClassText, NamesText, IsLinked, IsConstant, IsPool}
-use Rattle.dj_check.specs.trusted.Classes.{class_text_index, names_at}
-use Rattle.dj_declared.specs.Members.{IsDescriptor}
-use Rattle.dj_link.proofs.ClassTexts.{desc_in_is}
+use Rattle.dj_early_rules.specs.trusted.Classes.{class_text_index, names_at}
+use Rattle.dj_declarations.specs.Members.{IsDescriptor}
+use Rattle.dj_link_rules.proofs.ClassTexts.{desc_in_is}
 
 -- ---- each constant
 

@@ -14,15 +14,15 @@ use Rattle.dj_model.specs.trusted.Types.{Member, object_name, constructor_name, 
 use Rattle.dj_model.specs.trusted.Program as programs
 use Rattle.dj_model.specs.trusted.Program.{Program, Class, class_at, is_static, interfaces_of}
 use Rattle.dj_model.specs.trusted.Linking.{FoundMethod, chain_of, chain, interfaces_from, interfaces_above, most_classes, first_method, first_field, any_method, is_plain, method_chain, field_order, member_class, or_else, resolve_method, resolve_field}
-use Rattle.dj_declared.specs.trusted.Files.{desc_in}
-use Rattle.dj_classes.specs.Tables.{class_number, name_at}
-use Rattle.dj_linking.specs.Linked.{Linked, member_of, resolved_method, resolved_field}
-use Rattle.dj_check.specs.trusted.Classes.{names_at}
-use Rattle.dj_link.specs.trusted.Named.{named_type, named_member, is_static_field, is_static_method, is_static_found, class_of_type, member_of as named_of}
-use Rattle.dj_link.specs.Judged.{judged_class, judged_member}
-use Rattle.dj_link.specs.Constants.{static_at, static_in}
-use Rattle.dj_link.specs.declared.named.NamedClass.{NamedClass}
-use Rattle.dj_link.specs.declared.named.NamedMember.{NamedMember}
+use Rattle.dj_declarations.specs.trusted.Files.{desc_in}
+use Rattle.dj_class_table.specs.Tables.{class_number, name_at}
+use Rattle.dj_resolution.specs.Linked.{Linked, member_of, resolved_method, resolved_field}
+use Rattle.dj_early_rules.specs.trusted.Classes.{names_at}
+use Rattle.dj_link_rules.specs.trusted.Named.{named_type, named_member, is_static_field, is_static_method, is_static_found, class_of_type, member_of as named_of}
+use Rattle.dj_link_rules.specs.Judged.{judged_class, judged_member}
+use Rattle.dj_link_rules.specs.Constants.{static_at, static_in}
+use Rattle.dj_link_rules.specs.declared.named.NamedClass.{NamedClass}
+use Rattle.dj_link_rules.specs.declared.named.NamedMember.{NamedMember}
 
 -- ---- flags
 

@@ -12,8 +12,8 @@ use Rattle.dj_model.specs.trusted.Program as programs
 use Rattle.dj_model.specs.trusted.Program.{Program, Abstract}
 use Rattle.dj_model.specs.trusted.Linking.{most_classes, chain_of, interfaces_from, interfaces_above, field_order, resolve_method, resolve_field}
 use Rattle.dj_model.specs.SmallRuns.{code, method_with, plain_constructor, field_with, class_with}
-use Rattle.dj_declared.specs.trusted.Files.{desc_in, type_in}
-use Rattle.dj_link.proofs.RuleNumbers.{instr_rule, catch_rule}
+use Rattle.dj_declarations.specs.trusted.Files.{desc_in, type_in}
+use Rattle.dj_link_rules.proofs.RuleNumbers.{instr_rule, catch_rule}
 
 -- ---- a program
 

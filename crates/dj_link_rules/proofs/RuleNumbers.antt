@@ -6,16 +6,16 @@ use Rattle.dj_names.specs.trusted.Types.{Name}
 use Rattle.dj_ops.specs.declared.instruction.Instr.{Instr}
 use Rattle.dj_pool.specs.trusted.Pool.{Constant, constant_at}
 use Rattle.dj_model.specs.trusted.Program.{Program, Class}
-use Rattle.dj_classes.specs.Tables.{class_number}
-use Rattle.dj_link.specs.trusted.Foreign.{IsForeign, IsForeignConstant}
-use Rattle.dj_link.specs.trusted.Unlinked.{IsUnlinked, IsUnlinkedCatch}
-use Rattle.dj_link.specs.trusted.Lines.{IsFirstOf}
-use Rattle.dj_link.specs.Judged.{judged, kept_at}
-use Rattle.dj_link.specs.declared.named.NamedConstant.{NamedConstant}
-use Rattle.dj_link.specs.declared.known.Known.{Known}
-use Rattle.dj_link.specs.Known.{is_unmakeable, is_foreign, is_unlinked, is_foreign_catch, is_unlinked_catch, IsKnown}
-use Rattle.dj_link.proofs.AboveLaws.{above_is}
-use Rattle.dj_link.proofs.Judging.{foreign_instr, unlinked_instr, foreign_catch, unlinked_catch}
+use Rattle.dj_class_table.specs.Tables.{class_number}
+use Rattle.dj_link_rules.specs.trusted.Foreign.{IsForeign, IsForeignConstant}
+use Rattle.dj_link_rules.specs.trusted.Unlinked.{IsUnlinked, IsUnlinkedCatch}
+use Rattle.dj_link_rules.specs.trusted.Lines.{IsFirstOf}
+use Rattle.dj_link_rules.specs.Judged.{judged, kept_at}
+use Rattle.dj_link_rules.specs.declared.named.NamedConstant.{NamedConstant}
+use Rattle.dj_link_rules.specs.declared.known.Known.{Known}
+use Rattle.dj_link_rules.specs.Known.{is_unmakeable, is_foreign, is_unlinked, is_foreign_catch, is_unlinked_catch, IsKnown}
+use Rattle.dj_link_rules.proofs.AboveLaws.{above_is}
+use Rattle.dj_link_rules.proofs.Judging.{foreign_instr, unlinked_instr, foreign_catch, unlinked_catch}
 
 abbrev bor : {X : Type 0} → X → Bor X
 bor x = record { ref_ptr = (0, 0); now = x }

@@ -3,9 +3,9 @@ use Rattle.std.proofs.Common.{◌≡◌, ◌&&◌, ◌||◌, refl, nat_le, nat_e
 use Rattle.dj_ops.specs.declared.instruction.Instr.{Instr}
 use Rattle.dj_ops.specs.declared.instruction.Instr.TheVariants as instrs
 use Rattle.dj_pool.specs.trusted.Pool.{Constant, Field}
-use Rattle.dj_link.specs.trusted.Unlinked.{is_short_literal, is_long_literal, is_field, is_method, is_interface_method, is_class, is_dynamic, takes}
-use Rattle.dj_link.specs.Judged.{tag_of}
-use Rattle.dj_link.specs.Known.{is_short_tag, is_long_tag, is_field_tag, is_method_tag, is_interface_tag, is_class_tag, is_dynamic_tag, takes_tag}
+use Rattle.dj_link_rules.specs.trusted.Unlinked.{is_short_literal, is_long_literal, is_field, is_method, is_interface_method, is_class, is_dynamic, takes}
+use Rattle.dj_link_rules.specs.Judged.{tag_of}
+use Rattle.dj_link_rules.specs.Known.{is_short_tag, is_long_tag, is_field_tag, is_method_tag, is_interface_tag, is_class_tag, is_dynamic_tag, takes_tag}
 
 short_tag : (k : Constant) → is_short_tag (tag_of k) ≡ is_short_literal k
 short_tag (Field class names) = refl

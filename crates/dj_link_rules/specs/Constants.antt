@@ -5,15 +5,15 @@ use Rattle.std.specs.Borrow.{Bor}
 use Rattle.dj_names.specs.trusted.Types.{Name}
 use Rattle.dj_pool.specs.trusted.Pool.{Constant, Field, Method, InterfaceMethod, text_at}
 use Rattle.dj_model.specs.trusted.Program.{Program}
-use Rattle.dj_declared.specs.trusted.Files.{type_in}
-use Rattle.dj_declared.specs.Members.{IsDescriptor}
-use Rattle.dj_directory.specs.Numberings.{Numbering, number_of}
-use Rattle.dj_linking.specs.Linked.{Linked, resolved_method, resolved_field}
-use Rattle.dj_linking.specs.Numbered.{AreNumbersOf}
-use Rattle.dj_link.specs.declared.name_numbers.NumberedName.{NumberedName}
-use Rattle.dj_link.specs.trusted.Named.{is_static_field, is_static_method}
-use Rattle.dj_link.specs.Judged.{judged_class}
-use Rattle.dj_link.specs.declared.named.NamedClass.{NamedClass}
+use Rattle.dj_declarations.specs.trusted.Files.{type_in}
+use Rattle.dj_declarations.specs.Members.{IsDescriptor}
+use Rattle.dj_member_index.specs.Numberings.{Numbering, number_of}
+use Rattle.dj_resolution.specs.Linked.{Linked, resolved_method, resolved_field}
+use Rattle.dj_resolution.specs.Numbered.{AreNumbersOf}
+use Rattle.dj_link_rules.specs.declared.name_numbers.NumberedName.{NumberedName}
+use Rattle.dj_link_rules.specs.trusted.Named.{is_static_field, is_static_method}
+use Rattle.dj_link_rules.specs.Judged.{judged_class}
+use Rattle.dj_link_rules.specs.declared.named.NamedClass.{NamedClass}
 
 -- how many brackets a text begins with
 abbrev pub brackets : List ℕ → ℕ

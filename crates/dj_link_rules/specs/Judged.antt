@@ -7,13 +7,13 @@ use Rattle.dj_names.specs.trusted.Types.{Name, same_name}
 use Rattle.dj_pool.specs.trusted.Pool.{Constant, Integer, Float, Long, Double, Class, Text, Field, Method, InterfaceMethod, Handle, MethodType, Dynamic, constant_at}
 use Rattle.dj_model.specs.trusted.Types.{Member, constructor_name, initialiser_name}
 use Rattle.dj_model.specs.trusted.Program.{Program}
-use Rattle.dj_classes.specs.Tables.{class_number}
-use Rattle.dj_link.specs.trusted.Named.{named_type, class_of_type, named_member, is_static_found}
-use Rattle.dj_link.specs.declared.named.Tag.{Tag}
-use Rattle.dj_link.specs.declared.named.Tag.TheVariants as tags
-use Rattle.dj_link.specs.declared.named.NamedClass.{NamedClass}
-use Rattle.dj_link.specs.declared.named.NamedMember.{NamedMember}
-use Rattle.dj_link.specs.declared.named.NamedConstant.{NamedConstant}
+use Rattle.dj_class_table.specs.Tables.{class_number}
+use Rattle.dj_link_rules.specs.trusted.Named.{named_type, class_of_type, named_member, is_static_found}
+use Rattle.dj_link_rules.specs.declared.named.Tag.{Tag}
+use Rattle.dj_link_rules.specs.declared.named.Tag.TheVariants as tags
+use Rattle.dj_link_rules.specs.declared.named.NamedClass.{NamedClass}
+use Rattle.dj_link_rules.specs.declared.named.NamedMember.{NamedMember}
+use Rattle.dj_link_rules.specs.declared.named.NamedConstant.{NamedConstant}
 
 abbrev pub tag_of : Constant → Tag
 tag_of (Integer n) = tags.Short

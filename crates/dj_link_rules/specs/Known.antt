@@ -10,20 +10,20 @@ use Rattle.dj_labels.specs.declared.labelled.Labelled.{Labelled}
 use Rattle.dj_model.specs.trusted.Types.{constructor_name}
 use Rattle.dj_model.specs.trusted.Program.{Program, Class, flags_of, is_interface, is_abstract}
 use Rattle.dj_model.specs.trusted.Linking.{chain, is_among}
-use Rattle.dj_declared.specs.trusted.Members.{has_method_named}
-use Rattle.dj_classes.specs.Tables.{name_at}
-use Rattle.dj_check.specs.trusted.Instructions.{index_of}
-use Rattle.dj_check.specs.trusted.Methods.{CatchesError}
-use Rattle.dj_link.specs.trusted.Unlinked.{differ, asks_static, is_special}
-use Rattle.dj_link.specs.trusted.Lines.{IsUnreported, IsFirstOf}
-use Rattle.dj_link.specs.Judged.{AreJudged, kept_at}
-use Rattle.dj_link.specs.declared.above.OwnClass.{OwnClass}
-use Rattle.dj_link.specs.declared.named.Tag.{Tag}
-use Rattle.dj_link.specs.declared.named.Tag.TheVariants as tags
-use Rattle.dj_link.specs.declared.named.NamedClass.{NamedClass}
-use Rattle.dj_link.specs.declared.named.NamedMember.{NamedMember}
-use Rattle.dj_link.specs.declared.named.NamedConstant.{NamedConstant}
-use Rattle.dj_link.specs.declared.known.Known.{Known}
+use Rattle.dj_declarations.specs.trusted.Members.{has_method_named}
+use Rattle.dj_class_table.specs.Tables.{name_at}
+use Rattle.dj_early_rules.specs.trusted.Instructions.{index_of}
+use Rattle.dj_early_rules.specs.trusted.Methods.{CatchesError}
+use Rattle.dj_link_rules.specs.trusted.Unlinked.{differ, asks_static, is_special}
+use Rattle.dj_link_rules.specs.trusted.Lines.{IsUnreported, IsFirstOf}
+use Rattle.dj_link_rules.specs.Judged.{AreJudged, kept_at}
+use Rattle.dj_link_rules.specs.declared.above.OwnClass.{OwnClass}
+use Rattle.dj_link_rules.specs.declared.named.Tag.{Tag}
+use Rattle.dj_link_rules.specs.declared.named.Tag.TheVariants as tags
+use Rattle.dj_link_rules.specs.declared.named.NamedClass.{NamedClass}
+use Rattle.dj_link_rules.specs.declared.named.NamedMember.{NamedMember}
+use Rattle.dj_link_rules.specs.declared.named.NamedConstant.{NamedConstant}
+use Rattle.dj_link_rules.specs.declared.known.Known.{Known}
 
 -- ---- classes by their numbers
 

@@ -4,12 +4,12 @@ use Rattle.dj_ops.specs.declared.instruction.Instr.{Instr}
 use Rattle.dj_pool.specs.trusted.Pool.{Constant}
 use Rattle.dj_class.specs.trusted.ClassFile.{MemberInfo, ClassFile}
 use Rattle.dj_labels.specs.declared.labelled.Protected.{Protected}
-use Rattle.dj_check.specs.declared.marks.Mark.{Mark}
-use Rattle.dj_check.specs.Marks.{MarksOf}
-use Rattle.dj_check.specs.trusted.Methods.{MethodViolates}
-use Rattle.dj_link.specs.trusted.Lines.{IsUnreported}
-use Rattle.dj_link.specs.declared.known.Known.{Known}
-use Rattle.dj_link.specs.Known.{KnownRange}
+use Rattle.dj_early_rules.specs.declared.marks.Mark.{Mark}
+use Rattle.dj_early_rules.specs.Marks.{MarksOf}
+use Rattle.dj_early_rules.specs.trusted.Methods.{MethodViolates}
+use Rattle.dj_link_rules.specs.trusted.Lines.{IsUnreported}
+use Rattle.dj_link_rules.specs.declared.known.Known.{Known}
+use Rattle.dj_link_rules.specs.Known.{KnownRange}
 
 -- no instruction of the code violates one of the rules 9 to 15
 abbrev pub AreUnreported : List Constant → List Instr → Type 0

@@ -1,8 +1,8 @@
 ghost use Rattle.std.specs.Prelude.{◌≡◌};
-ghost use Rattle.dj_classes.specs.Tables.{name_at};
-ghost use Rattle.dj_link.specs.Known.{AreAbove, is_above, is_named_above};
+ghost use Rattle.dj_class_table.specs.Tables.{name_at};
+ghost use Rattle.dj_link_rules.specs.Known.{AreAbove, is_above, is_named_above};
 
-use dj_linking::Linker;
+use dj_resolution::Linker;
 
 /// The class of a file, with what is needed to find out what is above it.
 #[derive(Clone, Copy)]

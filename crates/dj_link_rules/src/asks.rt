@@ -1,6 +1,6 @@
 ghost use Rattle.std.specs.Prelude.{◌≡◌};
-ghost use Rattle.dj_link.specs.trusted.Unlinked.{differ, asks_static, is_special};
-ghost use Rattle.dj_link.specs.Known.{makes, makes_array, is_short_tag, takes_member_tag, takes_literal_tag, takes_tag, is_misused_member};
+ghost use Rattle.dj_link_rules.specs.trusted.Unlinked.{differ, asks_static, is_special};
+ghost use Rattle.dj_link_rules.specs.Known.{makes, makes_array, is_short_tag, takes_member_tag, takes_literal_tag, takes_tag, is_misused_member};
 
 use crate::named::{NamedMember, Tag};
 use dj_ops::Instr;

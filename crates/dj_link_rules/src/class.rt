@@ -2,26 +2,26 @@ ghost use Rattle.std.specs.Prelude.{◌≡◌, [], ◌<◌, ◌^◌, length, OnO
 ghost use Rattle.dj_class.specs.trusted.ClassFile.{IsValid};
 ghost use Rattle.dj_class.specs.Views.{class_of};
 ghost use Rattle.dj_report.specs.Lines.{Adds};
-ghost use Rattle.dj_rules.specs.Reads.{IsViewOf};
-ghost use Rattle.dj_rules.specs.Views.{path_file_view};
-ghost use Rattle.dj_rules.specs.trusted.Violations.{this_name};
-ghost use Rattle.dj_check.specs.trusted.Malformed.{IsFaulty, IsRefused};
-ghost use Rattle.dj_check.specs.trusted.Rules.{IsMemberLine};
-ghost use Rattle.dj_link.specs.trusted.Lines.{MethodLinkViolates, IsFileLinkLine};
-ghost use Rattle.dj_link.specs.Known.{AreUnmakeable};
-ghost use Rattle.dj_link.specs.Constants.{IsDirectoryOf};
+ghost use Rattle.dj_file_rules.specs.Reads.{IsViewOf};
+ghost use Rattle.dj_file_rules.specs.Views.{path_file_view};
+ghost use Rattle.dj_file_rules.specs.trusted.Violations.{this_name};
+ghost use Rattle.dj_early_rules.specs.trusted.Malformed.{IsFaulty, IsRefused};
+ghost use Rattle.dj_early_rules.specs.trusted.Rules.{IsMemberLine};
+ghost use Rattle.dj_link_rules.specs.trusted.Lines.{MethodLinkViolates, IsFileLinkLine};
+ghost use Rattle.dj_link_rules.specs.Known.{AreUnmakeable};
+ghost use Rattle.dj_link_rules.specs.Constants.{IsDirectoryOf};
 
 use crate::above::classes_above;
 use crate::constants::judge_constants;
 use crate::error::LinkError;
 use crate::known::Known;
 use crate::methods::add_method_marks;
-use dj_check::{Mark, add_mark_lines, judge_texts};
 use dj_class::ClassView;
-use dj_directory::Directory;
-use dj_linking::Linker;
+use dj_early_rules::{Mark, add_mark_lines, judge_texts};
+use dj_file_rules::{FileView, view_file};
+use dj_member_index::Directory;
 use dj_report::{PathFile, Violation, add_in_order};
-use dj_rules::{FileView, view_file};
+use dj_resolution::Linker;
 use std::alloc::Global;
 
 // The class's name.

@@ -4,10 +4,10 @@ ghost use Rattle.dj_names.specs.trusted.Descriptors.{of_text};
 ghost use Rattle.dj_pool.specs.trusted.Pool.{IsClassText};
 ghost use Rattle.dj_model.specs.trusted.Types.{object_name};
 ghost use Rattle.dj_model.specs.trusted.Linking.{class_or_object};
-ghost use Rattle.dj_declared.specs.trusted.Files.{type_in};
-ghost use Rattle.dj_link.specs.trusted.Named.{class_of_type};
-ghost use Rattle.dj_link.specs.Judged.{is_of_library};
-ghost use Rattle.dj_link.specs.Constants.{brackets};
+ghost use Rattle.dj_declarations.specs.trusted.Files.{type_in};
+ghost use Rattle.dj_link_rules.specs.trusted.Named.{class_of_type};
+ghost use Rattle.dj_link_rules.specs.Judged.{is_of_library};
+ghost use Rattle.dj_link_rules.specs.Constants.{brackets};
 
 /// The class that the text of a class constant names.
 #[derive(Clone, Copy)]

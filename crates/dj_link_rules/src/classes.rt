@@ -1,10 +1,10 @@
 ghost use Rattle.std.specs.Prelude.{◌≡◌, ◌<◌, length, slice_get, Some, IfOk};
 ghost use Rattle.std.specs.Option.{option_map};
 ghost use Rattle.dj_model.specs.trusted.Program.{is_interface, is_abstract};
-ghost use Rattle.dj_link.specs.Known.{is_marked, flags_at, is_unmakeable, AreUnmakeable};
+ghost use Rattle.dj_link_rules.specs.Known.{is_marked, flags_at, is_unmakeable, AreUnmakeable};
 
 use crate::error::LinkError;
-use dj_linking::ClassTable;
+use dj_resolution::ClassTable;
 use std::alloc::Global;
 
 /// Whether these are the flags of an interface (JVMS table 4.1-A).

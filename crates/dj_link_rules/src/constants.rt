@@ -3,20 +3,20 @@ ghost use Rattle.std.specs.Option.{option_map};
 ghost use Rattle.dj_pool.specs.trusted.Pool.{IsPool, IsClassText, IsLinked, NamesText, text_at};
 ghost use Rattle.dj_pool.specs.Views.{constant_of};
 ghost use Rattle.dj_model.specs.trusted.Types.{object_name};
-ghost use Rattle.dj_classes.specs.Tables.{class_number};
-ghost use Rattle.dj_link.specs.trusted.Named.{named_type, named_member};
-ghost use Rattle.dj_link.specs.Judged.{tag_of, judged_class, judged_member, judged, AreJudged};
-ghost use Rattle.dj_link.specs.Constants.{text_class, static_in, AreSeen, AreNumbersSeenBy, IsDirectoryOf, IsNumbered};
+ghost use Rattle.dj_class_table.specs.Tables.{class_number};
+ghost use Rattle.dj_link_rules.specs.trusted.Named.{named_type, named_member};
+ghost use Rattle.dj_link_rules.specs.Judged.{tag_of, judged_class, judged_member, judged, AreJudged};
+ghost use Rattle.dj_link_rules.specs.Constants.{text_class, static_in, AreSeen, AreNumbersSeenBy, IsDirectoryOf, IsNumbered};
 
 use crate::class_text::{class_text, is_of_library, object_name};
 use crate::error::LinkError;
 use crate::name_numbers::{NumberedName, member_name, unseen_numbers};
 use crate::named::{NamedClass, NamedConstant, NamedMember, Tag};
 use crate::statics::is_static_at;
-use dj_check::class_text_index;
-use dj_directory::Directory;
-use dj_linking::Linker;
+use dj_early_rules::class_text_index;
+use dj_member_index::Directory;
 use dj_pool::{Entry, Pool};
+use dj_resolution::Linker;
 use std::alloc::Global;
 
 fn tag_of(entry: Entry<'_>) -> Tag

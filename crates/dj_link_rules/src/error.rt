@@ -1,6 +1,6 @@
 ghost use Rattle.std.specs.Prelude.{◌≡◌};
 
-use dj_rules::RulesError;
+use dj_file_rules::RulesError;
 use std::alloc::{AllocError, AllocFailed};
 use thiserror::Error;
 
@@ -13,7 +13,7 @@ pub enum LinkError {
 }
 
 impl From<RulesError> for LinkError {
-    ghost use Rattle.dj_link.specs.declared.error.LinkError.TheVariants.{Memory};
+    ghost use Rattle.dj_link_rules.specs.declared.error.LinkError.TheVariants.{Memory};
 
     ghost from_gives = { λ _ e. e ≡ Memory };
 
@@ -23,7 +23,7 @@ impl From<RulesError> for LinkError {
 }
 
 impl From<AllocError> for LinkError {
-    ghost use Rattle.dj_link.specs.declared.error.LinkError.TheVariants.{Memory};
+    ghost use Rattle.dj_link_rules.specs.declared.error.LinkError.TheVariants.{Memory};
 
     ghost from_gives = { λ _ e. e ≡ Memory };
 
@@ -33,7 +33,7 @@ impl From<AllocError> for LinkError {
 }
 
 impl<T: Drop> From<AllocFailed<T>> for LinkError {
-    ghost use Rattle.dj_link.specs.declared.error.LinkError.TheVariants.{Memory};
+    ghost use Rattle.dj_link_rules.specs.declared.error.LinkError.TheVariants.{Memory};
 
     ghost from_gives = { λ _ e. e ≡ Memory };
 

@@ -1,17 +1,17 @@
 ghost use Rattle.std.specs.Prelude.{◌≡◌, ◌<◌, ◌^◌, [], length, map, All, IfOk, OnOk};
 ghost use Rattle.dj_report.specs.trusted.Lines.{AreExactly};
 ghost use Rattle.dj_report.specs.Lines.{Adds};
-ghost use Rattle.dj_rules.specs.Views.{path_file_view};
-ghost use Rattle.dj_check.specs.trusted.Malformed.{IsRefused};
-ghost use Rattle.dj_link.specs.trusted.Lines.{IsLinkLine};
-ghost use Rattle.dj_link.specs.Constants.{IsDirectoryOf};
+ghost use Rattle.dj_file_rules.specs.Views.{path_file_view};
+ghost use Rattle.dj_early_rules.specs.trusted.Malformed.{IsRefused};
+ghost use Rattle.dj_link_rules.specs.trusted.Lines.{IsLinkLine};
+ghost use Rattle.dj_link_rules.specs.Constants.{IsDirectoryOf};
 
 use crate::class::add_file_lines;
 use crate::classes::unmakeable_classes;
 use crate::error::LinkError;
-use dj_directory::Directory;
-use dj_linking::Linker;
+use dj_member_index::Directory;
 use dj_report::{PathFile, Violation, Violations, in_order};
+use dj_resolution::Linker;
 use std::alloc::Global;
 
 // Appends all lines of the rules 17 and 18, of files that don't violate rule 1. The directory, where there is one, is that of the linked classes.

@@ -1,5 +1,5 @@
 ghost use Rattle.std.specs.Prelude.{◌≡◌};
-ghost use Rattle.dj_link.specs.Known.{is_far_special, is_unlinked_member, has_wrong_kind, is_unlinked_class, is_unlinked_named, is_foreign, is_unlinked, is_unlinked_by, is_foreign_catch, is_unlinked_catch, is_unlinked_catch_by, named_by, is_own_or_above_class};
+ghost use Rattle.dj_link_rules.specs.Known.{is_far_special, is_unlinked_member, has_wrong_kind, is_unlinked_class, is_unlinked_named, is_foreign, is_unlinked, is_unlinked_by, is_foreign_catch, is_unlinked_catch, is_unlinked_catch_by, named_by, is_own_or_above_class};
 
 use crate::above::{OwnClass, is_above};
 use crate::asks::{is_misused_member, is_special, makes, makes_array, takes_tag};
@@ -9,9 +9,9 @@ use crate::kept::{
 };
 use crate::known::Known;
 use crate::named::{NamedClass, NamedConstant, NamedMember, Tag};
-use dj_check::index_of;
-use dj_linking::ClassTable;
+use dj_early_rules::index_of;
 use dj_ops::Instr;
+use dj_resolution::ClassTable;
 
 // What is kept of the constant that an instruction names.
 fn named_by(kept: &[Option<NamedConstant>], instr: &Instr) -> Option<NamedConstant>

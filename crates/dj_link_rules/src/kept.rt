@@ -1,10 +1,10 @@
 ghost use Rattle.std.specs.Prelude.{◌≡◌};
-ghost use Rattle.dj_link.specs.Judged.{kept_at};
-ghost use Rattle.dj_link.specs.Known.{lacks_class, lacks_member, is_library_class, is_foreign_named, is_unmakeable_class, is_interface_class, is_abstract_flags, is_abstract_class};
+ghost use Rattle.dj_link_rules.specs.Judged.{kept_at};
+ghost use Rattle.dj_link_rules.specs.Known.{lacks_class, lacks_member, is_library_class, is_foreign_named, is_unmakeable_class, is_interface_class, is_abstract_flags, is_abstract_class};
 
 use crate::classes::{flags_at, is_abstract, is_interface, is_marked};
 use crate::named::{NamedClass, NamedConstant, NamedMember};
-use dj_linking::ClassTable;
+use dj_resolution::ClassTable;
 
 /// What is kept of the constant at an index.
 pub fn kept_at(kept: &[Option<NamedConstant>], index: u16) -> Option<NamedConstant>

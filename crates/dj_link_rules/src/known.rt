@@ -1,6 +1,6 @@
 use crate::above::OwnClass;
 use crate::named::NamedConstant;
-use dj_linking::ClassTable;
+use dj_resolution::ClassTable;
 
 /// What is known of the classes of a set, and of what a file names.
 #[derive(Clone, Copy)]

@@ -4,20 +4,20 @@ ghost use Rattle.dj_class.specs.trusted.ClassFile.{IsAttribute, IsValid};
 ghost use Rattle.dj_class.specs.Members.{member_of};
 ghost use Rattle.dj_class.specs.Views.{class_of};
 ghost use Rattle.dj_report.specs.Lines.{Gains};
-ghost use Rattle.dj_rules.specs.trusted.Violations.{this_name};
-ghost use Rattle.dj_check.specs.Judged.{AreTexts};
-ghost use Rattle.dj_check.specs.trusted.Malformed.{IsFaultyMethod, HasFaultyMethod};
-ghost use Rattle.dj_check.specs.Marks.{names_in, MarksOf, AreMarksOf};
-ghost use Rattle.dj_check.specs.Passes.{IsWholeMethod};
-ghost use Rattle.dj_link.specs.trusted.Lines.{MethodLinkViolates};
-ghost use Rattle.dj_link.specs.Known.{IsKnown};
-ghost use Rattle.dj_link.specs.Marks.{IsUnreportedMethod};
+ghost use Rattle.dj_file_rules.specs.trusted.Violations.{this_name};
+ghost use Rattle.dj_early_rules.specs.Judged.{AreTexts};
+ghost use Rattle.dj_early_rules.specs.trusted.Malformed.{IsFaultyMethod, HasFaultyMethod};
+ghost use Rattle.dj_early_rules.specs.Marks.{names_in, MarksOf, AreMarksOf};
+ghost use Rattle.dj_early_rules.specs.Passes.{IsWholeMethod};
+ghost use Rattle.dj_link_rules.specs.trusted.Lines.{MethodLinkViolates};
+ghost use Rattle.dj_link_rules.specs.Known.{IsKnown};
+ghost use Rattle.dj_link_rules.specs.Marks.{IsUnreportedMethod};
 
 use crate::error::LinkError;
 use crate::known::Known;
 use crate::passes::add_code_marks;
-use dj_check::{JudgedText, Mark, MethodBody, WholeCode, code_of_method, names_of};
 use dj_class::{ClassView, MemberView};
+use dj_early_rules::{JudgedText, Mark, MethodBody, WholeCode, code_of_method, names_of};
 use std::alloc::Global;
 
 /// Appends the marks of a method with code. The caller may know that it violates none of the rules 9 to 16.

@@ -3,11 +3,11 @@ ghost use Rattle.std.specs.Prelude.{◌≡◌, List, IfSome, IfOk, option_and_th
 ghost use Rattle.std.specs.Option.{option_map};
 ghost use Rattle.dj_pool.specs.trusted.Pool.{Constant, both, text_at, IsLinked};
 ghost use Rattle.dj_pool.specs.Views.{constant_of};
-ghost use Rattle.dj_check.specs.trusted.Classes.{names_at};
-ghost use Rattle.dj_directory.specs.Numberings.{Numbering};
-ghost use Rattle.dj_link.specs.Constants.{number_at, AreNumbersSeen, AreNumbersSeenBy, IsNumbered};
+ghost use Rattle.dj_early_rules.specs.trusted.Classes.{names_at};
+ghost use Rattle.dj_member_index.specs.Numberings.{Numbering};
+ghost use Rattle.dj_link_rules.specs.Constants.{number_at, AreNumbersSeen, AreNumbersSeenBy, IsNumbered};
 
-use dj_directory::Directory;
+use dj_member_index::Directory;
 use dj_pool::{Entry, Pool};
 use std::alloc::{AllocError, Global};
 

@@ -1,16 +1,18 @@
 ghost use Rattle.std.specs.Prelude.{ℕ, ◌↔◌, ◌<◌, ◌^◌, length, IsTrue, OnOk};
 ghost use Rattle.dj_report.specs.Lines.{Gains};
-ghost use Rattle.dj_check.specs.Judged.{AreTexts};
-ghost use Rattle.dj_check.specs.Marks.{MarksAt, MarksOf};
-ghost use Rattle.dj_check.specs.trusted.Methods.{InstrViolates};
-ghost use Rattle.dj_link.specs.Known.{IsRuled, KnownInstr, KnownBelow, KnownRange, KnownCode};
-ghost use Rattle.dj_link.specs.trusted.Lines.{IsUnreported};
-ghost use Rattle.dj_link.specs.Marks.{AreRangeMarks, AreUnreported};
+ghost use Rattle.dj_early_rules.specs.Judged.{AreTexts};
+ghost use Rattle.dj_early_rules.specs.Marks.{MarksAt, MarksOf};
+ghost use Rattle.dj_early_rules.specs.trusted.Methods.{InstrViolates};
+ghost use Rattle.dj_link_rules.specs.Known.{IsRuled, KnownInstr, KnownBelow, KnownRange, KnownCode};
+ghost use Rattle.dj_link_rules.specs.trusted.Lines.{IsUnreported};
+ghost use Rattle.dj_link_rules.specs.Marks.{AreRangeMarks, AreUnreported};
 
 use crate::error::LinkError;
 use crate::judge::{is_foreign, is_foreign_catch, is_unlinked, is_unlinked_catch};
 use crate::known::Known;
-use dj_check::{JudgedText, Mark, MarkPlace, add_mark_if, catches_error, index_of, violates_instr};
+use dj_early_rules::{
+    JudgedText, Mark, MarkPlace, add_mark_if, catches_error, index_of, violates_instr,
+};
 use dj_labels::{Labelled, Protected};
 use dj_ops::Instr;
 use dj_pool::Pool;

@@ -2,16 +2,16 @@ ghost use Rattle.std.specs.Prelude.{◌≡◌, ◌<◌, Some, length};
 ghost use Rattle.std.specs.Option.{option_map};
 ghost use Rattle.dj_pool.specs.Views.{constant_of};
 ghost use Rattle.dj_model.specs.trusted.Program.{is_static};
-ghost use Rattle.dj_classes.specs.Tables.{method_there, field_there};
-ghost use Rattle.dj_linking.specs.Linked.{resolved_field, resolved_method};
-ghost use Rattle.dj_linking.specs.Numbered.{AreNumbersOf};
-ghost use Rattle.dj_link.specs.trusted.Named.{is_static_field, is_static_method};
-ghost use Rattle.dj_link.specs.Constants.{static_at, IsDirectoryOf, IsNumbered};
+ghost use Rattle.dj_class_table.specs.Tables.{method_there, field_there};
+ghost use Rattle.dj_resolution.specs.Linked.{resolved_field, resolved_method};
+ghost use Rattle.dj_resolution.specs.Numbered.{AreNumbersOf};
+ghost use Rattle.dj_link_rules.specs.trusted.Named.{is_static_field, is_static_method};
+ghost use Rattle.dj_link_rules.specs.Constants.{static_at, IsDirectoryOf, IsNumbered};
 
 use crate::name_numbers::NumberedName;
-use dj_directory::Directory;
-use dj_linking::{Linker, Place, resolve_field_of, resolve_method_of};
+use dj_member_index::Directory;
 use dj_pool::Entry;
+use dj_resolution::{Linker, Place, resolve_field_of, resolve_method_of};
 
 // The flag of static fields and methods (JVMS tables 4.5-A and 4.6-A).
 const STATIC: u16 = 0x0008;

@@ -11,7 +11,7 @@ use Rattle.dj_model.specs.trusted.Libraries.{library_body, library_method, libra
 use Rattle.dj_program.specs.trusted.Codes.{CodeParts}
 use Rattle.dj_program.specs.Views.{parts_of}
 use Rattle.dj_program.specs.declared.code.MethodCode.{MethodCode}
-use Rattle.dj_shape.specs.Pools.{ArePoolKinds}
+use Rattle.dj_shape_rule.specs.Pools.{ArePoolKinds}
 use Rattle.dj_image.specs.declared.parts.ClassParts.{ClassParts}
 use Rattle.dj_image.specs.Sources.{with_codes, class_of_source}
 use Rattle.dj_image.specs.Parts.{source_of, FitMethods, FitClass}

@@ -7,9 +7,9 @@ use Rattle.std.proofs.lemmas.Nat.{bit_set_by_shift, and_mask}
 use Rattle.dj_pool.specs.trusted.Pool.{Constant}
 use Rattle.dj_class.specs.trusted.ClassFile.{MemberInfo}
 use Rattle.dj_model.specs.trusted.Program.{has_flag, is_abstract}
-use Rattle.dj_check.specs.trusted.Attributes.{codes_of}
-use Rattle.dj_check.specs.trusted.Malformed.{IsBodiless, IsFaultyMethod}
-use Rattle.dj_declared.specs.trusted.Files.{is_bodiless}
+use Rattle.dj_early_rules.specs.trusted.Attributes.{codes_of}
+use Rattle.dj_early_rules.specs.trusted.Malformed.{IsBodiless, IsFaultyMethod}
+use Rattle.dj_declarations.specs.trusted.Files.{is_bodiless}
 
 -- ---- flags
 

@@ -9,8 +9,8 @@ use Rattle.std.proofs.lemmas.Option.{slice_get-map, slice_get_within, slice_get-
 use Rattle.dj_names.specs.trusted.Types.{Name}
 use Rattle.dj_model.specs.trusted.Program.{Program, Class, superclass_of, interfaces_of}
 use Rattle.dj_model.specs.trusted.Linking.{option_list}
-use Rattle.dj_classes.specs.Tables.{class_number, class_numbers, super_number, interface_numbers}
-use Rattle.dj_classes.proofs.Numbered.{class_numbers-within}
+use Rattle.dj_class_table.specs.Tables.{class_number, class_numbers, super_number, interface_numbers}
+use Rattle.dj_class_table.proofs.Numbered.{class_numbers-within}
 use Rattle.dj_graph.specs.Graphs.{Edges, HasEdge, Reaches, Here, Along, AreComponents, IsInside, edges_of}
 use Rattle.dj_loader.specs.Loads.{above_names}
 use Rattle.dj_loader.specs.Numbered.{above_numbers, edges_in, IsOnCycle, IsFirst, NeverSo, has_number, is_own, LeadsBack}

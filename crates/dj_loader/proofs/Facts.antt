@@ -3,8 +3,8 @@ use Rattle.std.proofs.Common.{◌≡◌, ℕ, zero, suc, true, false, List, [], 
 use Rattle.dj_names.specs.trusted.Types.{Name, same_name}
 use Rattle.dj_model.specs.trusted.Program.{Class}
 use Rattle.dj_model.specs.trusted.Libraries.{is_name_before}
-use Rattle.dj_classes.specs.Tables.{name_of}
-use Rattle.dj_classes.proofs.Orders.{same_from_names, not_both}
+use Rattle.dj_class_table.specs.Tables.{name_of}
+use Rattle.dj_class_table.proofs.Orders.{same_from_names, not_both}
 use Rattle.dj_loader.specs.Loads.{above_names, StandsUnder, LacksAbove, StandsBelow, IsOwnAncestor, IsLeast}
 use Rattle.dj_loader.proofs.Lists.{member_first, member_later, member_none, member_cases}
 

@@ -6,8 +6,8 @@ use Rattle.dj_pool.specs.trusted.Pool.{Constant}
 use Rattle.dj_class.specs.declared.class.Attribute.{Attribute}
 use Rattle.dj_class.specs.trusted.ClassFile.{MemberInfo}
 use Rattle.dj_class.specs.Parts.{attribute_of}
-use Rattle.dj_check.specs.trusted.Attributes.{is_named, bodies_of, values_of}
-use Rattle.dj_check.proofs.NamedBodies.{body_if, flat_map_turn}
+use Rattle.dj_early_rules.specs.trusted.Attributes.{is_named, bodies_of, values_of}
+use Rattle.dj_early_rules.proofs.NamedBodies.{body_if, flat_map_turn}
 use Rattle.dj_model.specs.trusted.Program as programs
 use Rattle.dj_program.specs.trusted.Naming.{constant_in, constant_of_body, constant_of_bodies}
 

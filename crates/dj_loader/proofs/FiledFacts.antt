@@ -8,10 +8,10 @@ use Rattle.dj_names.specs.trusted.Types.{Name}
 use Rattle.dj_names.specs.trusted.UnitReading.{unit_read, long_read, two_read}
 use Rattle.dj_pool.specs.trusted.Pool.{Constant, Utf8}
 use Rattle.dj_class.specs.trusted.ClassFile.{MemberInfo, ClassFile}
-use Rattle.dj_rules.specs.trusted.Violations.{this_name}
+use Rattle.dj_file_rules.specs.trusted.Violations.{this_name}
 use Rattle.dj_model.specs.trusted.Program as programs
 use Rattle.dj_model.specs.trusted.Program.{Program, Class}
-use Rattle.dj_classes.specs.Tables.{class_number}
+use Rattle.dj_class_table.specs.Tables.{class_number}
 use Rattle.dj_program.specs.trusted.Naming.{units_in}
 use Rattle.dj_program.specs.declared.code.MethodCode.{MethodCode}
 use Rattle.dj_image.specs.declared.parts.ClassParts.{ClassParts}

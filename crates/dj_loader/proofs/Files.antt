@@ -11,18 +11,18 @@ use Rattle.dj_pool.specs.trusted.Pool.{Constant, IsPool, text_at}
 use Rattle.dj_class.specs.declared.class.MemberView.{MemberView}
 use Rattle.dj_class.specs.Members.{member_of}
 use Rattle.dj_class.specs.trusted.ClassFile.{MemberInfo, ClassFile, IsMethod, IsValid}
-use Rattle.dj_check.specs.trusted.Malformed.{IsFaultyMethod, HasFaultyMethod}
+use Rattle.dj_early_rules.specs.trusted.Malformed.{IsFaultyMethod, HasFaultyMethod}
 use Rattle.dj_model.specs.trusted.Program as programs
 use Rattle.dj_model.specs.trusted.Program.{Program, Class, Method, Field, Body, Abstract, Runs, has_code}
-use Rattle.dj_declared.specs.trusted.Files.{desc_in, name_in, no_code, is_bodiless, declared_body, declared_method, declared_field, declared_class}
-use Rattle.dj_declared.specs.Members.{IsDescriptor}
-use Rattle.dj_declared.proofs.DescTests.{is_descriptor}
+use Rattle.dj_declarations.specs.trusted.Files.{desc_in, name_in, no_code, is_bodiless, declared_body, declared_method, declared_field, declared_class}
+use Rattle.dj_declarations.specs.Members.{IsDescriptor}
+use Rattle.dj_declarations.proofs.DescTests.{is_descriptor}
 use Rattle.dj_program.specs.trusted.Codes.{CodeParts, code_in}
 use Rattle.dj_program.specs.trusted.Naming.{constant_in}
 use Rattle.dj_program.specs.trusted.Programs.{AreSideBySide, IsMethodIn, field_in_file, IsClassIn}
 use Rattle.dj_program.specs.Views.{parts_of}
 use Rattle.dj_program.specs.declared.code.MethodCode.{MethodCode}
-use Rattle.dj_shape.specs.Pools.{ArePoolKinds}
+use Rattle.dj_shape_rule.specs.Pools.{ArePoolKinds}
 use Rattle.dj_image.specs.declared.parts.ClassParts.{ClassParts}
 use Rattle.dj_image.specs.Sources.{with_codes, with_values, class_of_source}
 use Rattle.dj_image.specs.Parts.{source_of, FitMethods, IsDescAt, FitClass}

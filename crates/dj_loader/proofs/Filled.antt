@@ -9,12 +9,12 @@ use Rattle.dj_names.specs.trusted.Library.{Library, LibraryClass}
 use Rattle.dj_class.specs.trusted.ClassFile.{ClassFile}
 use Rattle.dj_model.specs.trusted.Program.{Program, Class, class_at}
 use Rattle.dj_model.specs.trusted.Libraries.{library_class, is_name_before, inserted, joined}
-use Rattle.dj_declared.specs.trusted.Files.{declared_class}
-use Rattle.dj_classes.specs.Tables.{class_number, name_of}
-use Rattle.dj_classes.specs.ClassRows.{RiseStrictly}
-use Rattle.dj_classes.proofs.Orders.{names_from_same}
-use Rattle.dj_classes.proofs.Joins.{joined-append}
-use Rattle.dj_classes.proofs.Numbered.{class_at-at, class_number-rise}
+use Rattle.dj_declarations.specs.trusted.Files.{declared_class}
+use Rattle.dj_class_table.specs.Tables.{class_number, name_of}
+use Rattle.dj_class_table.specs.ClassRows.{RiseStrictly}
+use Rattle.dj_class_table.proofs.Orders.{names_from_same}
+use Rattle.dj_class_table.proofs.Joins.{joined-append}
+use Rattle.dj_class_table.proofs.Numbered.{class_at-at, class_number-rise}
 use Rattle.dj_program.specs.trusted.Programs.{AreSideBySide, IsClassIn, IsProgramIn}
 use Rattle.dj_loader.specs.Loads.{all_classes}
 use Rattle.dj_loader.proofs.Lists.{member_first, member_later, member_prefix, member_back, member_mapped, place_of_member, some_of_map}

@@ -11,7 +11,7 @@ use Rattle.dj_class.specs.trusted.ClassFile.{MemberInfo, ClassFile}
 use Rattle.dj_model.specs.trusted.Program as programs
 use Rattle.dj_model.specs.trusted.Program.{Program, Method, Field, has_code}
 use Rattle.dj_model.specs.trusted.Libraries.{library_class}
-use Rattle.dj_declared.specs.trusted.Files.{declared_class}
+use Rattle.dj_declarations.specs.trusted.Files.{declared_class}
 use Rattle.dj_program.specs.declared.code.MethodCode.{MethodCode}
 use Rattle.dj_program.specs.trusted.Naming.{constant_in}
 use Rattle.dj_program.specs.trusted.Programs.{AreSideBySide, IsMethodIn, IsClassIn}

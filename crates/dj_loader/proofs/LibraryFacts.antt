@@ -13,10 +13,10 @@ use Rattle.dj_names.specs.trusted.Descriptors.{type_slots, NamesClass, IsType, I
 use Rattle.dj_names.specs.trusted.Library.{LibraryMethod, LibraryClass, Library, lang, final_class, string_methods, deterministic_library, raw_library}
 use Rattle.dj_names.specs.trusted.NameReading.{reads_class_name}
 use Rattle.dj_names.proofs.NameLaws.{class_name_read}
-use Rattle.dj_natives.specs.declared.library.LibMethod.{LibMethod}
-use Rattle.dj_natives.specs.declared.library.LibClass.{LibClass}
-use Rattle.dj_natives.specs.Views.{library_method_view, library_class_view, library_view}
-use Rattle.dj_linking.specs.declared.linker.BaseNames.TheVariants as bases
+use Rattle.dj_library_types.specs.declared.library.LibMethod.{LibMethod}
+use Rattle.dj_library_types.specs.declared.library.LibClass.{LibClass}
+use Rattle.dj_library_types.specs.Views.{library_method_view, library_class_view, library_view}
+use Rattle.dj_resolution.specs.declared.linker.BaseNames.TheVariants as bases
 use Rattle.dj_loader.specs.Loads.{HasStringIn}
 
 both : (a b : Bool) → (a && b) ≡ true → (a ≡ true) × (b ≡ true)

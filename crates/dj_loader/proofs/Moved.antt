@@ -3,9 +3,9 @@ use Rattle.std.proofs.Common.{◌≡◌, ℕ, zero, suc, List, [], Contains, sym
 use Rattle.dj_names.specs.trusted.Types.{Name}
 use Rattle.dj_model.specs.trusted.Program.{Program, Class}
 use Rattle.dj_model.specs.trusted.Libraries.{joined}
-use Rattle.dj_classes.specs.Tables.{IsShared}
-use Rattle.dj_classes.specs.ClassRows.{RiseStrictly}
-use Rattle.dj_classes.proofs.Rising.{members_joined, rise_joined, differ_from_none_shared}
+use Rattle.dj_class_table.specs.Tables.{IsShared}
+use Rattle.dj_class_table.specs.ClassRows.{RiseStrictly}
+use Rattle.dj_class_table.proofs.Rising.{members_joined, rise_joined, differ_from_none_shared}
 use Rattle.dj_loader.specs.declared.error.LoadError.{LoadError}
 use Rattle.dj_loader.specs.declared.error.LoadError.TheVariants as errors
 use Rattle.dj_loader.specs.Loads.{StandsUnder, LacksAbove, StandsBelow, IsOwnAncestor, IsLeast, Never, IsLoadable, RefusesLoad}

@@ -12,11 +12,11 @@ use Rattle.std.proofs.lemmas.Option.{same_Some}
 use Rattle.dj_names.specs.trusted.Types.{Name, same_name}
 use Rattle.dj_model.specs.trusted.Program.{Program, Class, class_at}
 use Rattle.dj_model.specs.trusted.Libraries.{is_name_before}
-use Rattle.dj_classes.specs.Tables.{class_number, name_at, name_of}
-use Rattle.dj_classes.specs.ClassRows.{RiseStrictly}
-use Rattle.dj_classes.proofs.Orders.{is_name_before-cmp, same_name-refl, names_from_same, cmp_itself}
-use Rattle.dj_classes.proofs.Shared.{first_differs}
-use Rattle.dj_classes.proofs.Numbered.{class_number-rise, class_number-none}
+use Rattle.dj_class_table.specs.Tables.{class_number, name_at, name_of}
+use Rattle.dj_class_table.specs.ClassRows.{RiseStrictly}
+use Rattle.dj_class_table.proofs.Orders.{is_name_before-cmp, same_name-refl, names_from_same, cmp_itself}
+use Rattle.dj_class_table.proofs.Shared.{first_differs}
+use Rattle.dj_class_table.proofs.Numbered.{class_number-rise, class_number-none}
 use Rattle.dj_loader.specs.Loads.{IsLeast, Never}
 use Rattle.dj_loader.specs.Numbered.{IsFirst, NeverSo}
 use Rattle.dj_loader.proofs.Lists.{member_first, member_later, member_none, member_cases, place_of_member, member_at_place}

@@ -5,7 +5,7 @@ use Rattle.std.proofs.lemmas.Bool.{false≢true}
 use Rattle.std.proofs.lemmas.Option.{none-some, same_Some}
 use Rattle.dj_names.specs.trusted.Types.{Name}
 use Rattle.dj_model.specs.trusted.Program.{Program, Class}
-use Rattle.dj_classes.specs.Tables.{lacks_above}
+use Rattle.dj_class_table.specs.Tables.{lacks_above}
 use Rattle.dj_graph.specs.Graphs.{Edges, HasEdge, Reaches, Here, Along}
 use Rattle.dj_loader.specs.declared.error.LoadError.TheVariants as errors
 use Rattle.dj_loader.specs.Numbered.{above_numbers, edges_in, IsOnCycle, IsLacking, IsFirst, NeverSo, RefusesLacking, RefusesCycles, IsMemory, is_own, has_number, LeadsBack}

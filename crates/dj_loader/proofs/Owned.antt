@@ -9,13 +9,13 @@ use Rattle.dj_names.specs.trusted.Library.{Library, LibraryClass}
 use Rattle.dj_class.specs.declared.class.ClassView.{ClassView}
 use Rattle.dj_class.specs.Views.{class_of}
 use Rattle.dj_class.specs.trusted.ClassFile.{ClassFile, IsValid}
-use Rattle.dj_rules.specs.trusted.Violations.{this_name}
+use Rattle.dj_file_rules.specs.trusted.Violations.{this_name}
 use Rattle.dj_model.specs.trusted.Program.{Program, Class, fields_of}
 use Rattle.dj_model.specs.trusted.Libraries.{library_class}
-use Rattle.dj_declared.specs.trusted.Files.{declared_class}
-use Rattle.dj_classes.specs.Tables.{class_number, name_at, name_of, methods_of, IsShared}
-use Rattle.dj_classes.specs.ClassRows.{RiseStrictly}
-use Rattle.dj_classes.proofs.Numbered.{class_number-within, class_number-rise}
+use Rattle.dj_declarations.specs.trusted.Files.{declared_class}
+use Rattle.dj_class_table.specs.Tables.{class_number, name_at, name_of, methods_of, IsShared}
+use Rattle.dj_class_table.specs.ClassRows.{RiseStrictly}
+use Rattle.dj_class_table.proofs.Numbered.{class_number-within, class_number-rise}
 use Rattle.dj_program.specs.trusted.Programs.{IsClassIn}
 use Rattle.dj_image.specs.declared.parts.ClassParts.{ClassParts}
 use Rattle.dj_image.specs.Sources.{class_of_source}

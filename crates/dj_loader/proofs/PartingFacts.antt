@@ -17,16 +17,16 @@ use Rattle.dj_class.specs.trusted.ClassFile.{MemberInfo, ClassFile}
 use Rattle.dj_model.specs.trusted.Program.{Program, Class, Field}
 use Rattle.dj_model.specs.trusted.Kinds.{call_signature}
 use Rattle.dj_model.specs.trusted.Libraries.{library_class, library_method}
-use Rattle.dj_declared.specs.trusted.Files.{desc_in, name_in}
-use Rattle.dj_declared.specs.Members.{IsDescriptor}
-use Rattle.dj_classes.specs.Tables.{name_at, IsShared}
-use Rattle.dj_classes.proofs.Orders.{same_from_names, not_both}
+use Rattle.dj_declarations.specs.trusted.Files.{desc_in, name_in}
+use Rattle.dj_declarations.specs.Members.{IsDescriptor}
+use Rattle.dj_class_table.specs.Tables.{name_at, IsShared}
+use Rattle.dj_class_table.proofs.Orders.{same_from_names, not_both}
 use Rattle.dj_program.specs.trusted.Naming.{named_at, named_by}
 use Rattle.dj_program.specs.trusted.Programs.{AreSideBySide}
 use Rattle.dj_program.specs.declared.code.MethodCode.{MethodCode}
-use Rattle.dj_shape.specs.declared.pool.ConstantKind.TheVariants as constants
-use Rattle.dj_shape.specs.Kept.{KeptKinds}
-use Rattle.dj_shape.specs.Pools.{call_at, SaysKind, ArePoolKinds}
+use Rattle.dj_shape_rule.specs.declared.pool.ConstantKind.TheVariants as constants
+use Rattle.dj_shape_rule.specs.Kept.{KeptKinds}
+use Rattle.dj_shape_rule.specs.Pools.{call_at, SaysKind, ArePoolKinds}
 use Rattle.dj_image.specs.declared.parts.ClassParts.{ClassParts}
 use Rattle.dj_loader.specs.Filed.{IsCodeFor, reported_value, AreFileParts, AreBareParts, ArePartsFor, AreFirstParts}
 use Rattle.dj_loader.specs.Loads.{methods_of, fields_of, AreFewMembers, above_names, StandsUnder, IsOwnAncestor, Never}

@@ -9,9 +9,9 @@ use Rattle.dj_names.specs.trusted.Library.{LibraryClass, lang, final_class}
 use Rattle.dj_model.specs.trusted.Types.{string_name}
 use Rattle.dj_model.specs.trusted.Program.{Class, Abstract, class_at}
 use Rattle.dj_model.specs.trusted.Libraries.{library_class, is_name_before}
-use Rattle.dj_classes.specs.Tables.{name_of, name_at, IsShared}
-use Rattle.dj_classes.proofs.Orders.{same_from_names, not_both}
-use Rattle.dj_linking.specs.declared.linker.BaseNames.TheVariants as bases
+use Rattle.dj_class_table.specs.Tables.{name_of, name_at, IsShared}
+use Rattle.dj_class_table.proofs.Orders.{same_from_names, not_both}
+use Rattle.dj_resolution.specs.declared.linker.BaseNames.TheVariants as bases
 use Rattle.dj_loader.specs.declared.error.LoadError.TheVariants as errors
 use Rattle.dj_loader.specs.Loads.{all_classes, methods_of, HasStringIn, AreFewMembers, above_names, StandsUnder, LacksAbove, StandsBelow, IsOwnAncestor, Never, IsLoadable, RefusesLoad}
 use Rattle.dj_loader.proofs.Lists.{member_first, member_later, member_none, member_cases}

@@ -7,8 +7,8 @@ use Rattle.std.proofs.lemmas.Bool.{cases_lt}
 use Rattle.std.proofs.lemmas.Option.{same_Some}
 use Rattle.dj_names.specs.trusted.Types.{Name}
 use Rattle.dj_model.specs.trusted.Program.{Program}
-use Rattle.dj_classes.specs.Tables.{name_at, lacks_above}
-use Rattle.dj_classes.specs.ClassRows.{RiseStrictly}
+use Rattle.dj_class_table.specs.Tables.{name_at, lacks_above}
+use Rattle.dj_class_table.specs.ClassRows.{RiseStrictly}
 use Rattle.dj_graph.specs.Graphs.{Edges}
 use Rattle.dj_loader.specs.Loads.{LacksAbove, IsOwnAncestor, IsLeast, Never}
 use Rattle.dj_loader.specs.Numbered.{IsLacking, IsOnCycle, IsFirst, NeverSo, has_number, LeadsBack}

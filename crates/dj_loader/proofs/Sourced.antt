@@ -11,11 +11,11 @@ use Rattle.dj_class.specs.trusted.ClassFile.{ClassFile}
 use Rattle.dj_model.specs.trusted.Program as programs
 use Rattle.dj_model.specs.trusted.Program.{Program, Class, Method, Field}
 use Rattle.dj_model.specs.trusted.Libraries.{is_name_before, inserted, joined}
-use Rattle.dj_classes.specs.Tables.{name_of}
-use Rattle.dj_classes.specs.ClassRows.{RiseStrictly}
+use Rattle.dj_class_table.specs.Tables.{name_of}
+use Rattle.dj_class_table.specs.ClassRows.{RiseStrictly}
 use Rattle.dj_program.specs.trusted.Codes.{CodeParts}
 use Rattle.dj_program.specs.trusted.Programs.{IsClassIn, IsProgramIn}
-use Rattle.dj_types.specs.Members.{methods_in, fields_in, all_methods, all_fields}
+use Rattle.dj_numbering.specs.Members.{methods_in, fields_in, all_methods, all_fields}
 use Rattle.dj_image.specs.declared.parts.ClassParts.{ClassParts}
 use Rattle.dj_image.specs.Sources.{Source, with_codes, with_values, class_of_source, program_of_sources}
 use Rattle.dj_image.specs.Parts.{source_of, sources_of, FitClasses, AreFew}

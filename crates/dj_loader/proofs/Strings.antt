@@ -6,10 +6,10 @@ use Rattle.dj_class.specs.trusted.ClassFile.{ClassFile}
 use Rattle.dj_model.specs.trusted.Types.{string_name}
 use Rattle.dj_model.specs.trusted.Program.{Program}
 use Rattle.dj_model.specs.trusted.Libraries.{library_class, joined}
-use Rattle.dj_declared.specs.trusted.Files.{declared_class}
-use Rattle.dj_classes.specs.Tables.{class_number}
-use Rattle.dj_linking.specs.declared.linker.BaseNames.{BaseNames}
-use Rattle.dj_linking.specs.Linked.{prefix_of}
+use Rattle.dj_declarations.specs.trusted.Files.{declared_class}
+use Rattle.dj_class_table.specs.Tables.{class_number}
+use Rattle.dj_resolution.specs.declared.linker.BaseNames.{BaseNames}
+use Rattle.dj_resolution.specs.Linked.{prefix_of}
 use Rattle.dj_image.specs.Parts.{HasString}
 use Rattle.dj_loader.specs.Loads.{all_classes, HasStringIn}
 use Rattle.dj_loader.proofs.Lists.{member_back, member_mapped}

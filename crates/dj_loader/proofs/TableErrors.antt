@@ -3,9 +3,9 @@ use Rattle.std.proofs.Common.{◌≡◌, List, Result, Err, refl, sym, ap, subst
 use Rattle.std.specs.Prelude.{IsErrOf}
 use Rattle.dj_names.specs.trusted.Types.{Name}
 use Rattle.dj_model.specs.trusted.Program.{Class}
-use Rattle.dj_classes.specs.Tables.{IsLeastShared}
-use Rattle.dj_classes.specs.declared.error.TableError.{TableError}
-use Rattle.dj_classes.specs.declared.error.TableError.TheVariants.{Duplicate, Memory}
+use Rattle.dj_class_table.specs.Tables.{IsLeastShared}
+use Rattle.dj_class_table.specs.declared.error.TableError.{TableError}
+use Rattle.dj_class_table.specs.declared.error.TableError.TheVariants.{Duplicate, Memory}
 use Rattle.dj_loader.specs.declared.error.LoadError.{LoadError}
 use Rattle.dj_loader.specs.Loads.{RefusesLoad, table_error}
 

@@ -7,9 +7,9 @@ use Rattle.std.proofs.lemmas.Option.{same_Some, slice_get-map}
 use Rattle.dj_names.specs.trusted.Types.{Name}
 use Rattle.dj_model.specs.trusted.Program.{Program, Class}
 use Rattle.dj_model.specs.trusted.Linking.{option_list}
-use Rattle.dj_classes.specs.Tables.{class_number, class_numbers, name_at, is_lacking}
-use Rattle.dj_classes.specs.ClassRows.{RiseStrictly}
-use Rattle.dj_classes.proofs.Numbered.{name_at-number, class_number-rise}
+use Rattle.dj_class_table.specs.Tables.{class_number, class_numbers, name_at, is_lacking}
+use Rattle.dj_class_table.specs.ClassRows.{RiseStrictly}
+use Rattle.dj_class_table.proofs.Numbered.{name_at-number, class_number-rise}
 use Rattle.dj_graph.specs.Graphs.{HasEdge, Reaches, Here, Along}
 use Rattle.dj_loader.specs.Loads.{above_names, StandsUnder, LacksAbove, StandsBelow, IsOwnAncestor}
 use Rattle.dj_loader.specs.Numbered.{above_numbers, edges_in, IsOnCycle, IsLacking}

@@ -3,17 +3,17 @@ use Rattle.std.specs.Prelude.{◌≡◌, ℕ, true, false, List, [], map, replic
 use Rattle.std.specs.Option.{option_map}
 use Rattle.dj_pool.specs.trusted.Pool.{Constant}
 use Rattle.dj_class.specs.trusted.ClassFile.{MemberInfo, ClassFile}
-use Rattle.dj_rules.specs.trusted.Violations.{this_name}
+use Rattle.dj_file_rules.specs.trusted.Violations.{this_name}
 use Rattle.dj_model.specs.trusted.Program as programs
 use Rattle.dj_model.specs.trusted.Program.{Program}
-use Rattle.dj_declared.specs.trusted.Files.{is_bodiless}
-use Rattle.dj_classes.specs.Tables.{class_number, methods_at, fields_at}
+use Rattle.dj_declarations.specs.trusted.Files.{is_bodiless}
+use Rattle.dj_class_table.specs.Tables.{class_number, methods_at, fields_at}
 use Rattle.dj_program.specs.declared.code.MethodCode.{MethodCode}
 use Rattle.dj_program.specs.trusted.Codes.{IsMethodCode}
 use Rattle.dj_program.specs.trusted.Naming.{constant_in}
 use Rattle.dj_program.specs.trusted.Programs.{AreSideBySide}
 use Rattle.dj_program.specs.Views.{parts_of}
-use Rattle.dj_shape.specs.Pools.{ArePoolKinds}
+use Rattle.dj_shape_rule.specs.Pools.{ArePoolKinds}
 use Rattle.dj_image.specs.declared.parts.ClassParts.{ClassParts}
 use Rattle.dj_image.specs.declared.parts.FieldValue.{FieldValue}
 use Rattle.dj_image.specs.Parts.{constant_of_value}

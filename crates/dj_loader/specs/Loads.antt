@@ -9,12 +9,12 @@ use Rattle.dj_model.specs.trusted.Types.{string_name}
 use Rattle.dj_model.specs.trusted.Program.{Class, Method, Field, class_at}
 use Rattle.dj_model.specs.trusted.Linking.{option_list}
 use Rattle.dj_model.specs.trusted.Libraries.{library_class, is_name_before}
-use Rattle.dj_declared.specs.trusted.Files.{declared_class}
-use Rattle.dj_classes.specs.Tables.{IsShared, IsLeastShared}
-use Rattle.dj_classes.specs.declared.error.TableError.{TableError}
-use Rattle.dj_classes.specs.declared.error.TableError.TheVariants as table_errors
-use Rattle.dj_linking.specs.declared.linker.BaseNames.{BaseNames}
-use Rattle.dj_linking.specs.Linked.{prefix_of}
+use Rattle.dj_declarations.specs.trusted.Files.{declared_class}
+use Rattle.dj_class_table.specs.Tables.{IsShared, IsLeastShared}
+use Rattle.dj_class_table.specs.declared.error.TableError.{TableError}
+use Rattle.dj_class_table.specs.declared.error.TableError.TheVariants as table_errors
+use Rattle.dj_resolution.specs.declared.linker.BaseNames.{BaseNames}
+use Rattle.dj_resolution.specs.Linked.{prefix_of}
 use Rattle.dj_loader.specs.declared.error.LoadError.{LoadError}
 use Rattle.dj_loader.specs.declared.error.LoadError.TheVariants as errors
 

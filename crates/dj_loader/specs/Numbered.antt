@@ -2,7 +2,7 @@
 use Rattle.std.specs.Prelude.{◌≡◌, ◌<◌, ℕ, ⊤, Bool, true, false, List, map, nat_eq, Option, Some, None, slice_get}
 use Rattle.std.specs.List.{list_any}
 use Rattle.dj_model.specs.trusted.Program.{Program, Class}
-use Rattle.dj_classes.specs.Tables.{class_numbers, lacks_above}
+use Rattle.dj_class_table.specs.Tables.{class_numbers, lacks_above}
 use Rattle.dj_graph.specs.Graphs.{Edges, HasEdge, Reaches}
 use Rattle.dj_loader.specs.declared.error.LoadError.{LoadError}
 use Rattle.dj_loader.specs.declared.error.LoadError.TheVariants as errors

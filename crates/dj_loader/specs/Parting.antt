@@ -4,7 +4,7 @@ use Rattle.dj_names.specs.trusted.Library.{Library, LibraryClass}
 use Rattle.dj_class.specs.trusted.ClassFile.{ClassFile}
 use Rattle.dj_model.specs.trusted.Program.{Program}
 use Rattle.dj_model.specs.trusted.Libraries.{library_class, joined}
-use Rattle.dj_declared.specs.trusted.Files.{declared_class}
+use Rattle.dj_declarations.specs.trusted.Files.{declared_class}
 use Rattle.dj_program.specs.trusted.Programs.{IsClassIn}
 use Rattle.dj_image.specs.declared.parts.ClassParts.{ClassParts}
 use Rattle.dj_image.specs.Sources.{class_of_source}

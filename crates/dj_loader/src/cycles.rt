@@ -2,13 +2,13 @@ ghost use Rattle.std.specs.Prelude.{◌≡◌, ◌<◌, ◌^◌, ◌++◌, lengt
 ghost use Rattle.std.specs.List.{list_any};
 ghost use Rattle.dj_graph.specs.Graphs.{AreComponents, edges_of};
 ghost use Rattle.dj_model.specs.trusted.Linking.{option_list};
-ghost use Rattle.dj_classes.specs.Tables.{interface_numbers, super_number};
-ghost use Rattle.dj_classes.specs.ClassRows.{RiseStrictly};
+ghost use Rattle.dj_class_table.specs.Tables.{interface_numbers, super_number};
+ghost use Rattle.dj_class_table.specs.ClassRows.{RiseStrictly};
 ghost use Rattle.dj_loader.specs.Loads.{IsOwnAncestor, Never};
 ghost use Rattle.dj_loader.specs.Numbered.{edges_in, has_number, IsFirst, IsMemory, IsOnCycle, LeadsBack, NeverSo, RefusesCycles};
 
 use crate::error::LoadError;
-use dj_classes::ClassTable;
+use dj_class_table::ClassTable;
 use dj_graph::components;
 use dj_names::Name;
 use std::alloc::Global;

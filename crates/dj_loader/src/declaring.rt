@@ -2,18 +2,18 @@ ghost use Rattle.std.specs.Prelude.{◌≡◌, ◌++◌, ◌<◌, ◌^◌, [], l
 ghost use Rattle.dj_names.specs.trusted.Descriptors.{IsDesc};
 ghost use Rattle.dj_class.specs.trusted.ClassFile.{IsValid};
 ghost use Rattle.dj_class.specs.Views.{class_of};
-ghost use Rattle.dj_natives.specs.Views.{library_class_view, library_view};
+ghost use Rattle.dj_library_types.specs.Views.{library_class_view, library_view};
 ghost use Rattle.dj_model.specs.trusted.Libraries.{library_class, joined};
-ghost use Rattle.dj_declared.specs.trusted.Files.{declared_class};
-ghost use Rattle.dj_classes.specs.Tables.{IsShared};
+ghost use Rattle.dj_declarations.specs.trusted.Files.{declared_class};
+ghost use Rattle.dj_class_table.specs.Tables.{IsShared};
 ghost use Rattle.dj_loader.specs.Loads.{all_classes, Never, RefusesLoad};
 ghost use Rattle.dj_loader.specs.Numbered.{IsMemory};
 
 use crate::error::LoadError;
 use dj_class::ClassView;
-use dj_classes::{ClassTable, TableError};
-use dj_declared::{DeclaredClass, declare_file, declare_library_class};
-use dj_natives::{LibClass, Library};
+use dj_class_table::{ClassTable, TableError};
+use dj_declarations::{DeclaredClass, declare_file, declare_library_class};
+use dj_library_types::{LibClass, Library};
 use std::alloc::Global;
 
 // The classes of the files.

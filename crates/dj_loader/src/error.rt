@@ -1,11 +1,11 @@
 ghost use Rattle.std.specs.Prelude.{◌≡◌};
 
-use dj_classes::TableError;
-use dj_declared::DeclareError;
+use dj_class_table::TableError;
+use dj_declarations::DeclareError;
 use dj_graph::GraphError;
 use dj_image::ImageError;
 use dj_names::Name;
-use dj_shape::ShapeError;
+use dj_shape_rule::ShapeError;
 use std::alloc::{AllocError, AllocFailed};
 use thiserror::Error;
 

@@ -4,19 +4,19 @@ ghost use Rattle.std.specs.List.{AllByRecursion};
 ghost use Rattle.dj_class.specs.trusted.ClassFile.{IsAttribute, IsMethod, IsValid};
 ghost use Rattle.dj_class.specs.Members.{member_of};
 ghost use Rattle.dj_class.specs.Views.{class_of};
-ghost use Rattle.dj_check.specs.trusted.Malformed.{IsFaultyMethod, HasFaultyMethod};
+ghost use Rattle.dj_early_rules.specs.trusted.Malformed.{IsFaultyMethod, HasFaultyMethod};
 ghost use Rattle.dj_program.specs.trusted.Programs.{AreSideBySide};
 ghost use Rattle.dj_loader.specs.Filed.{desc_index, AreFileParts, IsCodeFor};
 ghost use Rattle.dj_loader.specs.Numbered.{IsMemory};
 
 use crate::error::LoadError;
 use crate::values::values_of;
-use dj_check::code_of_method;
 use dj_class::{ClassView, MemberView};
+use dj_early_rules::code_of_method;
 use dj_image::{ClassParts, own_pool};
 use dj_pool::Pool;
 use dj_program::{MethodCode, method_code};
-use dj_shape::pool_kinds;
+use dj_shape_rule::pool_kinds;
 use std::alloc::Global;
 
 // The code of a method that isn't faulty, where it has some.
@@ -31,9 +31,9 @@ fn code_of(
     ensures memory { IfErr result IsMemory }
 {
     match code_of_method(alloc, pool, method)? {
-        dj_check::MethodBody::Faulty => unreachable!(),
-        dj_check::MethodBody::Bodiless => Ok(None),
-        dj_check::MethodBody::Whole(code) => Ok(Some(method_code(code))),
+        dj_early_rules::MethodBody::Faulty => unreachable!(),
+        dj_early_rules::MethodBody::Bodiless => Ok(None),
+        dj_early_rules::MethodBody::Whole(code) => Ok(Some(method_code(code))),
     }
 }
 

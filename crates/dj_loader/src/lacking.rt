@@ -1,10 +1,10 @@
 ghost use Rattle.std.specs.Prelude.{◌≡◌, ◌<◌, length, IfOk, IfErr, IfSome, MatchOption};
-ghost use Rattle.dj_classes.specs.ClassRows.{RiseStrictly};
+ghost use Rattle.dj_class_table.specs.ClassRows.{RiseStrictly};
 ghost use Rattle.dj_loader.specs.Loads.{LacksAbove, Never};
 ghost use Rattle.dj_loader.specs.Numbered.{IsFirst, IsLacking, NeverSo, RefusesLacking};
 
 use crate::error::LoadError;
-use dj_classes::ClassTable;
+use dj_class_table::ClassTable;
 use dj_names::Name;
 use std::alloc::Global;
 

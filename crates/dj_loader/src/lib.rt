@@ -12,6 +12,6 @@ mod parts;
 mod values;
 
 pub use cycles::refuse_cycles;
-pub use dj_image::{BaseNames, Image};
+pub use dj_image::{BaseNames, Body, FieldId, Image, MemberOf, MethodCode, MethodId, Operand};
 pub use error::LoadError;
 pub use loading::load;

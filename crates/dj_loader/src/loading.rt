@@ -3,10 +3,10 @@ ghost use Rattle.dj_names.specs.trusted.Descriptors.{IsDesc};
 ghost use Rattle.dj_names.specs.trusted.Library.{LibraryClass};
 ghost use Rattle.dj_class.specs.trusted.ClassFile.{IsValid};
 ghost use Rattle.dj_class.specs.Views.{class_of};
-ghost use Rattle.dj_natives.specs.Views.{library_view};
+ghost use Rattle.dj_library_types.specs.Views.{library_view};
 ghost use Rattle.dj_model.specs.trusted.Libraries.{joined};
-ghost use Rattle.dj_check.specs.trusted.Malformed.{HasFaultyMethod};
-ghost use Rattle.dj_linking.specs.Linked.{prefix_of};
+ghost use Rattle.dj_early_rules.specs.trusted.Malformed.{HasFaultyMethod};
+ghost use Rattle.dj_resolution.specs.Linked.{prefix_of};
 ghost use Rattle.dj_program.specs.trusted.Programs.{IsProgramIn};
 ghost use Rattle.dj_image.specs.Imaged.{program_of, IsNumbered};
 ghost use Rattle.dj_image.specs.Parts.{HasString};
@@ -20,9 +20,9 @@ use crate::error::LoadError;
 use crate::lacking::refuse_lacking;
 use crate::parts::parts_of;
 use dj_class::ClassView;
-use dj_classes::ClassTable;
+use dj_class_table::ClassTable;
 use dj_image::{BaseNames, Image, Linker, image_of};
-use dj_natives::Library;
+use dj_library_types::Library;
 use std::alloc::Global;
 
 // The classes in the order of their names, where they can be loaded.

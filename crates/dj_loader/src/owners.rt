@@ -6,9 +6,9 @@ ghost use Rattle.dj_loader.specs.Filed.{AreOwners};
 ghost use Rattle.dj_loader.specs.Numbered.{IsMemory};
 
 use crate::error::LoadError;
-use dj_check::class_name;
 use dj_class::ClassView;
-use dj_classes::ClassTable;
+use dj_class_table::ClassTable;
+use dj_early_rules::class_name;
 use std::alloc::Global;
 
 /// This many places, with nothing there.

@@ -2,9 +2,9 @@
 ghost use Rattle.std.specs.Prelude.{◌≡◌, ◌<◌, length, map, All, IfOk, IfErr, IfSome};
 ghost use Rattle.dj_class.specs.trusted.ClassFile.{IsValid};
 ghost use Rattle.dj_class.specs.Views.{class_of};
-ghost use Rattle.dj_check.specs.trusted.Malformed.{HasFaultyMethod};
+ghost use Rattle.dj_early_rules.specs.trusted.Malformed.{HasFaultyMethod};
 ghost use Rattle.dj_names.specs.trusted.Library.{Library};
-ghost use Rattle.dj_classes.specs.Tables.{methods_at, fields_at};
+ghost use Rattle.dj_class_table.specs.Tables.{methods_at, fields_at};
 ghost use Rattle.dj_loader.specs.Filed.{AreBareParts, AreFirstParts, ArePartsFor};
 ghost use Rattle.dj_loader.specs.Numbered.{IsMemory};
 ghost use Rattle.dj_loader.specs.Parting.{ArePartsOf, IsTableOf};
@@ -13,10 +13,10 @@ use crate::error::LoadError;
 use crate::file_parts::file_parts;
 use crate::owners::{nones, owners_of};
 use dj_class::ClassView;
-use dj_classes::ClassTable;
+use dj_class_table::ClassTable;
 use dj_image::{ClassParts, OwnedPool};
 use dj_pool::Pool;
-use dj_shape::pool_kinds;
+use dj_shape_rule::pool_kinds;
 use std::alloc::Global;
 
 // The parts of a class that no file defines.

@@ -4,7 +4,7 @@ ghost use Rattle.dj_pool.specs.trusted.Pool.{Constant};
 ghost use Rattle.dj_pool.specs.Views.{constant_of};
 ghost use Rattle.dj_class.specs.Parts.{attribute_of};
 ghost use Rattle.dj_class.specs.Members.{member_of};
-ghost use Rattle.dj_check.specs.trusted.Attributes.{is_named, values_of};
+ghost use Rattle.dj_early_rules.specs.trusted.Attributes.{is_named, values_of};
 ghost use Rattle.dj_program.specs.trusted.Naming.{constant_by, constant_in, constant_of_body, value_index};
 ghost use Rattle.dj_image.specs.Parts.{constant_of_value};
 ghost use Rattle.dj_loader.specs.Filed.{reported_value};

@@ -14,15 +14,15 @@ use Rattle.dj_class.specs.trusted.ClassFile.{ClassFile, IsClassFile}
 use Rattle.dj_model.specs.trusted.Program.{is_static}
 use Rattle.dj_model.specs.trusted.Kinds.{signature_of}
 use Rattle.dj_model.specs.trusted.Linking.{FoundMethod}
-use Rattle.dj_check.specs.trusted.Malformed.{IsFaulty, IsRefused}
-use Rattle.dj_check.proofs.FileLaws.{refused_not_good}
-use Rattle.dj_declared.proofs.DescTests.{desc_in_is}
-use Rattle.dj_classes.specs.Tables.{name_of}
-use Rattle.dj_types.specs.declared.types.MemberOf.{MemberOf}
-use Rattle.dj_types.specs.Typed.{texts_of}
-use Rattle.dj_types.specs.Members.{IsMethodThere}
+use Rattle.dj_early_rules.specs.trusted.Malformed.{IsFaulty, IsRefused}
+use Rattle.dj_early_rules.proofs.FileLaws.{refused_not_good}
+use Rattle.dj_declarations.proofs.DescTests.{desc_in_is}
+use Rattle.dj_class_table.specs.Tables.{name_of}
+use Rattle.dj_numbering.specs.declared.types.MemberOf.{MemberOf}
+use Rattle.dj_numbering.specs.Typed.{texts_of}
+use Rattle.dj_numbering.specs.Members.{IsMethodThere}
 use Rattle.dj_image.specs.Imaged.{Imaged, program_of, typed_of}
-use Rattle.dj_image_rules.specs.Rules.{HasKinds, IsSpelled}
+use Rattle.dj_shape.specs.Rules.{HasKinds, IsSpelled}
 
 prefix_get : {A : Type 0} (xs ys : List A) (k : ℕ) (x : A) → slice_get xs k ≡ Some x → slice_get (xs ++ ys) k ≡ Some x
 prefix_get [] ys k x e = absurd cc

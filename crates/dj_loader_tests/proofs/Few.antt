@@ -4,14 +4,14 @@ use Rattle.std.specs.List.{flat_map, AllByRecursion}
 use Rattle.std.proofs.lemmas.List.{length-map, length-append}
 use Rattle.std.proofs.lemmas.Grind.{flat_map-append}
 use Rattle.dj_names.specs.trusted.Library.{Library}
-use Rattle.dj_natives.specs.declared.library.LibClass.{LibClass}
-use Rattle.dj_natives.specs.Views.{library_view}
+use Rattle.dj_library_types.specs.declared.library.LibClass.{LibClass}
+use Rattle.dj_library_types.specs.Views.{library_view}
 use Rattle.dj_class.specs.trusted.ClassFile.{ClassFile, IsValid}
 use Rattle.dj_class.specs.declared.class.ClassView.{ClassView}
 use Rattle.dj_class.specs.Views.{class_of}
 use Rattle.dj_model.specs.trusted.Program.{Class}
 use Rattle.dj_model.specs.trusted.Libraries.{library_class}
-use Rattle.dj_declared.specs.trusted.Files.{declared_class, declared_method, declared_field}
+use Rattle.dj_declarations.specs.trusted.Files.{declared_class, declared_method, declared_field}
 use Rattle.dj_loader.specs.Loads.{all_classes, methods_of, fields_of, AreFewMembers}
 use Rattle.dj_loader_tests.specs.Sets.{IsSmallLibrary}
 

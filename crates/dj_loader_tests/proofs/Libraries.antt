@@ -3,8 +3,8 @@ use Rattle.std.proofs.Common.{◌≡◌, ◌<◌, List, map, length, sym, subst,
 use Rattle.std.specs.List.{flat_map}
 use Rattle.std.proofs.lemmas.List.{length-map}
 use Rattle.dj_names.specs.trusted.Library.{Library, deterministic_library, raw_library}
-use Rattle.dj_natives.specs.declared.library.LibClass.{LibClass}
-use Rattle.dj_natives.specs.Views.{library_class_view, library_view}
+use Rattle.dj_library_types.specs.declared.library.LibClass.{LibClass}
+use Rattle.dj_library_types.specs.Views.{library_class_view, library_view}
 use Rattle.dj_model.specs.trusted.Libraries.{library_class}
 use Rattle.dj_loader.specs.Loads.{methods_of, fields_of}
 use Rattle.dj_loader.proofs.LibraryFacts.{deterministic_described, raw_described, deterministic_string, raw_string}

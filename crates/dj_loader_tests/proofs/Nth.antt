@@ -7,10 +7,10 @@ use Rattle.std.proofs.lemmas.Bool.Decides.{nat_tests}
 use Rattle.std.proofs.lemmas.List.{length-map, length-append}
 use Rattle.std.proofs.lemmas.Option.{none-some, same_Some}
 use Rattle.dj_model.specs.trusted.Program.{Program, Class, Method, Field, fields_of}
-use Rattle.dj_classes.specs.Tables.{methods_of, methods_at, fields_at}
-use Rattle.dj_types.specs.declared.types.MethodId.{MethodId}
-use Rattle.dj_types.specs.declared.types.FieldId.{FieldId}
-use Rattle.dj_types.specs.Members.{methods_in, fields_in, all_methods, all_fields, methods_before, fields_before, number_of_method, number_of_field}
+use Rattle.dj_class_table.specs.Tables.{methods_of, methods_at, fields_at}
+use Rattle.dj_numbering.specs.declared.types.MethodId.{MethodId}
+use Rattle.dj_numbering.specs.declared.types.FieldId.{FieldId}
+use Rattle.dj_numbering.specs.Members.{methods_in, fields_in, all_methods, all_fields, methods_before, fields_before, number_of_method, number_of_field}
 
 module _ {A : Type 0} (items : Class → List A) where
   longer : (c : Class) (program : Program) → length (flat_map items (c ∷ program)) ≡ length (items c) + length (flat_map items program)

@@ -6,10 +6,10 @@ use Rattle.dj_model.specs.trusted.Program as programs
 use Rattle.dj_model.specs.trusted.Instructions.{Named, Nothing, AnInt, ALong, AText, AClass, AField, AMethod, AnInterfaceMethod, Another, Instruction, NewArray}
 use Rattle.dj_model.specs.trusted.Opcodes.{instruction_of}
 use Rattle.dj_model.specs.trusted.Linking.{resolve_method, resolve_field}
-use Rattle.dj_check.specs.trusted.Instructions.{index_of}
+use Rattle.dj_early_rules.specs.trusted.Instructions.{index_of}
 use Rattle.dj_program.specs.trusted.Naming.{named_if}
-use Rattle.dj_types.specs.Typed.{type_number}
-use Rattle.dj_types.specs.Members.{all_methods, all_fields}
+use Rattle.dj_numbering.specs.Typed.{type_number}
+use Rattle.dj_numbering.specs.Members.{all_methods, all_fields}
 use Rattle.dj_image.specs.declared.operand.Operand.{Operand}
 use Rattle.dj_image.specs.declared.operand.Operand.TheVariants as operands
 use Rattle.dj_image.specs.Imaged.{Imaged, program_of, typed_of}

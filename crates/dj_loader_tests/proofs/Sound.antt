@@ -3,12 +3,12 @@ use Rattle.std.proofs.Common.{◌≡◌, ◌<◌, List, [], ◌∷◌, ◌++◌,
 use Rattle.std.specs.List.{AllByRecursion}
 use Rattle.std.proofs.lemmas.List.{length-map}
 use Rattle.std.proofs.lemmas.List.Elements.{All-push, All-from_recursion, recursion_from_All}
-use Rattle.dj_natives.specs.declared.library.LibClass.{LibClass}
-use Rattle.dj_natives.specs.Views.{library_view}
+use Rattle.dj_library_types.specs.declared.library.LibClass.{LibClass}
+use Rattle.dj_library_types.specs.Views.{library_view}
 use Rattle.dj_class.specs.declared.class.ClassView.{ClassView}
 use Rattle.dj_class.specs.trusted.ClassFile.{IsValid}
 use Rattle.dj_class.specs.Views.{class_of}
-use Rattle.dj_check.specs.trusted.Malformed.{HasFaultyMethod}
+use Rattle.dj_early_rules.specs.trusted.Malformed.{HasFaultyMethod}
 use Rattle.dj_loader.specs.Loads.{all_classes, AreFewMembers}
 use Rattle.dj_loader_tests.specs.Sets.{IsSmallLibrary, IsSound}
 use Rattle.dj_loader_tests.proofs.Few.{few_members}

@@ -9,11 +9,11 @@ use Rattle.std.proofs.lemmas.List.{length-map}
 use Rattle.dj_names.specs.trusted.Types.{same_name}
 use Rattle.dj_model.specs.trusted.Program.{Program, is_named}
 use Rattle.dj_model.specs.trusted.Linking.{FoundMethod, FoundField}
-use Rattle.dj_declared.specs.Files.{bare_class}
-use Rattle.dj_linking.specs.Linked.{Linked}
-use Rattle.dj_types.specs.declared.types.MethodId.{MethodId}
-use Rattle.dj_types.specs.declared.types.FieldId.{FieldId}
-use Rattle.dj_types.specs.Members.{all_methods, all_fields, method_number, field_number, found_method_number, found_field_number, number_of_method, number_of_field}
+use Rattle.dj_declarations.specs.Files.{bare_class}
+use Rattle.dj_resolution.specs.Linked.{Linked}
+use Rattle.dj_numbering.specs.declared.types.MethodId.{MethodId}
+use Rattle.dj_numbering.specs.declared.types.FieldId.{FieldId}
+use Rattle.dj_numbering.specs.Members.{all_methods, all_fields, method_number, field_number, found_method_number, found_field_number, number_of_method, number_of_field}
 use Rattle.dj_image.specs.Operands.{units_number}
 
 -- ---- the first of a kind

@@ -2,14 +2,14 @@
 use Rattle.std.specs.Prelude.{◌<◌, List, map, length, All}
 use Rattle.std.specs.List.{flat_map}
 use Rattle.dj_names.specs.trusted.Descriptors.{IsDesc}
-use Rattle.dj_natives.specs.declared.library.LibClass.{LibClass}
-use Rattle.dj_natives.specs.Views.{library_view}
+use Rattle.dj_library_types.specs.declared.library.LibClass.{LibClass}
+use Rattle.dj_library_types.specs.Views.{library_view}
 use Rattle.dj_class.specs.declared.class.ClassView.{ClassView}
 use Rattle.dj_class.specs.trusted.ClassFile.{IsValid}
 use Rattle.dj_class.specs.Views.{class_of}
 use Rattle.dj_model.specs.trusted.Libraries.{library_class}
-use Rattle.dj_check.specs.trusted.Malformed.{HasFaultyMethod}
-use Rattle.dj_linking.specs.declared.linker.BaseNames.TheVariants as bases
+use Rattle.dj_early_rules.specs.trusted.Malformed.{HasFaultyMethod}
+use Rattle.dj_resolution.specs.declared.linker.BaseNames.TheVariants as bases
 use Rattle.dj_loader.specs.Loads.{methods_of, fields_of, HasStringIn}
 
 -- no method is faulty

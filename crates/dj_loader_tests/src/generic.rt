@@ -3,7 +3,7 @@ ghost use Rattle.std.specs.Prelude.{◌<◌, ◌≤◌, length};
 use crate::members::class_of;
 use crate::set::image;
 use dj_image::Image;
-use dj_natives::Classes;
+use dj_library_types::Classes;
 
 // Two classes or arrays.
 type Pair = (&'static str, &'static str);

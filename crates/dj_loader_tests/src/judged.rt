@@ -2,10 +2,10 @@ ghost use Rattle.std.specs.Prelude.{◌≡◌, ◌↔◌, ◌<◌, ◌^◌, ℕ,
 ghost use Rattle.dj_names.specs.trusted.ModifiedUtf8.{IsModifiedUtf8};
 ghost use Rattle.dj_class.specs.trusted.ClassFile.{IsValid};
 ghost use Rattle.dj_class.specs.Views.{class_of};
-ghost use Rattle.dj_check.specs.trusted.Malformed.{IsFaulty, IsRefused};
-ghost use Rattle.dj_types.specs.Typed.{texts_of};
+ghost use Rattle.dj_early_rules.specs.trusted.Malformed.{IsFaulty, IsRefused};
+ghost use Rattle.dj_numbering.specs.Typed.{texts_of};
 ghost use Rattle.dj_image.specs.Imaged.{typed_of};
-ghost use Rattle.dj_image_rules.specs.Rules.{HasKinds, IsSpelled};
+ghost use Rattle.dj_shape.specs.Rules.{HasKinds, IsSpelled};
 ghost use Rattle.dj_loader_tests.specs.Members.{HasMethod};
 
 use crate::answers::{reported_name, reported_number};
@@ -15,12 +15,13 @@ use crate::programs::{
     SECOND_LOCAL, UNLISTED,
 };
 use crate::set::{file_of, has_faulty_method, plain_image};
-use dj_check::has_faulty_field;
 use dj_class::{ClassView, read_class};
+use dj_early_rules::has_faulty_field;
 use dj_image::{Image, MethodId};
-use dj_image_rules::{links, shape};
+use dj_link::links;
 use dj_names::is_modified_utf8;
 use dj_report::{PathFile, Violation, Violations};
+use dj_shape::shape;
 use std::alloc::{AllocError, Global};
 
 // The text of a class, its name, and what is reported of its method verify, or of its file.

@@ -1,5 +1,5 @@
 ghost use Rattle.std.specs.Prelude.{◌<◌, length, IfSome, IsTrue};
-ghost use Rattle.dj_types.specs.Typed.{types_of};
+ghost use Rattle.dj_numbering.specs.Typed.{types_of};
 ghost use Rattle.dj_image.specs.Imaged.{program_of, typed_of};
 ghost use Rattle.dj_loader_tests.specs.Members.{HasMethod, HasField, HasOperand, HasCode};
 

@@ -2,17 +2,17 @@ ghost use Rattle.std.specs.Prelude.{◌≡◌, ◌↔◌, [], All, IsTrue, IfOk,
 ghost use Rattle.dj_class.specs.trusted.ClassFile.{IsMethod, IsValid};
 ghost use Rattle.dj_class.specs.Members.{member_of};
 ghost use Rattle.dj_class.specs.Views.{class_of};
-ghost use Rattle.dj_check.specs.trusted.Malformed.{IsFaultyMethod, HasFaultyMethod};
+ghost use Rattle.dj_early_rules.specs.trusted.Malformed.{IsFaultyMethod, HasFaultyMethod};
 ghost use Rattle.dj_loader_tests.specs.Sets.{IsSmallLibrary, IsSound};
 
 use crate::programs::{IMAGE, LONG_NAMED};
 use dj_asm::assemble;
-use dj_check::{MethodBody, code_of_method};
 use dj_class::{ClassView, MemberView, read_class};
+use dj_early_rules::{MethodBody, code_of_method};
 use dj_library::{deterministic, raw};
+use dj_library_types::Library;
 use dj_loader::{BaseNames, Image, LoadError, load};
 use dj_names::Bytes;
-use dj_natives::Library;
 use dj_pool::Pool;
 use std::alloc::{AllocError, Global};
 

@@ -2,8 +2,8 @@ ghost use Rattle.std.specs.Prelude.{◌≡◌, ◌≤◌, ◌<◌, ◌++◌, ◌
 ghost use Rattle.dj_names.specs.declared.run.Costs.{Costs};
 ghost use Rattle.dj_model.specs.Sound.{IsSound};
 ghost use Rattle.dj_model.specs.Standing.{AsksNothing, IsEntry};
-ghost use Rattle.dj_calls.specs.Counting.{AreLow};
-ghost use Rattle.dj_types.specs.Members.{all_methods};
+ghost use Rattle.dj_natives.specs.Counting.{AreLow};
+ghost use Rattle.dj_numbering.specs.Members.{all_methods};
 ghost use Rattle.dj_image.specs.Imaged.{program_of};
 ghost use Rattle.dj_step.specs.Running.{declared_at};
 ghost use Rattle.dj_host.specs.trusted.Hosted.{given_since};

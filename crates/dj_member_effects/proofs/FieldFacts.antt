@@ -15,8 +15,8 @@ use Rattle.dj_effects.specs.declared.way.Way.TheVariants as ways
 use Rattle.dj_effects.specs.declared.way.Flow.{Flow}
 use Rattle.dj_effects.specs.declared.way.Flow.TheVariants as goes
 use Rattle.dj_effects.specs.DoesOnHeap.{flow_view, reported_beside}
-use Rattle.dj_members.specs.Fields.{Holder, Null, NoHolder, Holds, HasFields, PutsField, fields_at, fields_in, holder_by, holder_reported, get_field_by, get_from, put_field_by, put_in}
-use Rattle.dj_members.proofs.HolderFacts.{held}
+use Rattle.dj_member_effects.specs.Fields.{Holder, Null, NoHolder, Holds, HasFields, PutsField, fields_at, fields_in, holder_by, holder_reported, get_field_by, get_from, put_field_by, put_in}
+use Rattle.dj_member_effects.proofs.HolderFacts.{held}
 
 -- ---- a field that is read
 

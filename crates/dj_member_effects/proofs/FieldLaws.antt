@@ -18,8 +18,8 @@ use Rattle.dj_model.specs.Arrays.{on_heap_map}
 use Rattle.dj_model.specs.trusted.Effects.{heap_effect}
 use Rattle.dj_model.specs.trusted.Members as model
 use Rattle.dj_model.proofs.MappedHeaps.{object_at_mapped, object_set}
-use Rattle.dj_natives.specs.Numbered.{type_at}
-use Rattle.dj_members.specs.Fields.{Holder, Null, NoHolder, Holds, holder_in, holder_by, get_from, get_field_by, put_in, put_field_by}
+use Rattle.dj_library_types.specs.Numbered.{type_at}
+use Rattle.dj_member_effects.specs.Fields.{Holder, Null, NoHolder, Holds, holder_in, holder_by, get_from, get_field_by, put_in, put_field_by}
 
 -- the part with this heap and these operands
 abbrev pub part_with : Part → Heap Ty → List Value → Part

@@ -15,8 +15,8 @@ use Rattle.dj_effects.specs.declared.way.Way.TheVariants as ways
 use Rattle.dj_effects.specs.declared.way.Flow.{Flow}
 use Rattle.dj_effects.specs.declared.way.Flow.TheVariants as goes
 use Rattle.dj_effects.proofs.ArrayFacts.{not_null}
-use Rattle.dj_members.specs.Numbering.{AreNumbered}
-use Rattle.dj_members.specs.Fields.{HasFields, Null, NoHolder, Holds, holder_in, holder_by, holder_reported}
+use Rattle.dj_member_effects.specs.Numbering.{AreNumbered}
+use Rattle.dj_member_effects.specs.Fields.{HasFields, Null, NoHolder, Holds, holder_in, holder_by, holder_reported}
 
 -- ---- classes in range
 

@@ -12,7 +12,7 @@ use Rattle.dj_names.specs.trusted.Heaps.{Heap, Text, next_number, text_size, wit
 use Rattle.dj_model.specs.trusted.State.{Next}
 use Rattle.dj_heap.specs.Heaps.{LimitedHeap, Makes, Refuses}
 use Rattle.dj_heap.specs.declared.errors.HeapError.TheVariants as errors
-use Rattle.dj_members.specs.Literals.{KeptBy, kept_by, kept_or_made_by, literal_flows, object_of, object_reported, push_text_by, pushed}
+use Rattle.dj_member_effects.specs.Literals.{KeptBy, kept_by, kept_or_made_by, literal_flows, object_of, object_reported, push_text_by, pushed}
 
 zeros : (n text : ℕ) → ◌≡◌ {A = ℕ} (get_or (replicate n 0) text 0) 0
 zeros zero text = refl

@@ -15,8 +15,8 @@ use Rattle.dj_model.specs.trusted.Arrays.{passes_limit}
 use Rattle.dj_model.specs.trusted.Members as members
 use Rattle.dj_model.specs.trusted.Members.{kept_or_made, literal_in, push_kept, with_literal}
 use Rattle.dj_model.proofs.MappedHeaps.{new_mapped, number_alike}
-use Rattle.dj_natives.specs.Numbered.{type_at}
-use Rattle.dj_members.specs.Literals.{AreTexts, Differ, KeptBy, kept_by, kept_map, kept_or_made_by, literal_flows, literals_effect, literals_map, object_of, push_text_by, pushed, text_at}
+use Rattle.dj_library_types.specs.Numbered.{type_at}
+use Rattle.dj_member_effects.specs.Literals.{AreTexts, Differ, KeptBy, kept_by, kept_map, kept_or_made_by, literal_flows, literals_effect, literals_map, object_of, push_text_by, pushed, text_at}
 
 pub literal_found : (texts : List (List ℕ)) (made : List (ℕ × ℕ)) (text : ℕ) → Differ texts → AreTexts (length texts) made → text < length texts
     → literal_in (literals_map texts made) (text_at texts text) ≡ object_of made text

@@ -17,17 +17,17 @@ use Rattle.dj_stack.specs.Frames.{StackFrame}
 use Rattle.dj_effects.specs.declared.way.Way.TheVariants as ways
 use Rattle.dj_effects.specs.declared.way.Flow.TheVariants as goes
 use Rattle.dj_effects.specs.DoesOnHeap.{DoesOnHeap}
-use Rattle.dj_members.specs.declared.objects.Thrown.TheVariants as thrown
-use Rattle.dj_members.specs.Numbering.{AreNumbered, has_of}
+use Rattle.dj_member_effects.specs.declared.objects.Thrown.TheVariants as thrown
+use Rattle.dj_member_effects.specs.Numbering.{AreNumbered, has_of}
 use Rattle.dj_model.specs.trusted.Linking.{chain_of}
 use Rattle.dj_names.specs.declared.descriptor.Base.TheVariants as bases
 use Rattle.dj_names.specs.declared.descriptor.Ty.{Ty}
 use Rattle.dj_names.specs.trusted.Types.{class_type, base_array}
-use Rattle.dj_members.specs.Fields.{get_field_by, put_field_by, holder_by, holder_reported}
-use Rattle.dj_members.specs.Objects.{HasObject, check_cast_by, instance_of_by, new_by, throw_by}
-use Rattle.dj_members.specs.Statics.{DoesOnStatics, leaves, get_static_by, put_static_by}
-use Rattle.dj_members.specs.declared.literals.Kept.TheVariants as keeps
-use Rattle.dj_members.specs.Literals.{AreTexts, IsFull, kept_by, object_of, object_reported, literals_map, push_text_by, literal_flows, OnLiterals, LiteralTable, DoesOnLiterals}
+use Rattle.dj_member_effects.specs.Fields.{get_field_by, put_field_by, holder_by, holder_reported}
+use Rattle.dj_member_effects.specs.Objects.{HasObject, check_cast_by, instance_of_by, new_by, throw_by}
+use Rattle.dj_member_effects.specs.Statics.{DoesOnStatics, leaves, get_static_by, put_static_by}
+use Rattle.dj_member_effects.specs.declared.literals.Kept.TheVariants as keeps
+use Rattle.dj_member_effects.specs.Literals.{AreTexts, IsFull, kept_by, object_of, object_reported, literals_map, push_text_by, literal_flows, OnLiterals, LiteralTable, DoesOnLiterals}
 
 -- the class 2 and those below it have the field, which are those of even numbers
 abbrev even : ℕ → Bool

@@ -5,8 +5,8 @@ use Rattle.dj_names.specs.declared.run.Value.TheVariants as values
 use Rattle.dj_names.specs.trusted.Heaps.{Heap}
 use Rattle.dj_model.specs.trusted.State.{Next}
 use Rattle.dj_model.specs.trusted.Arrays.{flows, with_value}
-use Rattle.dj_members.specs.declared.objects.Thrown.{Thrown}
-use Rattle.dj_members.specs.Objects.{cast_flows, check_cast_by, instance_of_by, instance_reported, is_instance_by, throw_by, thrown_by}
+use Rattle.dj_member_effects.specs.declared.objects.Thrown.{Thrown}
+use Rattle.dj_member_effects.specs.Objects.{cast_flows, check_cast_by, instance_of_by, instance_reported, is_instance_by, throw_by, thrown_by}
 
 pub casts : (is_below : ℕ → Bool) (heap : Heap ℕ) (operands rest after : List Value) (r : ℕ) → operands ≡ values.Ref r ∷ rest
     → true ≡ is_instance_by is_below heap r → after ≡ values.Ref r ∷ rest → check_cast_by is_below heap operands ≡ Some (cast_flows heap after true)

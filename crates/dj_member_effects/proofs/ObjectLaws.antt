@@ -20,12 +20,12 @@ use Rattle.dj_model.specs.trusted.Effects.{heap_effect, new_object}
 use Rattle.dj_model.specs.trusted.Performing.{class_in, is_instance}
 use Rattle.dj_model.specs.trusted.Members as model
 use Rattle.dj_model.proofs.MappedHeaps.{object_at_mapped, class_of_mapped, make_mapped}
-use Rattle.dj_natives.specs.Numbered.{type_at}
-use Rattle.dj_members.specs.declared.objects.Thrown.{Thrown}
-use Rattle.dj_members.specs.declared.objects.Thrown.TheVariants as thrown
-use Rattle.dj_members.specs.Objects.{HasObject, below_in, cast_flows, check_cast_by, instance_of_by, is_instance_by, new_by, throw_by, thrown_view}
-use Rattle.dj_members.specs.Statics.{get_static_by, put_static_by, statics_effect, leaves}
-use Rattle.dj_members.proofs.FieldLaws.{part_with, at_heap}
+use Rattle.dj_library_types.specs.Numbered.{type_at}
+use Rattle.dj_member_effects.specs.declared.objects.Thrown.{Thrown}
+use Rattle.dj_member_effects.specs.declared.objects.Thrown.TheVariants as thrown
+use Rattle.dj_member_effects.specs.Objects.{HasObject, below_in, cast_flows, check_cast_by, instance_of_by, is_instance_by, new_by, throw_by, thrown_view}
+use Rattle.dj_member_effects.specs.Statics.{get_static_by, put_static_by, statics_effect, leaves}
+use Rattle.dj_member_effects.proofs.FieldLaws.{part_with, at_heap}
 
 -- ---- new objects
 

@@ -5,7 +5,7 @@ use Rattle.std.proofs.lemmas.Option.{get_or_from_slice_get}
 use Rattle.std.proofs.lemmas.List.{set-get_or}
 use Rattle.dj_names.specs.trusted.Heaps.{Object, Instance, Heap, object_at}
 use Rattle.dj_heap.specs.Heaps.{LimitedHeap, Replaces, with_field}
-use Rattle.dj_members.specs.Fields.{HasFields, PutsField}
+use Rattle.dj_member_effects.specs.Fields.{HasFields, PutsField}
 
 pub puts_bits : (old new : LimitedHeap) (r at bits : ℕ) → Replaces old new r (λ object. with_field object at bits) → PutsField old new r at bits
 puts_bits old new r at bits put class fields there = put (Instance class fields) there

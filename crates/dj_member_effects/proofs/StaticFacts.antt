@@ -4,7 +4,7 @@ use Rattle.dj_names.specs.declared.descriptor.Kind.{Kind}
 use Rattle.dj_names.specs.declared.run.Value.{Value}
 use Rattle.dj_names.specs.trusted.Heaps.{field_bits}
 use Rattle.dj_model.specs.trusted.Numbers.{is_of_kind}
-use Rattle.dj_members.specs.Statics.{leaves, put_static_by}
+use Rattle.dj_member_effects.specs.Statics.{leaves, put_static_by}
 
 pub puts_none : (kind : Kind) (place : ℕ) (statics : List ℕ) (operands : List Value) → operands ≡ [] → put_static_by kind place statics operands ≡ None
 unfolding put_static_by

@@ -12,12 +12,12 @@ use Rattle.dj_model.specs.trusted.State as model
 use Rattle.dj_model.specs.trusted.Members as members
 use Rattle.dj_model.specs.trusted.State.{Literal, Next, Part, Effect}
 use Rattle.dj_model.specs.trusted.Effects.{flow_of}
-use Rattle.dj_natives.specs.Numbered.{type_at}
+use Rattle.dj_library_types.specs.Numbered.{type_at}
 use Rattle.dj_model.specs.trusted.Arrays.{passes_limit}
 use Rattle.dj_heap.specs.Heaps.{LimitedHeap}
 use Rattle.dj_stack.specs.Frames.{StackFrame, SameButOperands, top_operands}
-use Rattle.dj_members.specs.declared.literals.Kept as kept
-use Rattle.dj_members.specs.declared.literals.Kept.TheVariants as variants
+use Rattle.dj_member_effects.specs.declared.literals.Kept as kept
+use Rattle.dj_member_effects.specs.declared.literals.Kept.TheVariants as variants
 use Rattle.dj_effects.specs.declared.way.Flow.{Flow}
 use Rattle.dj_effects.specs.DoesOnHeap.{flow_view, reported_beside}
 

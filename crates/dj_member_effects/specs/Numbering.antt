@@ -9,7 +9,7 @@ use Rattle.dj_names.specs.trusted.Heaps.{Heap, class_of}
 use Rattle.dj_model.specs.trusted.Types.{Prefix}
 use Rattle.dj_model.specs.trusted.Program.{Program}
 use Rattle.dj_model.specs.trusted.Linking.{is_subtype, is_among, chain_of}
-use Rattle.dj_natives.specs.Numbered.{type_at}
+use Rattle.dj_library_types.specs.Numbered.{type_at}
 
 -- each object's class has one of this many numbers
 abbrev pub AreNumbered : ℕ → Heap ℕ → Type 0

@@ -9,8 +9,8 @@ use Rattle.dj_model.specs.trusted.State as model
 use Rattle.dj_model.specs.trusted.State.{Next, Raise, Goes, Catch, End}
 use Rattle.dj_model.specs.trusted.Arrays.{OnHeap, flows, make, with_value}
 use Rattle.dj_model.specs.trusted.Members.{instance_number}
-use Rattle.dj_members.specs.declared.objects.Thrown.{Thrown}
-use Rattle.dj_members.specs.declared.objects.Thrown.TheVariants as thrown
+use Rattle.dj_member_effects.specs.declared.objects.Thrown.{Thrown}
+use Rattle.dj_member_effects.specs.declared.objects.Thrown.TheVariants as thrown
 
 -- an instance with this many fields, each 0
 abbrev pub new_by : Option ℕ → ℕ → ℕ → Heap ℕ → List Value → Option (OnHeap ℕ)

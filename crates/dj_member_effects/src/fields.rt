@@ -1,8 +1,8 @@
 ghost use Rattle.std.specs.Prelude.{◌≡◌, ◌≤◌, length, slice_index};
 ghost use Rattle.dj_stack.specs.Frames.{top_operands, top_room};
 ghost use Rattle.dj_effects.specs.DoesOnHeap.{DoesOnHeap};
-ghost use Rattle.dj_members.specs.Numbering.{AreNumbered};
-ghost use Rattle.dj_members.specs.Fields.{HasFields, fields_at, get_field_by, put_field_by, PutsField};
+ghost use Rattle.dj_member_effects.specs.Numbering.{AreNumbered};
+ghost use Rattle.dj_member_effects.specs.Fields.{HasFields, fields_at, get_field_by, put_field_by, PutsField};
 
 use crate::holders::{Holders, holder};
 use crate::values::{field_bits, field_value};

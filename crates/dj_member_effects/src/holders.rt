@@ -1,6 +1,6 @@
 ghost use Rattle.std.specs.Prelude.{◌≡◌, ◌<◌, ℕ, Bool, IfOk};
-ghost use Rattle.dj_members.specs.Numbering.{AreNumbered};
-ghost use Rattle.dj_members.specs.Fields.{HasFields, holder_by, holder_reported};
+ghost use Rattle.dj_member_effects.specs.Numbering.{AreNumbered};
+ghost use Rattle.dj_member_effects.specs.Fields.{HasFields, holder_by, holder_reported};
 
 use dj_effects::{Flow, Way};
 use dj_heap::{Heap, Made};

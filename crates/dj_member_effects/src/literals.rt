@@ -1,6 +1,6 @@
 ghost use Rattle.std.specs.Prelude.{◌≡◌, ◌<◌, ◌++◌, ◌∷◌, [], ℕ, Some, None, length, slice_index, IfOk, OnOk, OnErr};
 ghost use Rattle.dj_stack.specs.Frames.{top_operands, top_room};
-ghost use Rattle.dj_members.specs.Literals.{DoesOnLiterals, Keeps, object_of, object_reported, push_text_by};
+ghost use Rattle.dj_member_effects.specs.Literals.{DoesOnLiterals, Keeps, object_of, object_reported, push_text_by};
 
 use dj_effects::{Flow, Way};
 use dj_heap::{Heap, HeapError};
@@ -30,7 +30,7 @@ pub enum Kept {
 
 impl Model for Literals {
     ghost use Rattle.std.specs.Prelude.{length};
-    ghost use Rattle.dj_members.specs.Literals.{LiteralTable};
+    ghost use Rattle.dj_member_effects.specs.Literals.{LiteralTable};
 
     ghost Value = { LiteralTable };
 

@@ -2,13 +2,13 @@ ghost use Rattle.std.specs.Prelude.{◌≡◌, ◌<◌, ◌≤◌, Some, length,
 ghost use Rattle.dj_names.specs.declared.run.Value.TheVariants as values;
 ghost use Rattle.dj_stack.specs.Frames.{SameButOperands, top_operands, top_room};
 ghost use Rattle.dj_effects.specs.DoesOnHeap.{DoesOnHeap, FitsOnHeap};
-ghost use Rattle.dj_members.specs.Numbering.{AreNumbered, below_of};
-ghost use Rattle.dj_members.specs.Objects.{check_cast_by, instance_of_by, instance_reported, is_instance_by, new_by, throw_by, thrown_by};
+ghost use Rattle.dj_member_effects.specs.Numbering.{AreNumbered, below_of};
+ghost use Rattle.dj_member_effects.specs.Objects.{check_cast_by, instance_of_by, instance_reported, is_instance_by, new_by, throw_by, thrown_by};
 
 use dj_effects::{Flow, Way, pop};
 use dj_heap::{Heap, HeapError};
+use dj_library_types::Classes;
 use dj_names::{Raised, Value};
-use dj_natives::Classes;
 use dj_stack::Frames;
 use std::alloc::AllocError;
 

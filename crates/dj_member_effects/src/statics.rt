@@ -1,6 +1,6 @@
 ghost use Rattle.std.specs.Prelude.{◌≡◌, ◌<◌, ◌^◌, length, replicate, set, IfOk};
 ghost use Rattle.dj_stack.specs.Frames.{top_operands, top_room};
-ghost use Rattle.dj_members.specs.Statics.{DoesOnStatics, get_static_by, put_static_by};
+ghost use Rattle.dj_member_effects.specs.Statics.{DoesOnStatics, get_static_by, put_static_by};
 
 use crate::values::{field_bits, field_value};
 use dj_effects::{Way, is_of_kind, pop};

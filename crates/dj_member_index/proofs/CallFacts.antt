@@ -8,17 +8,17 @@ use Rattle.std.proofs.lemmas.Option.{none-some, same_Some}
 use Rattle.dj_model.specs.trusted.Types.{no_parameters}
 use Rattle.dj_model.specs.trusted.Program.{Program, Method}
 use Rattle.dj_model.specs.trusted.Linking.{is_plain, is_not_static}
-use Rattle.dj_declared.specs.Members.{method_place}
-use Rattle.dj_classes.specs.Tables.{methods_at, super_number}
-use Rattle.dj_directory.specs.declared.rows.MemberRow.{MemberRow}
-use Rattle.dj_directory.specs.declared.calls.CallTable.{CallTable}
-use Rattle.dj_directory.specs.declared.calls.Marked.{Marked}
-use Rattle.dj_directory.specs.Numberings.{ClassesDiffer}
-use Rattle.dj_directory.specs.DirectoryRows.{AreInOrder, AreFirst, Fits, IsLeast, IsSuch, StandFrom, Texts, key_of}
-use Rattle.dj_directory.specs.Spans.{StartsFrom}
-use Rattle.dj_directory.specs.Calls.{takes, tests, passes, IsWhether, IsFirstOf, DeclareFirst, DeclareLike, DeclaresLike, IsNearestFirst, IsNearestLike, place_key, AreMarked, AreMethods, IsTakable, AreTakable, IsFirstLike, IsPlaced, ArePlaces, AreFirsts, IsRowAt, IsCallTable}
-use Rattle.dj_directory.proofs.NumberLaws.{none_different}
-use Rattle.dj_directory.proofs.SpanFacts.{entered, left, method, program, row, rows}
+use Rattle.dj_declarations.specs.Members.{method_place}
+use Rattle.dj_class_table.specs.Tables.{methods_at, super_number}
+use Rattle.dj_member_index.specs.declared.rows.MemberRow.{MemberRow}
+use Rattle.dj_member_index.specs.declared.calls.CallTable.{CallTable}
+use Rattle.dj_member_index.specs.declared.calls.Marked.{Marked}
+use Rattle.dj_member_index.specs.Numberings.{ClassesDiffer}
+use Rattle.dj_member_index.specs.DirectoryRows.{AreInOrder, AreFirst, Fits, IsLeast, IsSuch, StandFrom, Texts, key_of}
+use Rattle.dj_member_index.specs.Spans.{StartsFrom}
+use Rattle.dj_member_index.specs.Calls.{takes, tests, passes, IsWhether, IsFirstOf, DeclareFirst, DeclareLike, DeclaresLike, IsNearestFirst, IsNearestLike, place_key, AreMarked, AreMethods, IsTakable, AreTakable, IsFirstLike, IsPlaced, ArePlaces, AreFirsts, IsRowAt, IsCallTable}
+use Rattle.dj_member_index.proofs.NumberLaws.{none_different}
+use Rattle.dj_member_index.proofs.SpanFacts.{entered, left, method, program, row, rows}
 
 -- ---- which methods a call may take
 

@@ -12,21 +12,21 @@ use Rattle.std.proofs.lemmas.Nat.Bits.{and_pow, bit_at-lt}
 use Rattle.std.proofs.lemmas.Option.{same_Some, none-some, slice_get-map}
 use Rattle.dj_names.specs.trusted.Types.{Name}
 use Rattle.dj_model.specs.trusted.Program.{Program, Method, is_private, is_static}
-use Rattle.dj_declared.specs.trusted.Files.{desc_in}
-use Rattle.dj_declared.specs.Members.{method_flags, method_place}
-use Rattle.dj_declared.proofs.DescTests.{desc_in_is, is_descriptor}
-use Rattle.dj_classes.specs.Tables.{methods_at}
-use Rattle.dj_directory.specs.declared.rows.MemberRow.{MemberRow}
-use Rattle.dj_directory.specs.DirectoryRows.{Named, method_named, methods_named, pair_of, row_at, number_in, key_of, Fits, AreInOrder, IsSuch, IsLeast, IsThere, IsLeastOrNone, IsRow, AreRowsWith}
-use Rattle.dj_directory.specs.Calls.{takes, tests, passes, IsWhether, IsFirstOf, DeclareFirst, DeclareLike, DeclaresLike, AreMethods, IsTakable, AreTakable, AreMarked, IsFirstLike, IsNearestFirst, IsNearestLike, IsPlaced, ArePlaces, AreFirsts, place_key, IsRowAt, IsCallTable}
-use Rattle.dj_directory.specs.declared.calls.Marked.{Marked}
-use Rattle.dj_directory.specs.Spans.{AreMarks, AreNear, AreNearest, AreSpans, IsNearestIn, IsWithin, StartsFrom, class_in, end_in, mark_of, start_in}
-use Rattle.dj_directory.specs.declared.spans.Spans.{Spans}
-use Rattle.dj_directory.specs.declared.marks.SpanMarks.{SpanMarks}
-use Rattle.dj_directory.specs.declared.calls.CallTable.{CallTable}
-use Rattle.dj_directory.proofs.NumberLaws.{number_is}
-use Rattle.dj_directory.proofs.RowLaws.{firsts, fit_all, seconds}
-use Rattle.dj_directory.proofs.PlaceLaws.{first_method, inside, method_there, row_in}
+use Rattle.dj_declarations.specs.trusted.Files.{desc_in}
+use Rattle.dj_declarations.specs.Members.{method_flags, method_place}
+use Rattle.dj_declarations.proofs.DescTests.{desc_in_is, is_descriptor}
+use Rattle.dj_class_table.specs.Tables.{methods_at}
+use Rattle.dj_member_index.specs.declared.rows.MemberRow.{MemberRow}
+use Rattle.dj_member_index.specs.DirectoryRows.{Named, method_named, methods_named, pair_of, row_at, number_in, key_of, Fits, AreInOrder, IsSuch, IsLeast, IsThere, IsLeastOrNone, IsRow, AreRowsWith}
+use Rattle.dj_member_index.specs.Calls.{takes, tests, passes, IsWhether, IsFirstOf, DeclareFirst, DeclareLike, DeclaresLike, AreMethods, IsTakable, AreTakable, AreMarked, IsFirstLike, IsNearestFirst, IsNearestLike, IsPlaced, ArePlaces, AreFirsts, place_key, IsRowAt, IsCallTable}
+use Rattle.dj_member_index.specs.declared.calls.Marked.{Marked}
+use Rattle.dj_member_index.specs.Spans.{AreMarks, AreNear, AreNearest, AreSpans, IsNearestIn, IsWithin, StartsFrom, class_in, end_in, mark_of, start_in}
+use Rattle.dj_member_index.specs.declared.spans.Spans.{Spans}
+use Rattle.dj_member_index.specs.declared.marks.SpanMarks.{SpanMarks}
+use Rattle.dj_member_index.specs.declared.calls.CallTable.{CallTable}
+use Rattle.dj_member_index.proofs.NumberLaws.{number_is}
+use Rattle.dj_member_index.proofs.RowLaws.{firsts, fit_all, seconds}
+use Rattle.dj_member_index.proofs.PlaceLaws.{first_method, inside, method_there, row_in}
 
 -- ---- flags
 

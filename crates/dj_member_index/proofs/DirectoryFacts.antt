@@ -7,11 +7,11 @@ use Rattle.dj_names.specs.trusted.Library.{int}
 use Rattle.dj_names.specs.declared.descriptor.Desc.TheVariants as descs
 use Rattle.dj_model.specs.trusted.Types.{no_parameters}
 use Rattle.dj_model.specs.trusted.Linking.{is_plain}
-use Rattle.dj_directory.specs.declared.rows.MemberRow.{MemberRow}
-use Rattle.dj_directory.specs.Numberings.{ClassesDiffer, Numbering, number_among, number_of, DeclareFields}
-use Rattle.dj_directory.specs.Calls.{DeclareFirst}
-use Rattle.dj_directory.specs.DirectoryRows.{Named, place_of, Texts, number_in, AreAlike, AreDifferent, AreFirst, HasFirst, IsRepeat, IsThere, RowsDiffer, key_of, IsLeastOrNone}
-use Rattle.dj_directory.proofs.NumberLaws.{bor, number_is}
+use Rattle.dj_member_index.specs.declared.rows.MemberRow.{MemberRow}
+use Rattle.dj_member_index.specs.Numberings.{ClassesDiffer, Numbering, number_among, number_of, DeclareFields}
+use Rattle.dj_member_index.specs.Calls.{DeclareFirst}
+use Rattle.dj_member_index.specs.DirectoryRows.{Named, place_of, Texts, number_in, AreAlike, AreDifferent, AreFirst, HasFirst, IsRepeat, IsThere, RowsDiffer, key_of, IsLeastOrNone}
+use Rattle.dj_member_index.proofs.NumberLaws.{bor, number_is}
 
 -- ---- numbers
 

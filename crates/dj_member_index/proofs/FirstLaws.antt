@@ -7,11 +7,11 @@ use Rattle.std.proofs.lemmas.List.{get_or_default}
 use Rattle.std.proofs.lemmas.List.Elements.{Contains-push, Contains-push_cases, Contains-append_left}
 use Rattle.std.proofs.lemmas.List.Quantifiers.{all_pairs_push}
 use Rattle.std.proofs.lemmas.List.Sorted.{IsNonDecreasingBy-push, IsNonDecreasingBy-short}
-use Rattle.dj_directory.specs.declared.rows.MemberRow.{MemberRow}
-use Rattle.dj_directory.specs.DirectoryRows.{key_of, Fits, AreInOrder, IsSuch, IsLeast, IsLeastOrNone, row_at, AreAlike, IsRepeat, HasFirst, AreFirst, AreRowsWith}
-use Rattle.dj_directory.specs.Numberings.{ClassesDiffer}
-use Rattle.dj_directory.proofs.RowLaws.{fit_all, such_between, such_key}
-use Rattle.dj_directory.proofs.SpanLaws.{ascend_at}
+use Rattle.dj_member_index.specs.declared.rows.MemberRow.{MemberRow}
+use Rattle.dj_member_index.specs.DirectoryRows.{key_of, Fits, AreInOrder, IsSuch, IsLeast, IsLeastOrNone, row_at, AreAlike, IsRepeat, HasFirst, AreFirst, AreRowsWith}
+use Rattle.dj_member_index.specs.Numberings.{ClassesDiffer}
+use Rattle.dj_member_index.proofs.RowLaws.{fit_all, such_between, such_key}
+use Rattle.dj_member_index.proofs.SpanLaws.{ascend_at}
 
 -- ---- rows of the same numbers
 

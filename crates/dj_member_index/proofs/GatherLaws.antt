@@ -10,10 +10,10 @@ use Rattle.std.proofs.lemmas.List.Sorted.{All-permutation, Contains-permutation}
 use Rattle.dj_names.specs.trusted.Types.{Name}
 use Rattle.dj_names.specs.declared.descriptor.Desc.{Desc}
 use Rattle.dj_model.specs.trusted.Program.{Method, Field}
-use Rattle.dj_declared.specs.Texts.{text_in}
-use Rattle.dj_declared.specs.Named.{IsNamedBy}
-use Rattle.dj_directory.specs.declared.rows.MemberRow.{MemberRow}
-use Rattle.dj_directory.specs.DirectoryRows.{Named, method_named, field_named, Members, Numbers, Texts, number_in, Keep, AreDifferent, IsNumbered, key_of, Fits, IsRow, IsThere, AreSoFar, AreKnown, NumbersAll, IsRowBy, AreRows}
+use Rattle.dj_declarations.specs.Texts.{text_in}
+use Rattle.dj_declarations.specs.Named.{IsNamedBy}
+use Rattle.dj_member_index.specs.declared.rows.MemberRow.{MemberRow}
+use Rattle.dj_member_index.specs.DirectoryRows.{Named, method_named, field_named, Members, Numbers, Texts, number_in, Keep, AreDifferent, IsNumbered, key_of, Fits, IsRow, IsThere, AreSoFar, AreKnown, NumbersAll, IsRowBy, AreRows}
 
 -- ---- one row
 

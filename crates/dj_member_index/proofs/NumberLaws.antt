@@ -8,9 +8,9 @@ use Rattle.std.specs.BTreeMap.{btree_map_len, is_at}
 use Rattle.std.specs.FinMap.{slice_cmp-IsAntisymmetric, nat_cmp-IsAntisymmetric}
 use Rattle.std.proofs.lemmas.Cmp.{nat_list_cmp_total, tied_itself}
 use Rattle.dj_names.specs.trusted.Types.{same_name}
-use Rattle.dj_declared.proofs.DescTests.{same_name_is, same_name_itself}
-use Rattle.dj_directory.specs.Numberings.{number_among}
-use Rattle.dj_directory.specs.DirectoryRows.{Texts, texts_of, number_in, AreDifferent, IsNumbered}
+use Rattle.dj_declarations.proofs.DescTests.{same_name_is, same_name_itself}
+use Rattle.dj_member_index.specs.Numberings.{number_among}
+use Rattle.dj_member_index.specs.DirectoryRows.{Texts, texts_of, number_in, AreDifferent, IsNumbered}
 
 abbrev pub bor : List ℕ → Bor (List ℕ)
 bor text = record { ref_ptr = (0, 0); now = text }

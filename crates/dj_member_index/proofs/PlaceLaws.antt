@@ -10,16 +10,16 @@ use Rattle.dj_names.specs.declared.descriptor.Desc.{Desc}
 use Rattle.dj_names.specs.trusted.Descriptors.{Describes}
 use Rattle.dj_names.proofs.DescLaws.{described_once}
 use Rattle.dj_model.specs.trusted.Program.{Program, Method, Field, fields_of, is_named}
-use Rattle.dj_declared.specs.trusted.Files.{desc_in}
-use Rattle.dj_declared.specs.Members.{IsDescriptor, method_place, field_place}
-use Rattle.dj_declared.proofs.DescTests.{desc_in_is, is_descriptor, same_name_is, same_name_itself, same_desc_is, same_desc_itself}
-use Rattle.dj_classes.specs.Tables.{methods_of, methods_at, fields_at}
-use Rattle.dj_directory.specs.Numberings.{DeclareFields, DeclareMethods, Numbering, number_among, number_of}
-use Rattle.dj_directory.specs.declared.rows.MemberRow.{MemberRow}
-use Rattle.dj_directory.specs.DirectoryRows.{Named, method_named, field_named, methods_named, fields_named, Members, place_of, Texts, texts_of, number_in, AreDifferent, IsSuch, IsLeastOrNone, IsRow, IsThere, AreRows, AreRowsWith, IsDirectory}
-use Rattle.dj_directory.proofs.GatherLaws.{kept_row}
-use Rattle.dj_directory.proofs.NumberLaws.{number_is}
-use Rattle.dj_directory.proofs.FirstLaws.{reported_by_first, least_first, such_first}
+use Rattle.dj_declarations.specs.trusted.Files.{desc_in}
+use Rattle.dj_declarations.specs.Members.{IsDescriptor, method_place, field_place}
+use Rattle.dj_declarations.proofs.DescTests.{desc_in_is, is_descriptor, same_name_is, same_name_itself, same_desc_is, same_desc_itself}
+use Rattle.dj_class_table.specs.Tables.{methods_of, methods_at, fields_at}
+use Rattle.dj_member_index.specs.Numberings.{DeclareFields, DeclareMethods, Numbering, number_among, number_of}
+use Rattle.dj_member_index.specs.declared.rows.MemberRow.{MemberRow}
+use Rattle.dj_member_index.specs.DirectoryRows.{Named, method_named, field_named, methods_named, fields_named, Members, place_of, Texts, texts_of, number_in, AreDifferent, IsSuch, IsLeastOrNone, IsRow, IsThere, AreRows, AreRowsWith, IsDirectory}
+use Rattle.dj_member_index.proofs.GatherLaws.{kept_row}
+use Rattle.dj_member_index.proofs.NumberLaws.{number_is}
+use Rattle.dj_member_index.proofs.FirstLaws.{reported_by_first, least_first, such_first}
 
 abbrev later : ℕ → ℕ
 later place = place + 1

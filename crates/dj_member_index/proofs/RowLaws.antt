@@ -4,8 +4,8 @@ use Rattle.std.specs.List.Sorted.{IsPartitionPoint, IsPartitionedBy}
 use Rattle.std.proofs.lemmas.Bool.{ltb-true, ltb-false, cases_lt}
 use Rattle.std.proofs.lemmas.List.{get_or_default, get_or-drop, get_or-take, length-drop, length-take-le}
 use Rattle.std.proofs.lemmas.List.Sorted.{IsPartitionedBy-ltb}
-use Rattle.dj_directory.specs.declared.rows.MemberRow.{MemberRow}
-use Rattle.dj_directory.specs.DirectoryRows.{pair_of, key_of, Fits, AreInOrder, AreRowsWith, IsSuch, IsAnswer, IsLeastOrNone}
+use Rattle.dj_member_index.specs.declared.rows.MemberRow.{MemberRow}
+use Rattle.dj_member_index.specs.DirectoryRows.{pair_of, key_of, Fits, AreInOrder, AreRowsWith, IsSuch, IsAnswer, IsLeastOrNone}
 
 pub parted : (rows : List MemberRow) (key : ℕ) → AreInOrder rows → IsPartitionedBy (λ row. ltb (key_of row) key) rows
 parted rows key order = IsPartitionedBy-ltb key_of rows key order.ascend

@@ -6,13 +6,13 @@ use Rattle.std.proofs.lemmas.Option.{none-some}
 use Rattle.dj_names.specs.trusted.Types.{Name}
 use Rattle.dj_model.specs.trusted.Program.{Program, Method}
 use Rattle.dj_model.specs.SmallRuns.{class_with, method_with, code}
-use Rattle.dj_directory.specs.declared.rows.MemberRow.{MemberRow}
-use Rattle.dj_directory.specs.declared.spans.Spans.{Spans}
-use Rattle.dj_directory.specs.declared.marks.SpanMarks.{SpanMarks}
-use Rattle.dj_directory.specs.declared.calls.Marked.{Marked}
-use Rattle.dj_directory.specs.Calls.{AreMarked}
-use Rattle.dj_directory.specs.DirectoryRows.{AreInOrder, Fits, key_of}
-use Rattle.dj_directory.specs.Spans.{start_in, end_in, class_in, IsWithin, IsNested, AreSpans, mark_of, AreMarks, IsStart, IsEnd, IsLast, IsReported, StartsFrom, Covers, AreNearest, IsNearestIn, AreNear}
+use Rattle.dj_member_index.specs.declared.rows.MemberRow.{MemberRow}
+use Rattle.dj_member_index.specs.declared.spans.Spans.{Spans}
+use Rattle.dj_member_index.specs.declared.marks.SpanMarks.{SpanMarks}
+use Rattle.dj_member_index.specs.declared.calls.Marked.{Marked}
+use Rattle.dj_member_index.specs.Calls.{AreMarked}
+use Rattle.dj_member_index.specs.DirectoryRows.{AreInOrder, Fits, key_of}
+use Rattle.dj_member_index.specs.Spans.{start_in, end_in, class_in, IsWithin, IsNested, AreSpans, mark_of, AreMarks, IsStart, IsEnd, IsLast, IsReported, StartsFrom, Covers, AreNearest, IsNearestIn, AreNear}
 
 -- ---- a program
 

@@ -6,11 +6,11 @@ use Rattle.std.proofs.lemmas.List.{get_or_default, get_or_append_left, length-ap
 use Rattle.std.proofs.Math.Seq.{get_or-append_seam}
 use Rattle.std.proofs.lemmas.List.Elements.{All-push, Contains-push, Contains-append_left}
 use Rattle.std.proofs.lemmas.List.Sorted.{All-permutation, Contains-permutation}
-use Rattle.dj_directory.specs.declared.rows.MemberRow.{MemberRow}
-use Rattle.dj_directory.specs.declared.spans.Spans.{Spans}
-use Rattle.dj_directory.specs.DirectoryRows.{pair_of, key_of, Fits, AreInOrder}
-use Rattle.dj_directory.specs.Spans.{AreMarks, AreNearest, Covers, IsEnd, IsLast, IsNearestIn, IsStart, IsReported, StartsFrom, class_in, end_in, mark_of, start_in}
-use Rattle.dj_directory.proofs.RowLaws.{firsts, seconds, small, wides, target, fit_all, IsPointAt}
+use Rattle.dj_member_index.specs.declared.rows.MemberRow.{MemberRow}
+use Rattle.dj_member_index.specs.declared.spans.Spans.{Spans}
+use Rattle.dj_member_index.specs.DirectoryRows.{pair_of, key_of, Fits, AreInOrder}
+use Rattle.dj_member_index.specs.Spans.{AreMarks, AreNearest, Covers, IsEnd, IsLast, IsNearestIn, IsStart, IsReported, StartsFrom, class_in, end_in, mark_of, start_in}
+use Rattle.dj_member_index.proofs.RowLaws.{firsts, seconds, small, wides, target, fit_all, IsPointAt}
 
 -- ---- keys
 

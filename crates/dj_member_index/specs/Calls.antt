@@ -5,13 +5,13 @@ use Rattle.dj_names.specs.trusted.Types.{Name}
 use Rattle.dj_names.specs.declared.descriptor.Desc.{Desc}
 use Rattle.dj_model.specs.trusted.Program.{Program, Method, is_private, is_static}
 use Rattle.dj_model.specs.trusted.Linking.{is_plain, is_not_static}
-use Rattle.dj_declared.specs.Members.{method_place}
-use Rattle.dj_classes.specs.Tables.{methods_at, super_number}
-use Rattle.dj_directory.specs.declared.rows.MemberRow.{MemberRow}
-use Rattle.dj_directory.specs.declared.calls.CallTable.{CallTable}
-use Rattle.dj_directory.specs.declared.calls.Marked.{Marked}
-use Rattle.dj_directory.specs.DirectoryRows.{pair_of, Fits, Texts, AreInOrder, IsDirectory, IsLeast, row_at}
-use Rattle.dj_directory.specs.Spans.{AreNear, AreSpans, StartsFrom}
+use Rattle.dj_declarations.specs.Members.{method_place}
+use Rattle.dj_class_table.specs.Tables.{methods_at, super_number}
+use Rattle.dj_member_index.specs.declared.rows.MemberRow.{MemberRow}
+use Rattle.dj_member_index.specs.declared.calls.CallTable.{CallTable}
+use Rattle.dj_member_index.specs.declared.calls.Marked.{Marked}
+use Rattle.dj_member_index.specs.DirectoryRows.{pair_of, Fits, Texts, AreInOrder, IsDirectory, IsLeast, row_at}
+use Rattle.dj_member_index.specs.Spans.{AreNear, AreSpans, StartsFrom}
 
 -- ---- which methods a call may take
 

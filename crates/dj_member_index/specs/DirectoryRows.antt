@@ -11,9 +11,9 @@ use Rattle.dj_names.specs.trusted.Types.{Name}
 use Rattle.dj_names.specs.declared.descriptor.Desc.{Desc}
 use Rattle.dj_names.specs.trusted.Descriptors.{Describes}
 use Rattle.dj_model.specs.trusted.Program.{Program, Method, Field, is_named}
-use Rattle.dj_declared.specs.Texts.{text_in}
-use Rattle.dj_classes.specs.Tables.{methods_at, fields_at}
-use Rattle.dj_directory.specs.declared.rows.MemberRow.{MemberRow}
+use Rattle.dj_declarations.specs.Texts.{text_in}
+use Rattle.dj_class_table.specs.Tables.{methods_at, fields_at}
+use Rattle.dj_member_index.specs.declared.rows.MemberRow.{MemberRow}
 
 -- ---- members by their names and descriptors
 

@@ -4,10 +4,10 @@ use Rattle.std.specs.List.{AllPairs}
 use Rattle.dj_names.specs.trusted.Types.{Name, same_name}
 use Rattle.dj_names.specs.declared.descriptor.Desc.{Desc}
 use Rattle.dj_model.specs.trusted.Program.{Program}
-use Rattle.dj_declared.specs.Members.{method_place, field_place}
-use Rattle.dj_classes.specs.Tables.{methods_at, fields_at}
-use Rattle.dj_directory.specs.declared.rows.MemberRow.{MemberRow}
-use Rattle.dj_directory.specs.DirectoryRows.{IsThere}
+use Rattle.dj_declarations.specs.Members.{method_place, field_place}
+use Rattle.dj_class_table.specs.Tables.{methods_at, fields_at}
+use Rattle.dj_member_index.specs.declared.rows.MemberRow.{MemberRow}
+use Rattle.dj_member_index.specs.DirectoryRows.{IsThere}
 
 -- the classes, and texts with their numbers
 pub record Numbering : Type 0 where

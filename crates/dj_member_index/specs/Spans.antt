@@ -1,11 +1,11 @@
 -- The nearest class that declares a member, by spans of classes in a walk through the tree of superclasses.
 use Rattle.std.specs.Prelude.{◌≡◌, ℕ, ◌-◌, ◌<◌, ◌≤◌, List, Contains, Option, Some, None, IfSome, length, get_or}
 use Rattle.dj_model.specs.trusted.Program.{Program}
-use Rattle.dj_classes.specs.Tables.{super_number}
-use Rattle.dj_directory.specs.declared.rows.MemberRow.{MemberRow}
-use Rattle.dj_directory.specs.declared.spans.Spans.{Spans}
-use Rattle.dj_directory.specs.declared.marks.SpanMarks.{SpanMarks}
-use Rattle.dj_directory.specs.DirectoryRows.{AreInOrder}
+use Rattle.dj_class_table.specs.Tables.{super_number}
+use Rattle.dj_member_index.specs.declared.rows.MemberRow.{MemberRow}
+use Rattle.dj_member_index.specs.declared.spans.Spans.{Spans}
+use Rattle.dj_member_index.specs.declared.marks.SpanMarks.{SpanMarks}
+use Rattle.dj_member_index.specs.DirectoryRows.{AreInOrder}
 
 abbrev pub start_in : Spans → ℕ → ℕ
 start_in spans class = get_or spans.starts.items class 4294967295

@@ -1,15 +1,15 @@
 //! What calls look in: methods by their places, and those that a call may take by the numbers of their names and descriptors.
 ghost use Rattle.std.specs.Prelude.{◌≡◌, ℕ, ◌<◌, true, false, Contains, length, None, IfOk, IfSome, if◌then◌else◌};
 ghost use Rattle.std.specs.List.Sorted.{IsNonDecreasingBy, IsPermutation};
-ghost use Rattle.dj_classes.specs.Tables.{methods_at};
-ghost use Rattle.dj_directory.specs.Calls.{AreFirsts, AreMarked, AreMethods, ArePlaces, AreTakable, DeclareLike, DeclaresLike, IsCallTable, IsFirstLike, IsNearestLike, IsPlaced, IsRowAt, IsTakable, IsWhether, place_key, takes, tests};
-ghost use Rattle.dj_directory.specs.DirectoryRows.{AreInOrder, IsLeast};
+ghost use Rattle.dj_class_table.specs.Tables.{methods_at};
+ghost use Rattle.dj_member_index.specs.Calls.{AreFirsts, AreMarked, AreMethods, ArePlaces, AreTakable, DeclareLike, DeclaresLike, IsCallTable, IsFirstLike, IsNearestLike, IsPlaced, IsRowAt, IsTakable, IsWhether, place_key, takes, tests};
+ghost use Rattle.dj_member_index.specs.DirectoryRows.{AreInOrder, IsLeast};
 
 use crate::directory::Directory;
 use crate::marks::SpanMarks;
 use crate::rows::{MemberRow, pair_of, place_in, put_in_order, rows_with};
 use crate::spans::Spans;
-use dj_classes::ClassTable;
+use dj_class_table::ClassTable;
 use std::alloc::{AllocError, Global};
 
 // JVMS table 4.6-A.

@@ -1,18 +1,18 @@
 ghost use Rattle.std.specs.Prelude.{◌≡◌, ℕ, ◌<◌, ◌⊎◌, Contains, List, Some, None, length, IfOk, IfSome};
 ghost use Rattle.dj_names.specs.declared.descriptor.Desc.{Desc};
 ghost use Rattle.dj_names.specs.trusted.Types.{Name};
-ghost use Rattle.dj_declared.specs.trusted.Files.{desc_in};
-ghost use Rattle.dj_declared.specs.Members.{IsDescriptor, method_place, field_place};
-ghost use Rattle.dj_classes.specs.Tables.{methods_at, fields_at};
-ghost use Rattle.dj_directory.specs.Calls.{AreMethods};
-ghost use Rattle.dj_directory.specs.Numberings.{ClassesDiffer, DeclareFields, DeclareMethods, number_of};
-ghost use Rattle.dj_directory.specs.declared.rows.MemberRow.{MemberRow};
-ghost use Rattle.dj_directory.specs.DirectoryRows.{AreInOrder, IsRow, IsThere, RowsDiffer, fields_named, methods_named};
+ghost use Rattle.dj_declarations.specs.trusted.Files.{desc_in};
+ghost use Rattle.dj_declarations.specs.Members.{IsDescriptor, method_place, field_place};
+ghost use Rattle.dj_class_table.specs.Tables.{methods_at, fields_at};
+ghost use Rattle.dj_member_index.specs.Calls.{AreMethods};
+ghost use Rattle.dj_member_index.specs.Numberings.{ClassesDiffer, DeclareFields, DeclareMethods, number_of};
+ghost use Rattle.dj_member_index.specs.declared.rows.MemberRow.{MemberRow};
+ghost use Rattle.dj_member_index.specs.DirectoryRows.{AreInOrder, IsRow, IsThere, RowsDiffer, fields_named, methods_named};
 
 use crate::gather::add_class;
 use crate::numbers::number_in;
 use crate::rows::{MemberRow, first_rows, place_in, put_in_order, rows_with};
-use dj_classes::ClassTable;
+use dj_class_table::ClassTable;
 use std::alloc::{AllocError, Global};
 use std::collections::BTreeMap;
 use std::marker::Model;
@@ -29,8 +29,8 @@ pub struct Directory<'a> {
 }
 
 impl<'a> Model for Directory<'a> {
-    ghost use Rattle.dj_directory.specs.Numberings.{Numbering};
-    ghost use Rattle.dj_directory.specs.DirectoryRows.{texts_of, IsDirectory};
+    ghost use Rattle.dj_member_index.specs.Numberings.{Numbering};
+    ghost use Rattle.dj_member_index.specs.DirectoryRows.{texts_of, IsDirectory};
 
     ghost Value = { Numbering };
 

@@ -1,10 +1,10 @@
 ghost use Rattle.std.specs.Prelude.{◌≡◌, ◌+◌, ◌<◌, length, map, IfOk, OnOk};
-ghost use Rattle.dj_directory.specs.DirectoryRows.{method_named, field_named, AreDifferent, NumbersAll, IsRowBy, AddsRows, IsGathering};
+ghost use Rattle.dj_member_index.specs.DirectoryRows.{method_named, field_named, AreDifferent, NumbersAll, IsRowBy, AddsRows, IsGathering};
 
 use crate::numbers::number_text;
 use crate::rows::MemberRow;
-use dj_classes::ClassTable;
-use dj_declared::MemberTexts;
+use dj_class_table::ClassTable;
+use dj_declarations::MemberTexts;
 use std::alloc::{AllocError, Global};
 use std::collections::BTreeMap;
 

@@ -1,8 +1,8 @@
 //! The nearest class that declares a member, by halving. The spans of the classes of such rows start and end at marks, and each mark gives the nearest of these classes for what follows it.
 //! For an end it is looked up: it is what was nearest before the start. Ends are checked on the way, so the spans need not be known to be nested.
 ghost use Rattle.std.specs.Prelude.{◌≡◌, ℕ, ◌+◌, ◌<◌, true, length, get_or, IfOk, IfSome};
-ghost use Rattle.dj_directory.specs.DirectoryRows.{AreInOrder, Fits};
-ghost use Rattle.dj_directory.specs.Spans.{AreMarks, AreNear, AreNearest, Covers, IsEnd, IsLast, IsNearestIn, IsReported, mark_of};
+ghost use Rattle.dj_member_index.specs.DirectoryRows.{AreInOrder, Fits};
+ghost use Rattle.dj_member_index.specs.Spans.{AreMarks, AreNear, AreNearest, Covers, IsEnd, IsLast, IsNearestIn, IsReported, mark_of};
 
 use crate::rows::{MemberRow, first_not_below, key_of, put_in_order};
 use crate::spans::Spans;

@@ -1,5 +1,5 @@
 ghost use Rattle.std.specs.Prelude.{◌≡◌, IfOk};
-ghost use Rattle.dj_directory.specs.DirectoryRows.{number_in, AreDifferent, IsNumbered};
+ghost use Rattle.dj_member_index.specs.DirectoryRows.{number_in, AreDifferent, IsNumbered};
 
 use std::alloc::AllocError;
 use std::collections::BTreeMap;

@@ -1,7 +1,7 @@
 //! Members by the numbers of their texts, in the order of these.
 ghost use Rattle.std.specs.Prelude.{◌≡◌, ◌<◌, ◌≤◌, ltb, true, false, length, IfOk};
 ghost use Rattle.std.specs.List.Sorted.{IsNonDecreasingBy, IsPartitionPoint, IsPermutation};
-ghost use Rattle.dj_directory.specs.DirectoryRows.{pair_of, key_of, AreAlike, AreFirst, AreInOrder, AreRowsWith, IsLeastOrNone, IsAnswer, IsRepeat};
+ghost use Rattle.dj_member_index.specs.DirectoryRows.{pair_of, key_of, AreAlike, AreFirst, AreInOrder, AreRowsWith, IsLeastOrNone, IsAnswer, IsRepeat};
 
 use std::alloc::{AllocError, Global};
 

@@ -1,9 +1,9 @@
 //! Where classes stand in a walk through the tree of superclasses. The walk is made first and looked at then, so that it need not be known to be right.
 ghost use Rattle.std.specs.Prelude.{◌≡◌, ℕ, ◌<◌, true, length, get_or, IfOk, IfSome};
-ghost use Rattle.dj_classes.specs.Tables.{super_number};
-ghost use Rattle.dj_directory.specs.Spans.{AreSpans, IsNested, IsWithin, class_in, end_in, start_in};
+ghost use Rattle.dj_class_table.specs.Tables.{super_number};
+ghost use Rattle.dj_member_index.specs.Spans.{AreSpans, IsNested, IsWithin, class_in, end_in, start_in};
 
-use dj_classes::ClassTable;
+use dj_class_table::ClassTable;
 use std::alloc::{AllocError, Global};
 
 // In place of the number of a class, or of a step, where there is none.

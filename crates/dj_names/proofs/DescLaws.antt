@@ -5,9 +5,9 @@ use Rattle.std.proofs.lemmas.Bool.{leb-true, le-leb, lt-leb, eqb-true, eqb-false
 use Rattle.std.proofs.lemmas.List.{append-nil, length-append}
 use Rattle.std.proofs.lemmas.List.Sums.{sum_by-cons}
 use Rattle.std.specs.List.{flat_map, AllByRecursion}
-use Rattle.dj_bytes.specs.trusted.Options.{◌>>=◌}
-use Rattle.dj_bytes.specs.Options.{FailsRead, GivesRead}
-use Rattle.dj_bytes.proofs.Options.{bind_some, some_is, chosen, went_on}
+use Rattle.dj_cursor.specs.trusted.Options.{◌>>=◌}
+use Rattle.dj_cursor.specs.Options.{FailsRead, GivesRead}
+use Rattle.dj_cursor.proofs.Options.{bind_some, some_is, chosen, went_on}
 use Rattle.dj_names.specs.declared.descriptor.Ty.{Ty}
 use Rattle.dj_names.specs.declared.descriptor.Desc.{Desc}
 use Rattle.dj_names.specs.declared.descriptor.Desc.TheVariants as descs

@@ -4,8 +4,8 @@ use Rattle.std.specs.Prelude.{replicate}
 use Rattle.std.proofs.lemmas.Bool.{ltb-true, lt-ltb, eqb-true, eqb-false, ne_eqb}
 use Rattle.std.proofs.lemmas.List.{append-nil}
 use Rattle.std.specs.List.{AllByRecursion, join_with_byte}
-use Rattle.dj_bytes.specs.trusted.Options.{◌>>=◌}
-use Rattle.dj_bytes.proofs.Options.{bind_some, some_is, chosen, chose_some, went_on}
+use Rattle.dj_cursor.specs.trusted.Options.{◌>>=◌}
+use Rattle.dj_cursor.proofs.Options.{bind_some, some_is, chosen, chose_some, went_on}
 use Rattle.dj_names.specs.declared.descriptor.Base.{Base}
 use Rattle.dj_names.specs.declared.descriptor.Base.TheVariants as bases
 use Rattle.dj_names.specs.declared.descriptor.Of.{Of}

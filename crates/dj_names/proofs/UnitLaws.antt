@@ -4,7 +4,7 @@ use Rattle.std.proofs.lemmas.Bool.{cases_lt, cases_eq, cases_Bool, ltb-true, leb
 use Rattle.std.proofs.lemmas.Bool.Decides.{nat_tests}
 use Rattle.std.proofs.lemmas.List.{append-nil, length-append}
 use Rattle.std.specs.List.{AllByRecursion}
-use Rattle.dj_bytes.proofs.Options.{chose_some, went_on}
+use Rattle.dj_cursor.proofs.Options.{chose_some, went_on}
 use Rattle.dj_names.specs.trusted.ModifiedUtf8.{unit_text, units_text, SpellsUnits, IsModifiedUtf8}
 use Rattle.dj_names.specs.ModifiedUtf8.{BeginsNoUnit, BreaksAt}
 use Rattle.dj_names.specs.trusted.UnitReading.{two_unit_of, three_unit_of, two_read, three_read, long_read, unit_read}

@@ -1,5 +1,5 @@
 ghost use Rattle.std.specs.Prelude.{◌≡◌, ◌≢◌, ◌∷◌, ℕ, List, length, slice_index, IfSome, IfNone, IfOk, IsErrOf};
-ghost use Rattle.dj_bytes.specs.Options.{GivesRead};
+ghost use Rattle.dj_cursor.specs.Options.{GivesRead};
 ghost use Rattle.dj_names.specs.declared.descriptor.Desc.{Desc};
 ghost use Rattle.dj_names.specs.trusted.Descriptors.{Describes};
 ghost use Rattle.dj_names.specs.trusted.DescReading.{type_read, params_read, field_read, return_read, method_read, opens, desc_read};

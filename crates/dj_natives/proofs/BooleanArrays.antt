@@ -14,7 +14,7 @@ use Rattle.dj_model.specs.trusted.Types.{Prefix}
 use Rattle.dj_model.specs.trusted.Program.{Program}
 use Rattle.dj_model.specs.trusted.Linking.{is_subtype}
 use Rattle.dj_model.specs.trusted.Natives.{class_name}
-use Rattle.dj_natives.specs.Numbered.{type_at, begins_array, ArePlain}
+use Rattle.dj_library_types.specs.Numbered.{type_at, begins_array, ArePlain}
 
 abbrev typed : ℕ → Of → Ty
 typed dims of = record { dims = dims; of = of }

@@ -15,14 +15,14 @@ use Rattle.dj_model.specs.trusted.State.{Terms, Part, Flow, Goes, Next, Catch, g
 use Rattle.dj_model.specs.trusted.Natives.{Rethrows, reference, answer}
 use Rattle.dj_model.specs.trusted.Performing.{class_in, class_at_number, perform}
 use Rattle.dj_model.proofs.MappedHeaps.{object_at_mapped, class_of_mapped}
-use Rattle.dj_natives.specs.Numbered.{type_at, is_number, SaysStop}
-use Rattle.dj_calls.specs.declared.answer.NativeAnswer.{NativeAnswer}
-use Rattle.dj_calls.specs.declared.answer.NativeAnswer.TheVariants as reported
-use Rattle.dj_calls.specs.Counting.{Counter}
-use Rattle.dj_calls.specs.Calls.{typed_heap, terms_of, part_with, effect_with, Acts}
-use Rattle.dj_calls.specs.Known.{AreKnown}
-use Rattle.dj_calls.proofs.Counted.{native_does, heap_of}
-use Rattle.dj_calls.proofs.Performed.{known_at}
+use Rattle.dj_library_types.specs.Numbered.{type_at, is_number, SaysStop}
+use Rattle.dj_natives.specs.declared.answer.NativeAnswer.{NativeAnswer}
+use Rattle.dj_natives.specs.declared.answer.NativeAnswer.TheVariants as reported
+use Rattle.dj_natives.specs.Counting.{Counter}
+use Rattle.dj_natives.specs.Calls.{typed_heap, terms_of, part_with, effect_with, Acts}
+use Rattle.dj_natives.specs.Known.{AreKnown}
+use Rattle.dj_natives.proofs.Counted.{native_does, heap_of}
+use Rattle.dj_natives.proofs.Performed.{known_at}
 
 class_found : (types : List Ty) (o : Option (Object ℕ)) (class : ℕ) → option_map class_of o ≡ Some class → class_in (option_map (object_map (type_at types)) o) ≡ type_at types class
 class_found types None class e = absurd cc

@@ -8,8 +8,8 @@ use Rattle.dj_model.specs.trusted.Charging as model
 use Rattle.dj_model.specs.trusted.Charging.{Fine, Over, added, passes, charge_one}
 use Rattle.dj_model.specs.Laws.{IsReportedBy}
 use Rattle.dj_model.proofs.Fits.{ChargedReported, charge_reported}
-use Rattle.dj_calls.specs.declared.accounter.Charged.TheVariants as charged
-use Rattle.dj_calls.specs.Counting.{Counter, AreLow, Adds}
+use Rattle.dj_natives.specs.declared.accounter.Charged.TheVariants as charged
+use Rattle.dj_natives.specs.Counting.{Counter, AreLow, Adds}
 
 abbrev pub account : Costs → Option Charge → Account
 account costs exceeded = record { costs = costs; exceeded = exceeded }

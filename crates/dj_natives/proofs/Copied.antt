@@ -18,14 +18,14 @@ use Rattle.dj_model.specs.trusted.State.{Part}
 use Rattle.dj_model.specs.trusted.Natives.{Answer, SetsElements, copied}
 use Rattle.dj_model.specs.trusted.Performing.{set_elements, set_object, with_elements_in, raises_after, perform}
 use Rattle.dj_model.proofs.MappedHeaps.{object_at_mapped, object_set}
-use Rattle.dj_natives.specs.Numbered.{type_at}
-use Rattle.dj_calls.specs.declared.answer.NativeAnswer.TheVariants as reported
-use Rattle.dj_calls.specs.declared.arrays.Copy.{Copy}
-use Rattle.dj_calls.specs.Calls.{Done, part_with, terms_of}
-use Rattle.dj_calls.specs.Copies.{IsCopy, CopiesSo, Moves, MovesSo, Takes, moved_of, takes_at}
-use Rattle.dj_calls.specs.Known.{AreKnown}
-use Rattle.dj_calls.proofs.Performed.{known_at, known_set}
-use Rattle.dj_calls.proofs.Takings.{range_whole}
+use Rattle.dj_library_types.specs.Numbered.{type_at}
+use Rattle.dj_natives.specs.declared.answer.NativeAnswer.TheVariants as reported
+use Rattle.dj_natives.specs.declared.arrays.Copy.{Copy}
+use Rattle.dj_natives.specs.Calls.{Done, part_with, terms_of}
+use Rattle.dj_natives.specs.Copies.{IsCopy, CopiesSo, Moves, MovesSo, Takes, moved_of, takes_at}
+use Rattle.dj_natives.specs.Known.{AreKnown}
+use Rattle.dj_natives.proofs.Performed.{known_at, known_set}
+use Rattle.dj_natives.proofs.Takings.{range_whole}
 
 -- ---- how many are moved
 

@@ -5,7 +5,7 @@ use Rattle.dj_names.specs.declared.run.Raised.TheVariants as raises
 use Rattle.dj_names.specs.trusted.Heaps.{same_element}
 use Rattle.dj_model.specs.trusted.Natives.{Answer, Raises, SetsElements, Seen, Elements, unless_null, copied, copy_within, copy_between, copy_array, is_reference}
 use Rattle.dj_model.proofs.MappedNames.{either}
-use Rattle.dj_calls.specs.Counting.{owed}
+use Rattle.dj_natives.specs.Counting.{owed}
 
 owed_if : (b : Bool) (x y : Answer) → owed x ≡ None → owed y ≡ None → owed (if b then x else y) ≡ None
 owed_if true x y first second = first

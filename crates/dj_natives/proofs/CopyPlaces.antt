@@ -16,10 +16,10 @@ use Rattle.dj_model.specs.trusted.Natives as model
 use Rattle.dj_model.specs.trusted.Natives.{Answer, Raises, Elements, copied, copy_within, copy_between, unless_null, reference, number, is_reference, taken_before}
 use Rattle.dj_model.specs.trusted.Program.{Program}
 use Rattle.dj_model.specs.trusted.Types.{Prefix}
-use Rattle.dj_calls.specs.Calls.{seen_of}
-use Rattle.dj_calls.specs.Copies.{copy_answer, takes_at, as_place, contents_held, contents_at, fits_at, HasPlaces, IsPlaces}
-use Rattle.dj_calls.specs.Seen.{elements_at, elements_held, element_of}
-use Rattle.dj_calls.proofs.SeenFacts.{elements_alike}
+use Rattle.dj_natives.specs.Calls.{seen_of}
+use Rattle.dj_natives.specs.Copies.{copy_answer, takes_at, as_place, contents_held, contents_at, fits_at, HasPlaces, IsPlaces}
+use Rattle.dj_natives.specs.Seen.{elements_at, elements_held, element_of}
+use Rattle.dj_natives.proofs.SeenFacts.{elements_alike}
 
 -- ---- arrays
 

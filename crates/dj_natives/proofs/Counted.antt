@@ -16,17 +16,17 @@ use Rattle.dj_model.specs.trusted.Charging as charging
 use Rattle.dj_model.specs.trusted.Charging.{charge_one}
 use Rattle.dj_model.specs.trusted.Natives.{Answer, Returns, Raises, MakesText, KeepsText, MakesChars, SetsFields, SetsElements, Adds, Rethrows, Seen, answer, asks}
 use Rattle.dj_model.specs.trusted.Performing.{Counted, Within, Halts, counted, thrown_by, with_account, making_then, returns_made, keeps_made, goes_on, text_object, chars_object, seen, perform, native, native_asked}
-use Rattle.dj_calls.specs.declared.accounter.Charged.{Charged}
-use Rattle.dj_calls.specs.declared.accounter.Charged.TheVariants as charged
-use Rattle.dj_calls.specs.declared.answer.Answer as calls
-use Rattle.dj_calls.specs.declared.answer.NativeAnswer.{NativeAnswer}
-use Rattle.dj_calls.specs.declared.answer.NativeAnswer.TheVariants as reported
-use Rattle.dj_calls.specs.Counting as counting
-use Rattle.dj_calls.specs.Counting.{Counter, Counts, owed, text_amount, charged_by}
-use Rattle.dj_calls.specs.Calls.{typed_heap, seen_of, counting_of, terms_of, part_with, with_counter, given, effect_with, flow_of, flow_reported, stop_reported, Does, Performs, KeepsHeap, KeepsCounter, Calls, Done, Finished, Acts, Finishes}
-use Rattle.dj_calls.specs.Known.{AreKnown}
-use Rattle.dj_calls.specs.Answers.{Says, answer_view, is_answered, IsDue, IsDueOf}
-use Rattle.dj_calls.proofs.Groups.{stops_plainly}
+use Rattle.dj_natives.specs.declared.accounter.Charged.{Charged}
+use Rattle.dj_natives.specs.declared.accounter.Charged.TheVariants as charged
+use Rattle.dj_natives.specs.declared.answer.Answer as calls
+use Rattle.dj_natives.specs.declared.answer.NativeAnswer.{NativeAnswer}
+use Rattle.dj_natives.specs.declared.answer.NativeAnswer.TheVariants as reported
+use Rattle.dj_natives.specs.Counting as counting
+use Rattle.dj_natives.specs.Counting.{Counter, Counts, owed, text_amount, charged_by}
+use Rattle.dj_natives.specs.Calls.{typed_heap, seen_of, counting_of, terms_of, part_with, with_counter, given, effect_with, flow_of, flow_reported, stop_reported, Does, Performs, KeepsHeap, KeepsCounter, Calls, Done, Finished, Acts, Finishes}
+use Rattle.dj_natives.specs.Known.{AreKnown}
+use Rattle.dj_natives.specs.Answers.{Says, answer_view, is_answered, IsDue, IsDueOf}
+use Rattle.dj_natives.proofs.Groups.{stops_plainly}
 
 -- ---- the charge comes first
 

@@ -9,11 +9,11 @@ use Rattle.dj_names.specs.declared.native.NativeId.TheVariants as natives
 use Rattle.dj_model.specs.trusted.Charging.{charge_one}
 use Rattle.dj_model.specs.trusted.Natives as model
 use Rattle.dj_model.specs.trusted.State.{Stop, Catch, Goes, Next, Raise}
-use Rattle.dj_calls.specs.declared.accounter.Charged.TheVariants as charged
-use Rattle.dj_calls.specs.declared.answer.NativeAnswer.TheVariants as reported
-use Rattle.dj_calls.specs.Counting as counting
-use Rattle.dj_calls.specs.Counting.{Counter, Counts, owed}
-use Rattle.dj_calls.specs.Calls.{flow_reported}
+use Rattle.dj_natives.specs.declared.accounter.Charged.TheVariants as charged
+use Rattle.dj_natives.specs.declared.answer.NativeAnswer.TheVariants as reported
+use Rattle.dj_natives.specs.Counting as counting
+use Rattle.dj_natives.specs.Counting.{Counter, Counts, owed}
+use Rattle.dj_natives.specs.Calls.{flow_reported}
 
 abbrev most : Thresholds
 most = record { alloc = 100; invoke = 10; jump = 2; throw = 5 }

@@ -6,9 +6,9 @@ use Rattle.dj_names.specs.declared.run.Charge.{Charge}
 use Rattle.dj_names.specs.declared.run.Value.{Value}
 use Rattle.dj_model.specs.trusted.Natives.{Seen, answer}
 use Rattle.dj_model.specs.trusted.State.{Stop}
-use Rattle.dj_calls.specs.Answers.{is_answered, is_adding, is_on_numbers, is_on_texts, is_making_text, is_on_builders, is_on_throwables, is_on_objects}
-use Rattle.dj_calls.specs.Counting.{owed}
-use Rattle.dj_calls.specs.Calls.{stop_reported}
+use Rattle.dj_natives.specs.Answers.{is_answered, is_adding, is_on_numbers, is_on_texts, is_making_text, is_on_builders, is_on_throwables, is_on_objects}
+use Rattle.dj_natives.specs.Counting.{owed}
+use Rattle.dj_natives.specs.Calls.{stop_reported}
 
 pub none_is_answered : (id : NativeId) → is_adding id ≡ false → is_on_numbers id ≡ false → is_on_texts id ≡ false → is_making_text id ≡ false → is_on_builders id ≡ false → is_on_throwables id ≡ false → is_on_objects id ≡ false → is_answered id ≡ false
 none_is_answered natives.ObjectNew sums numbers texts makers builders throwables objects = absurd cc

@@ -8,8 +8,8 @@ use Rattle.dj_names.specs.declared.run.Element.TheVariants as elements
 use Rattle.dj_heap.specs.declared.object.Made.TheVariants as made
 use Rattle.dj_heap.specs.Lengths.{object_length}
 use Rattle.dj_heap.specs.Calls.{made_as}
-use Rattle.dj_calls.specs.Seen.{IsInstanceWith, LacksField}
-use Rattle.dj_calls.specs.Calls.{SetsField, set_in, with_reference, IsFillable, Fills}
+use Rattle.dj_natives.specs.Seen.{IsInstanceWith, LacksField}
+use Rattle.dj_natives.specs.Calls.{SetsField, set_in, with_reference, IsFillable, Fills}
 use Rattle.std.proofs.lemmas.List.{length-set, get_or-set_same, length-append, set-get_or, length-replicate, length-map, take_all, length-drop, length-take-le}
 use Rattle.std.proofs.lemmas.Option.{slice_get-get_or, slice_get_within, get_or_from_slice_get, slice_get-map}
 use Rattle.std.proofs.Math.Seq.{set-append_seam, set_out, get_or-append_seam, paste, paste-suc, paste-zero}

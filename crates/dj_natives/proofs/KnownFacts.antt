@@ -7,7 +7,7 @@ use Rattle.dj_names.specs.declared.descriptor.Ty.{Ty}
 use Rattle.dj_names.specs.declared.run.Element.TheVariants as elements
 use Rattle.dj_names.specs.trusted.Heaps.{Instance, Array, Text}
 use Rattle.dj_names.specs.trusted.Types.{class_type, array_type, base_array}
-use Rattle.dj_calls.specs.Known.{IsClassType, HoldsKnown, IsKnown}
+use Rattle.dj_natives.specs.Known.{IsClassType, HoldsKnown, IsKnown}
 
 -- a class, arrays of its objects, and arrays of ints
 abbrev listed : List Ty

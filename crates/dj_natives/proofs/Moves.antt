@@ -10,9 +10,9 @@ use Rattle.dj_names.specs.declared.run.Element.{Element}
 use Rattle.dj_names.specs.trusted.Heaps.{Object, Array, object_at, with_object}
 use Rattle.dj_heap.specs.Heaps.{LimitedHeap, object_in, element_in, contents_of, low_bits, IsKeptIn, Replaces, with_number}
 use Rattle.dj_model.proofs.MappedNames.{either}
-use Rattle.dj_calls.specs.declared.arrays.Copy.{Copy}
-use Rattle.dj_calls.specs.Copies.{IsCopy, Moves}
-use Rattle.dj_calls.proofs.HeapLaws.{set_twice, there_set, there_within, there_is, found_there}
+use Rattle.dj_natives.specs.declared.arrays.Copy.{Copy}
+use Rattle.dj_natives.specs.Copies.{IsCopy, Moves}
+use Rattle.dj_natives.proofs.HeapLaws.{set_twice, there_set, there_within, there_is, found_there}
 
 -- ---- lists
 

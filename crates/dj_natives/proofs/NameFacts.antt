@@ -15,8 +15,8 @@ use Rattle.dj_names.specs.trusted.Types.{of_map}
 use Rattle.dj_heap.specs.Heaps.{LimitedHeap, object_in}
 use Rattle.dj_model.specs.trusted.Types.{Prefix}
 use Rattle.dj_model.specs.trusted.Natives.{class_name, plain_class, plain_name, shown_class}
-use Rattle.dj_natives.specs.Numbered.{type_at, ArePlain, begins_array}
-use Rattle.dj_calls.specs.Names.{after_brackets, plain_elements, plain_text, shown_held, shown_at}
+use Rattle.dj_library_types.specs.Numbered.{type_at, ArePlain, begins_array}
+use Rattle.dj_natives.specs.Names.{after_brackets, plain_elements, plain_text, shown_held, shown_at}
 
 -- ---- brackets
 

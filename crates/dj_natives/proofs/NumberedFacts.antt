@@ -7,7 +7,7 @@ use Rattle.dj_names.specs.declared.descriptor.Base.TheVariants as bases
 use Rattle.dj_names.specs.declared.descriptor.Of.TheVariants as ofs
 use Rattle.dj_names.specs.declared.descriptor.Ty.{Ty}
 use Rattle.dj_names.specs.trusted.Types.{class_type}
-use Rattle.dj_natives.specs.Numbered.{ArePlain, HasNumber, HaveComponents}
+use Rattle.dj_library_types.specs.Numbered.{ArePlain, HasNumber, HaveComponents}
 
 abbrev int_arrays : ℕ → Ty
 int_arrays dims = record { dims = dims; of = ofs.Base bases.Int }

@@ -2,7 +2,7 @@
 use Rattle.std.proofs.Common.{◌≡◌, true, false, refl}
 use Rattle.dj_names.specs.declared.native.NativeId.{NativeId}
 use Rattle.dj_names.specs.declared.native.NativeId.TheVariants as natives
-use Rattle.dj_calls.specs.Answers.{is_on_numbers, is_adding, is_on_objects, is_on_throwables, is_on_texts, is_making_text, is_on_builders, is_answered}
+use Rattle.dj_natives.specs.Answers.{is_on_numbers, is_adding, is_on_objects, is_on_throwables, is_on_texts, is_making_text, is_on_builders, is_answered}
 
 pub no_on_numbers : (id : NativeId) → (id ≡ natives.AbsInt → ⊥) → (id ≡ natives.AbsLong → ⊥) → (id ≡ natives.MaxInts → ⊥) → (id ≡ natives.MaxLongs → ⊥) → (id ≡ natives.MinInts → ⊥) → (id ≡ natives.MinLongs → ⊥) → is_on_numbers id ≡ false
 no_on_numbers natives.ObjectNew a b c d e f = refl

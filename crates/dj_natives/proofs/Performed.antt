@@ -29,12 +29,12 @@ use Rattle.dj_model.specs.trusted.Arrays.{passes_limit}
 use Rattle.dj_model.specs.trusted.Natives.{Answer, Returns, Raises, MakesText, KeepsText, MakesChars, SetsFields, Adds, is_reference}
 use Rattle.dj_model.specs.trusted.Performing.{Making, Made, NotMade, making, returns_made, keeps_made, returns, text_object, chars_object, set_fields, set_object, with_fields, with_fields_in, perform}
 use Rattle.dj_model.proofs.MappedHeaps.{object_at_mapped, size_alike, new_mapped, number_alike, object_set}
-use Rattle.dj_natives.specs.Numbered.{type_at}
-use Rattle.dj_calls.specs.declared.answer.NativeAnswer.{NativeAnswer}
-use Rattle.dj_calls.specs.declared.answer.NativeAnswer.TheVariants as reported
-use Rattle.dj_calls.specs.Calls.{typed_heap, part_with, terms_of, Done, Performs, SetsField, set_in, with_reference, with_values, returned, refused_as, Fills, effect_with}
-use Rattle.dj_calls.specs.Known.{AreKnown, IsKnown}
-use Rattle.dj_calls.proofs.HeapLaws.{set_twice, there_within, there_is, there_set, remade, made_there}
+use Rattle.dj_library_types.specs.Numbered.{type_at}
+use Rattle.dj_natives.specs.declared.answer.NativeAnswer.{NativeAnswer}
+use Rattle.dj_natives.specs.declared.answer.NativeAnswer.TheVariants as reported
+use Rattle.dj_natives.specs.Calls.{typed_heap, part_with, terms_of, Done, Performs, SetsField, set_in, with_reference, with_values, returned, refused_as, Fills, effect_with}
+use Rattle.dj_natives.specs.Known.{AreKnown, IsKnown}
+use Rattle.dj_natives.proofs.HeapLaws.{set_twice, there_within, there_is, there_set, remade, made_there}
 
 -- ---- objects are made
 

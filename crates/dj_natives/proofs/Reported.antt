@@ -12,11 +12,11 @@ use Rattle.dj_model.specs.trusted.Types.{Prefix}
 use Rattle.dj_model.specs.trusted.Program.{Program}
 use Rattle.dj_model.specs.trusted.Natives as model
 use Rattle.dj_model.specs.trusted.Natives.{Seen, answer}
-use Rattle.dj_calls.specs.declared.answer.Answer as calls
-use Rattle.dj_calls.specs.Answers.{answered_by, IsAppended, Says, is_answered, is_on_objects}
-use Rattle.dj_calls.specs.Calls.{seen_of}
-use Rattle.dj_calls.specs.Seen.{units_at, is_text_at, field_at, elements_at, place_within}
-use Rattle.dj_calls.proofs.SeenFacts.{units_alike, is_text_alike, field_alike, elements_alike}
+use Rattle.dj_natives.specs.declared.answer.Answer as calls
+use Rattle.dj_natives.specs.Answers.{answered_by, IsAppended, Says, is_answered, is_on_objects}
+use Rattle.dj_natives.specs.Calls.{seen_of}
+use Rattle.dj_natives.specs.Seen.{units_at, is_text_at, field_at, elements_at, place_within}
+use Rattle.dj_natives.proofs.SeenFacts.{units_alike, is_text_alike, field_alike, elements_alike}
 
 pub reported_some : (view : Option model.Answer) (x : model.Answer) → view ≡ Some x → IfSome view (λ a. x ≡ a)
 reported_some view x e = subst (λ v. IfSome v (λ a. x ≡ a)) (sym e) refl

@@ -8,10 +8,10 @@ use Rattle.dj_heap.specs.Heaps.{LimitedHeap, object_in}
 use Rattle.dj_model.specs.trusted.Types.{Prefix}
 use Rattle.dj_model.specs.trusted.Performing.{units_in, is_text_in, object_field, elements_in, shown_in}
 use Rattle.dj_model.proofs.MappedHeaps.{object_at_mapped, class_of_mapped}
-use Rattle.dj_natives.specs.Numbered.{type_at}
-use Rattle.dj_calls.specs.Seen.{units_held, is_text_held, field_held, elements_held, units_at, is_text_at, field_at, elements_at}
-use Rattle.dj_calls.specs.Names.{shown_held, shown_at}
-use Rattle.dj_calls.specs.Calls.{typed_heap}
+use Rattle.dj_library_types.specs.Numbered.{type_at}
+use Rattle.dj_natives.specs.Seen.{units_held, is_text_held, field_held, elements_held, units_at, is_text_at, field_at, elements_at}
+use Rattle.dj_natives.specs.Names.{shown_held, shown_at}
+use Rattle.dj_natives.specs.Calls.{typed_heap}
 
 module _ (types : List Ty) where
   abbrev pub typed : Option (Object ℕ) → Option (Object Ty)

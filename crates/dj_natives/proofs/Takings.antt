@@ -9,8 +9,8 @@ use Rattle.dj_names.specs.declared.run.Element.{Element}
 use Rattle.dj_names.specs.trusted.Heaps.{Object, Array}
 use Rattle.dj_heap.specs.Heaps.{LimitedHeap, object_in, element_in, contents_of}
 use Rattle.dj_model.specs.trusted.Natives as model
-use Rattle.dj_calls.specs.declared.arrays.Copy.{Copy}
-use Rattle.dj_calls.specs.Copies.{IsCopy, Takes}
+use Rattle.dj_natives.specs.declared.arrays.Copy.{Copy}
+use Rattle.dj_natives.specs.Copies.{IsCopy, Takes}
 
 -- this many are taken, and the rest decides
 abbrev pub TakesTo : (ℕ → Bool) → LimitedHeap → Copy → ℕ → Type 0

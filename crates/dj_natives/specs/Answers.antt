@@ -9,10 +9,10 @@ use Rattle.dj_names.specs.declared.native.NativeId.TheVariants as natives
 use Rattle.dj_heap.specs.Heaps.{LimitedHeap}
 use Rattle.dj_model.specs.trusted.Natives as model
 use Rattle.dj_model.specs.trusted.Natives.{Seen, answer}
-use Rattle.dj_calls.specs.Counting.{owed}
-use Rattle.dj_calls.specs.Seen.{units_at, field_at}
-use Rattle.dj_calls.specs.declared.answer.Answer.{Answer}
-use Rattle.dj_calls.specs.declared.answer.Answer.TheVariants as answers
+use Rattle.dj_natives.specs.Counting.{owed}
+use Rattle.dj_natives.specs.Seen.{units_at, field_at}
+use Rattle.dj_natives.specs.declared.answer.Answer.{Answer}
+use Rattle.dj_natives.specs.declared.answer.Answer.TheVariants as answers
 
 -- without memory there is none
 abbrev pub answer_view : Answer → Option model.Answer

@@ -17,13 +17,13 @@ use Rattle.dj_model.specs.trusted.State.{Terms, Counting, Uncounted, Accounted, 
 use Rattle.dj_model.specs.trusted.Natives as model
 use Rattle.dj_model.specs.trusted.Natives.{Seen, reference}
 use Rattle.dj_model.specs.trusted.Performing.{class_at_number, seen, perform, native, with_fields}
-use Rattle.dj_calls.specs.declared.answer.Answer.{Answer}
-use Rattle.dj_calls.specs.declared.answer.NativeAnswer.{NativeAnswer}
-use Rattle.dj_calls.specs.declared.answer.NativeAnswer.TheVariants as reported
-use Rattle.dj_calls.specs.Counting.{Counter}
-use Rattle.dj_natives.specs.Numbered.{type_at}
-use Rattle.dj_calls.specs.Known.{AreKnown}
-use Rattle.dj_calls.specs.Answers.{answer_view}
+use Rattle.dj_natives.specs.declared.answer.Answer.{Answer}
+use Rattle.dj_natives.specs.declared.answer.NativeAnswer.{NativeAnswer}
+use Rattle.dj_natives.specs.declared.answer.NativeAnswer.TheVariants as reported
+use Rattle.dj_natives.specs.Counting.{Counter}
+use Rattle.dj_library_types.specs.Numbered.{type_at}
+use Rattle.dj_natives.specs.Known.{AreKnown}
+use Rattle.dj_natives.specs.Answers.{answer_view}
 
 -- ---- what the model of a run has in the place of the heap and the accounter
 

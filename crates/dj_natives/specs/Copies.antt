@@ -10,9 +10,9 @@ use Rattle.dj_model.specs.trusted.Program.{Program}
 use Rattle.dj_model.specs.trusted.Natives as model
 use Rattle.dj_names.specs.declared.run.Element.TheVariants as elements
 use Rattle.dj_names.specs.declared.run.Raised.TheVariants as raises
-use Rattle.dj_calls.specs.declared.answer.NativeAnswer.{NativeAnswer}
-use Rattle.dj_calls.specs.Calls.{seen_of, Done}
-use Rattle.dj_calls.specs.declared.arrays.Copy.{Copy}
+use Rattle.dj_natives.specs.declared.answer.NativeAnswer.{NativeAnswer}
+use Rattle.dj_natives.specs.Calls.{seen_of, Done}
+use Rattle.dj_natives.specs.declared.arrays.Copy.{Copy}
 
 -- what the model answers for these arguments
 abbrev pub copy_answer : Program → Prefix → List Ty → LimitedHeap → List Value → model.Answer

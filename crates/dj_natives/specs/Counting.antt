@@ -10,9 +10,9 @@ use Rattle.dj_model.specs.trusted.State.{Account}
 use Rattle.dj_model.specs.trusted.Charging as model
 use Rattle.dj_model.specs.trusted.Charging.{charge_one}
 use Rattle.dj_model.specs.trusted.Natives as answered
-use Rattle.dj_calls.specs.declared.amount.Amount.{Amount}
-use Rattle.dj_calls.specs.declared.accounter.Charged.{Charged}
-use Rattle.dj_calls.specs.declared.accounter.Charged.TheVariants as charged
+use Rattle.dj_natives.specs.declared.amount.Amount.{Amount}
+use Rattle.dj_natives.specs.declared.accounter.Charged.{Charged}
+use Rattle.dj_natives.specs.declared.accounter.Charged.TheVariants as charged
 
 pub record Counter : Type 0 where
   pub limits : Thresholds

@@ -12,7 +12,7 @@ use Rattle.dj_names.specs.trusted.Values.{value_kind}
 use Rattle.dj_heap.specs.Heaps.{LimitedHeap, object_in}
 use Rattle.dj_model.specs.trusted.Natives.{is_reference, reference, asks}
 use Rattle.dj_model.specs.NativeKinds.{native_signature}
-use Rattle.dj_natives.specs.Numbered.{type_at, holds_references}
+use Rattle.dj_library_types.specs.Numbered.{type_at, holds_references}
 
 -- the type is that of a class
 abbrev pub IsClassType : Ty → Type 0

@@ -5,7 +5,7 @@ use Rattle.dj_names.specs.trusted.Heaps.{Object, class_of}
 use Rattle.dj_heap.specs.Heaps.{LimitedHeap, object_in}
 use Rattle.dj_model.specs.trusted.Types.{Prefix}
 use Rattle.dj_model.specs.trusted.Natives.{plain_name, shown_class}
-use Rattle.dj_natives.specs.Numbered.{type_at}
+use Rattle.dj_library_types.specs.Numbered.{type_at}
 
 abbrev pub shown_held : Prefix → List Ty → Option (Object ℕ) → List ℕ
 shown_held prefix types None = []

@@ -1,10 +1,10 @@
 ghost use Rattle.std.specs.Prelude.{◌≡◌, ◌<◌, ◌↔◌, IsTrue, codes, length};
 ghost use Rattle.dj_names.specs.declared.descriptor.Base.TheVariants as bases;
 ghost use Rattle.dj_names.specs.trusted.Types.{base_array};
-ghost use Rattle.dj_natives.specs.Numbered.{type_at};
+ghost use Rattle.dj_library_types.specs.Numbered.{type_at};
 ghost use Rattle.dj_model.specs.trusted.Linking.{is_subtype};
 
-use dj_natives::Classes;
+use dj_library_types::Classes;
 
 /// Whether a reference that is of no object counts as one of the class of this number: it counts as an array of booleans.
 pub fn takes_absent<C: Classes>(classes: &C, class: u32) -> bool

@@ -2,7 +2,7 @@ ghost use Rattle.std.specs.Prelude.{◌≡◌, ◌≤◌, ◌+◌, ◌^◌, pos}
 ghost use Rattle.dj_names.specs.declared.run.Charge.TheVariants as charges;
 ghost use Rattle.dj_model.specs.trusted.Charging as model;
 ghost use Rattle.dj_model.specs.trusted.Natives.{allocation_amount, array_amount};
-ghost use Rattle.dj_calls.specs.Counting.{AreLow, Adds, text_amount};
+ghost use Rattle.dj_natives.specs.Counting.{AreLow, Adds, text_amount};
 
 use crate::amounts::{added, allocated, array_bytes, passes, text_bytes};
 use dj_names::{Charge, Costs, Thresholds};
@@ -27,7 +27,7 @@ pub struct Accounter {
 
 impl Model for Accounter {
     ghost use Rattle.dj_model.specs.Laws.{IsReportedBy};
-    ghost use Rattle.dj_calls.specs.Counting.{Counter, AreLow};
+    ghost use Rattle.dj_natives.specs.Counting.{Counter, AreLow};
 
     ghost Value = { Counter };
 

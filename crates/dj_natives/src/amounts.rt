@@ -2,7 +2,7 @@ ghost use Rattle.std.specs.Prelude.{◌≡◌, ◌+◌, ◌^◌, ◌<◌, ◌≤
 ghost use Rattle.dj_names.specs.trusted.Heaps as heaps;
 ghost use Rattle.dj_model.specs.trusted.Charging as model;
 ghost use Rattle.dj_model.specs.trusted.Natives.{allocation_amount, array_amount};
-ghost use Rattle.dj_calls.specs.Counting.{text_amount};
+ghost use Rattle.dj_natives.specs.Counting.{text_amount};
 
 use dj_names::{Charge, Costs, Thresholds};
 

@@ -1,7 +1,7 @@
 ghost use Rattle.std.specs.Prelude.{◌≡◌, pos, Some, IfSome};
 ghost use Rattle.dj_model.specs.trusted.Natives as model;
-ghost use Rattle.dj_calls.specs.Answers.{answer_view};
-ghost use Rattle.dj_calls.specs.declared.answer.Answer.TheVariants as answers;
+ghost use Rattle.dj_natives.specs.Answers.{answer_view};
+ghost use Rattle.dj_natives.specs.declared.answer.Answer.TheVariants as answers;
 
 use crate::amount::Amount;
 use dj_names::{Raised, Units, Value};

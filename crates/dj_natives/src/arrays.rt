@@ -6,18 +6,18 @@ ghost use Rattle.dj_names.specs.declared.native.NativeId.TheVariants.{ArrayCopy}
 ghost use Rattle.dj_names.specs.declared.run.Element.TheVariants as elements;
 ghost use Rattle.dj_model.specs.NativeKinds.{native_signature};
 ghost use Rattle.dj_model.specs.trusted.Natives as model;
-ghost use Rattle.dj_calls.specs.Calls.{Acts, Done};
-ghost use Rattle.dj_calls.specs.Copies.{as_place, contents_at, fits_at, IsCopy, Moves, MovesSo, CopiesAll, IsPlaces, Takes, copy_answer, takes_at};
-ghost use Rattle.dj_calls.specs.Known.{AreKnown};
-ghost use Rattle.dj_calls.specs.Seen.{elements_at, element_of};
+ghost use Rattle.dj_natives.specs.Calls.{Acts, Done};
+ghost use Rattle.dj_natives.specs.Copies.{as_place, contents_at, fits_at, IsCopy, Moves, MovesSo, CopiesAll, IsPlaces, Takes, copy_answer, takes_at};
+ghost use Rattle.dj_natives.specs.Known.{AreKnown};
+ghost use Rattle.dj_natives.specs.Seen.{elements_at, element_of};
 
 use crate::absent::takes_absent;
 use crate::answer::NativeAnswer;
 use crate::arguments::{int, reference};
 use crate::seen::{array_number, object_number};
 use dj_heap::{Heap, Made};
+use dj_library_types::Classes;
 use dj_names::{Element, Raised, Value};
-use dj_natives::Classes;
 
 /// What is copied: this many elements from a place of one array to a place of another.
 #[derive(Clone, Copy)]

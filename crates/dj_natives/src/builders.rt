@@ -4,9 +4,9 @@ ghost use Rattle.dj_names.specs.declared.descriptor.Ty.{Ty};
 ghost use Rattle.dj_model.specs.trusted.Types.{Prefix};
 ghost use Rattle.dj_model.specs.trusted.Program.{Program};
 ghost use Rattle.dj_model.specs.trusted.Natives as model;
-ghost use Rattle.dj_calls.specs.Answers.{answer_view, answered_by, IsAppended, Says, is_on_builders};
-ghost use Rattle.dj_calls.specs.Calls.{seen_of};
-ghost use Rattle.dj_calls.specs.Seen.{units_at, field_at, null_or_units};
+ghost use Rattle.dj_natives.specs.Answers.{answer_view, answered_by, IsAppended, Says, is_on_builders};
+ghost use Rattle.dj_natives.specs.Calls.{seen_of};
+ghost use Rattle.dj_natives.specs.Seen.{units_at, field_at, null_or_units};
 
 use crate::answer::{Answer, gives_int};
 use crate::arguments::{flag, number, reference, unit};

@@ -1,8 +1,8 @@
 ghost use Rattle.std.specs.Prelude.{◌≡◌, false, Some, None};
-ghost use Rattle.dj_calls.specs.Answers.{Says, is_answered};
-ghost use Rattle.dj_calls.specs.Calls.{Acts, Calls, Finishes, seen_of};
-ghost use Rattle.dj_calls.specs.Counting.{lent, left};
-ghost use Rattle.dj_calls.specs.Known.{AreKnown, AreArguments};
+ghost use Rattle.dj_natives.specs.Answers.{Says, is_answered};
+ghost use Rattle.dj_natives.specs.Calls.{Acts, Calls, Finishes, seen_of};
+ghost use Rattle.dj_natives.specs.Counting.{lent, left};
+ghost use Rattle.dj_natives.specs.Known.{AreKnown, AreArguments};
 
 use crate::accounter::{Accounter, Charged};
 use crate::answer::{Answer, NativeAnswer};
@@ -17,8 +17,8 @@ use crate::sums::{add_due, due, on_sums};
 use crate::texts::on_texts;
 use crate::throwables::on_throwables;
 use dj_heap::Heap;
+use dj_library_types::Classes;
 use dj_names::{NativeId, Value};
-use dj_natives::Classes;
 use std::alloc::Global;
 
 /// Calls a native method that the host doesn't answer. What it makes is charged first, where there is an accounter.

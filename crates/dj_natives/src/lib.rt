@@ -25,4 +25,5 @@ pub use accounter::{Accounter, Charged};
 pub use answer::NativeAnswer;
 pub use arguments::reference;
 pub use call::call_native;
+pub use dj_library_types::{Classes, LibClass, LibMethod, LibMethods, Library, Names};
 pub use objects::make_object_text;

@@ -3,11 +3,11 @@ ghost use Rattle.dj_names.specs.declared.descriptor.Ty.{Ty};
 ghost use Rattle.dj_model.specs.trusted.Types.{Prefix};
 ghost use Rattle.dj_model.specs.trusted.Program.{Program};
 ghost use Rattle.dj_model.specs.trusted.Natives as model;
-ghost use Rattle.dj_calls.specs.Answers.{answer_view, answered_by, Says, is_making_text};
-ghost use Rattle.dj_calls.specs.Calls.{seen_of};
-ghost use Rattle.dj_calls.specs.Known.{HoldsChars, IsFitting, IsOfChars};
+ghost use Rattle.dj_natives.specs.Answers.{answer_view, answered_by, Says, is_making_text};
+ghost use Rattle.dj_natives.specs.Calls.{seen_of};
+ghost use Rattle.dj_natives.specs.Known.{HoldsChars, IsFitting, IsOfChars};
 ghost use Rattle.dj_heap.specs.Heaps.{object_in};
-ghost use Rattle.dj_calls.specs.Seen.{units_at, elements_at, place_within};
+ghost use Rattle.dj_natives.specs.Seen.{units_at, elements_at, place_within};
 
 use crate::answer::{Answer, gives_reference};
 use crate::arguments::{flag, number, reference, unit};

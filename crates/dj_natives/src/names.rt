@@ -1,11 +1,11 @@
 ghost use Rattle.std.specs.Prelude.{◌≡◌, ◌<◌, ◌≤◌, ◌++◌, IfOk, OnOk, length};
 ghost use Rattle.dj_model.specs.trusted.Natives as model;
 ghost use Rattle.dj_model.specs.trusted.Natives.{class_name, plain_class};
-ghost use Rattle.dj_natives.specs.Numbered.{type_at};
-ghost use Rattle.dj_calls.specs.Names.{after_brackets, plain_elements, plain_text};
+ghost use Rattle.dj_library_types.specs.Numbered.{type_at};
+ghost use Rattle.dj_natives.specs.Names.{after_brackets, plain_elements, plain_text};
 
+use dj_library_types::Classes;
 use dj_names::{Name, Units, is_modified_utf8, units_of};
-use dj_natives::Classes;
 use std::alloc::{AllocError, Global};
 
 // What comes before the names of the library's classes.

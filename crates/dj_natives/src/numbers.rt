@@ -3,7 +3,7 @@ ghost use Rattle.std.specs.Int.{w32, w64, int_wrap};
 ghost use Rattle.dj_names.specs.trusted.Values.{value_kind};
 ghost use Rattle.dj_model.specs.NativeKinds.{native_signature};
 ghost use Rattle.dj_model.specs.trusted.Natives.{Seen};
-ghost use Rattle.dj_calls.specs.Answers.{Says, is_on_numbers};
+ghost use Rattle.dj_natives.specs.Answers.{Says, is_on_numbers};
 ghost use Rattle.std.specs.Prelude.{unsigned_abs};
 
 use crate::answer::{Answer, given};

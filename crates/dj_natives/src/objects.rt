@@ -1,13 +1,13 @@
 ghost use Rattle.std.specs.Prelude.{◌≡◌, IfOk, IfSome};
 ghost use Rattle.dj_model.specs.trusted.Natives.{MakesText, object_text};
-ghost use Rattle.dj_calls.specs.Answers.{answer_view, Says, is_on_objects};
-ghost use Rattle.dj_calls.specs.Names.{shown_at};
-ghost use Rattle.dj_calls.specs.Calls.{Acts, Done, seen_of, typed_heap};
+ghost use Rattle.dj_natives.specs.Answers.{answer_view, Says, is_on_objects};
+ghost use Rattle.dj_natives.specs.Names.{shown_at};
+ghost use Rattle.dj_natives.specs.Calls.{Acts, Done, seen_of, typed_heap};
 ghost use Rattle.dj_names.specs.declared.native.NativeId.TheVariants.{CheckCatch};
 ghost use Rattle.dj_model.specs.trusted.Types.{is_stop};
-ghost use Rattle.dj_natives.specs.Numbered.{is_number};
+ghost use Rattle.dj_library_types.specs.Numbered.{is_number};
 ghost use Rattle.dj_model.specs.trusted.Performing.{class_at_number};
-ghost use Rattle.dj_calls.specs.Known.{AreKnown};
+ghost use Rattle.dj_natives.specs.Known.{AreKnown};
 
 use crate::answer::{Answer, NativeAnswer, given, gives_int, gives_reference, gives_truth};
 use crate::arguments::reference;
@@ -15,8 +15,8 @@ use crate::names::{name_units, plain_name, with_dots};
 use crate::perform::make_text;
 use crate::seen::{object_number, put_text};
 use dj_heap::Heap;
+use dj_library_types::Classes;
 use dj_names::{NativeId, Units, Value};
-use dj_natives::Classes;
 use std::alloc::{AllocError, Global};
 
 /// The answer of a method of Object or System; where the host answers the method, only that for null.

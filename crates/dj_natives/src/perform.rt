@@ -1,15 +1,15 @@
 ghost use Rattle.std.specs.Prelude.{◌≡◌, ◌<◌, ◌≤◌, ◌^◌, [], ◌∷◌, IfOk, OnErr, length, Some};
 ghost use Rattle.dj_names.specs.declared.run.Value.TheVariants as values;
 ghost use Rattle.dj_model.specs.trusted.Natives as model;
-ghost use Rattle.dj_calls.specs.Answers.{answer_view};
-ghost use Rattle.dj_calls.specs.Calls.{Done, Finished, Fills, IsFillable, SetsField, refused_as, returned};
-ghost use Rattle.dj_calls.specs.Known.{AreKnown};
+ghost use Rattle.dj_natives.specs.Answers.{answer_view};
+ghost use Rattle.dj_natives.specs.Calls.{Done, Finished, Fills, IsFillable, SetsField, refused_as, returned};
+ghost use Rattle.dj_natives.specs.Known.{AreKnown};
 
 use crate::answer::{Answer, NativeAnswer};
 use crate::seen::instance_with;
 use dj_heap::{Heap, HeapError};
+use dj_library_types::Classes;
 use dj_names::{Element, Units, Value};
-use dj_natives::Classes;
 
 /// Does what an answer says, once its charge is paid.
 pub fn perform<C: Classes>(classes: &C, heap: &mut Heap, answer: Answer) -> NativeAnswer

@@ -1,5 +1,5 @@
 ghost use Rattle.std.specs.Prelude.{◌≡◌, ◌≤◌, ◌<◌, Some, OnOk, ◌++◌, length, slice_get, slice_range};
-ghost use Rattle.dj_calls.specs.Seen.{units_at, is_text_at, field_at, HasField, IsArrayThere, IsTextThere, IsThere};
+ghost use Rattle.dj_natives.specs.Seen.{units_at, is_text_at, field_at, HasField, IsArrayThere, IsTextThere, IsThere};
 
 use dj_heap::{Heap, Made};
 use dj_names::Units;

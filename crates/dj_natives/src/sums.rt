@@ -3,8 +3,8 @@ ghost use Rattle.dj_names.specs.declared.run.Charge.TheVariants as charges;
 ghost use Rattle.dj_names.specs.trusted.Values.{value_kind};
 ghost use Rattle.dj_model.specs.NativeKinds.{native_signature};
 ghost use Rattle.dj_model.specs.trusted.Natives.{Seen};
-ghost use Rattle.dj_calls.specs.Answers.{Says, is_adding, AddsSo, IsDue};
-ghost use Rattle.dj_calls.specs.Counting.{Counts, due_view, text_amount};
+ghost use Rattle.dj_natives.specs.Answers.{Says, is_adding, AddsSo, IsDue};
+ghost use Rattle.dj_natives.specs.Counting.{Counts, due_view, text_amount};
 
 use crate::accounter::{Accounter, Charged};
 use crate::amount::Amount;

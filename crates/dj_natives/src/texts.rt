@@ -6,9 +6,9 @@ ghost use Rattle.dj_names.specs.trusted.Types.{same_name};
 ghost use Rattle.dj_model.specs.trusted.Types.{Prefix};
 ghost use Rattle.dj_model.specs.trusted.Program.{Program};
 ghost use Rattle.dj_model.specs.trusted.Natives as model;
-ghost use Rattle.dj_calls.specs.Answers.{answer_view, Says, is_on_texts};
-ghost use Rattle.dj_calls.specs.Calls.{seen_of};
-ghost use Rattle.dj_calls.specs.Seen.{units_at, is_text_at};
+ghost use Rattle.dj_natives.specs.Answers.{answer_view, Says, is_on_texts};
+ghost use Rattle.dj_natives.specs.Calls.{seen_of};
+ghost use Rattle.dj_natives.specs.Seen.{units_at, is_text_at};
 
 use crate::answer::{Answer, gives_int, gives_reference, gives_truth};
 use crate::arguments::{number, reference};

@@ -1,7 +1,7 @@
 ghost use Rattle.std.specs.Prelude.{◌≡◌, ◌%◌, ◌^◌};
-ghost use Rattle.dj_calls.specs.Seen.{field_at};
-ghost use Rattle.dj_calls.specs.Answers.{Says, is_on_throwables};
-ghost use Rattle.dj_calls.specs.Calls.{seen_of};
+ghost use Rattle.dj_natives.specs.Seen.{field_at};
+ghost use Rattle.dj_natives.specs.Answers.{Says, is_on_throwables};
+ghost use Rattle.dj_natives.specs.Calls.{seen_of};
 ghost use Rattle.dj_names.specs.declared.descriptor.Ty.{Ty};
 ghost use Rattle.dj_model.specs.trusted.Types.{Prefix};
 ghost use Rattle.dj_model.specs.trusted.Program.{Program};

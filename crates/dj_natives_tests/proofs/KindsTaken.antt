@@ -14,8 +14,8 @@ use Rattle.dj_names.specs.declared.native.NativeId.{NativeId}
 use Rattle.dj_heap.specs.Heaps.{LimitedHeap, object_in}
 use Rattle.dj_model.specs.trusted.Natives.{reference}
 use Rattle.dj_model.specs.trusted.Numbers.{is_of_kind}
-use Rattle.dj_calls.specs.Known.{AreArguments, IsOfChars}
-use Rattle.dj_call_tests.specs.Arguments.{IsTaken}
+use Rattle.dj_natives.specs.Known.{AreArguments, IsOfChars}
+use Rattle.dj_natives_tests.specs.Arguments.{IsTaken}
 
 pub kind_is : (kind : Kind) (value : Value) → is_of_kind kind value ≡ true → value_kind value ≡ kind
 kind_is kinds.Int (values.Int z) e = refl

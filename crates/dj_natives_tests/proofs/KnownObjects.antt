@@ -15,11 +15,11 @@ use Rattle.dj_heap.specs.declared.object.Made.TheVariants as made
 use Rattle.dj_heap.specs.Calls.{made_as}
 use Rattle.dj_heap.specs.Heaps.{LimitedHeap, object_in}
 use Rattle.dj_model.specs.trusted.Program.{Program, Class}
-use Rattle.dj_natives.specs.Numbered.{IsNumberOf, type_at, holds_references, component_of}
-use Rattle.dj_calls.specs.Known.{AreKnown, IsKnown, IsClassType}
-use Rattle.dj_members.specs.Numbering.{AreNumbered}
-use Rattle.dj_call_tests.specs.Arguments.{IsKnownAt}
-use Rattle.dj_call_tests.specs.Few.{few_types, few_program, few_arrays}
+use Rattle.dj_library_types.specs.Numbered.{IsNumberOf, type_at, holds_references, component_of}
+use Rattle.dj_natives.specs.Known.{AreKnown, IsKnown, IsClassType}
+use Rattle.dj_member_effects.specs.Numbering.{AreNumbered}
+use Rattle.dj_natives_tests.specs.Arguments.{IsKnownAt}
+use Rattle.dj_natives_tests.specs.Few.{few_types, few_program, few_arrays}
 
 -- ---- lists
 

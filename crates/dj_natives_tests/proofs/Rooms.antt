@@ -10,8 +10,8 @@ use Rattle.dj_model.specs.trusted.Arrays.{make_array, make_elements, make, passe
 use Rattle.dj_heap.specs.Heaps.{LimitedHeap}
 use Rattle.dj_stack.specs.Frames.{StackFrame, top_operands, top_room}
 use Rattle.dj_effects.specs.DoesOnHeap.{FitsOnHeap, FitsOnHeapIn}
-use Rattle.dj_members.specs.Objects.{new_by}
-use Rattle.dj_call_tests.specs.Arguments.{HasRoom}
+use Rattle.dj_member_effects.specs.Objects.{new_by}
+use Rattle.dj_natives_tests.specs.Arguments.{HasRoom}
 
 elements_fit : (b : Bool) (class : ℕ) (element : Element) (heap : Heap ℕ) (n room : ℕ) (rest : List Value) → length rest + 1 ≤ room
     → length (make_elements b class element heap (values.Int (pos n) ∷ rest) rest n).operands ≤ room

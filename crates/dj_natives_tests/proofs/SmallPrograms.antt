@@ -9,8 +9,8 @@ use Rattle.dj_names.specs.declared.descriptor.Ty.{Ty}
 use Rattle.dj_names.specs.trusted.Types.{Name, class_type, component_type}
 use Rattle.dj_model.specs.trusted.Linking.{is_subtype}
 use Rattle.dj_model.specs.trusted.Natives.{class_name}
-use Rattle.dj_natives.specs.Numbered.{type_at, holds_references, begins_array, ArePlain, HasNumber, HaveComponents}
-use Rattle.dj_call_tests.specs.Few.{AllAt, EachBelow, few_types, few_program, few_prefix, few_names, few_below, lent_lists}
+use Rattle.dj_library_types.specs.Numbered.{type_at, holds_references, begins_array, ArePlain, HasNumber, HaveComponents}
+use Rattle.dj_natives_tests.specs.Few.{AllAt, EachBelow, few_types, few_program, few_prefix, few_names, few_below, lent_lists}
 
 -- ---- one of all
 

@@ -9,7 +9,7 @@ use Rattle.dj_names.specs.trusted.Heaps.{field_bits}
 use Rattle.dj_model.specs.trusted.Numbers.{is_of_kind}
 use Rattle.dj_stack.specs.Frames.{StackFrame, top_operands}
 use Rattle.dj_effects.specs.declared.way.Way.{Way}
-use Rattle.dj_members.specs.Statics.{OnStatics, leaves, put_static_by, DoesOnStatics}
+use Rattle.dj_member_effects.specs.Statics.{OnStatics, leaves, put_static_by, DoesOnStatics}
 
 put_in : (b : Bool) (statics after : List ℕ) (place bits : ℕ) (rest operands : List Value) → (if b then Some (leaves (set statics place bits) rest) else None) ≡ Some (leaves after operands)
     → length after ≡ length statics

@@ -10,7 +10,7 @@ use Rattle.dj_heap.specs.Heaps.{LimitedHeap, object_in}
 use Rattle.dj_model.specs.trusted.Natives.{asks, reference}
 use Rattle.dj_model.specs.NativeKinds.{native_signature}
 use Rattle.dj_stack.specs.Frames.{StackFrame, top_operands, top_room}
-use Rattle.dj_calls.specs.Known.{IsFitting, IsOfChars, IsKnown}
+use Rattle.dj_natives.specs.Known.{IsFitting, IsOfChars, IsKnown}
 
 -- a method that doesn't ask the host, what it takes, and whether that is all that it wants of its arguments
 pub record IsTaken (row : NativeId × Bor (List Kind) × Bool) : Type 0 where

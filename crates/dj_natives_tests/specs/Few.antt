@@ -9,7 +9,7 @@ use Rattle.dj_model.specs.trusted.Linking.{is_subtype}
 use Rattle.dj_model.specs.trusted.Natives.{class_name}
 use Rattle.dj_model.specs.trusted.Program.{Class, Program}
 use Rattle.dj_model.specs.trusted.Types.{Prefix, object_name, string_name}
-use Rattle.dj_natives.specs.Numbered.{type_at, IsNumberOf, superclass_type, component_of}
+use Rattle.dj_library_types.specs.Numbered.{type_at, IsNumberOf, superclass_type, component_of}
 
 abbrev pub class_of : Name → Option Name → Class
 class_of name superclass = record {

@@ -1,8 +1,8 @@
 ghost use Rattle.std.specs.Prelude.{◌≤◌, ◌^◌};
 
 use crate::sums::{ARRAYS, SUMS};
-use dj_calls::{Accounter, Charged};
 use dj_names::{Charge, Costs, Thresholds};
+use dj_natives::{Accounter, Charged};
 
 /// What is added.
 #[derive(Clone, Copy)]

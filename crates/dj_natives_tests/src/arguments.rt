@@ -2,8 +2,8 @@ use crate::few::Few;
 use crate::heaps::{set_element, set_field};
 use crate::rows::{Argument, Text};
 use dj_heap::Heap;
+use dj_library_types::Classes;
 use dj_names::{Element, Units, Value, units_of};
-use dj_natives::Classes;
 use std::alloc::Global;
 
 /// The units of a text, which is short.

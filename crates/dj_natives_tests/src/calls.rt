@@ -7,10 +7,10 @@ use crate::rows::{
     After, AskedCall, ENOUGH, KeepingCall, LimitedCall, MakingCall, Text, WantedAnswer,
 };
 use crate::taken::are_arguments;
-use dj_calls::{Accounter, NativeAnswer, call_native};
 use dj_heap::Heap;
+use dj_library_types::Classes;
 use dj_names::{NativeId, Value};
-use dj_natives::Classes;
+use dj_natives::{Accounter, NativeAnswer, call_native};
 use std::alloc::Global;
 
 // ---- expected answers

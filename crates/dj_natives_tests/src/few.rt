@@ -1,8 +1,8 @@
 ghost use Rattle.std.specs.Prelude.{◌≡◌, ◌<◌, length, IfSome};
-ghost use Rattle.dj_call_tests.specs.Few.{few_types, few_program, few_names, few_below, lent_lists, AllAt, IsSuper, IsComponent};
+ghost use Rattle.dj_natives_tests.specs.Few.{few_types, few_program, few_names, few_below, lent_lists, AllAt, IsSuper, IsComponent};
 
-use dj_members::Holders;
-use dj_natives::Classes;
+use dj_library_types::Classes;
+use dj_member_effects::Holders;
 
 /// A small program: that under the prefix, or the plain one.
 #[derive(Clone, Copy)]
@@ -239,7 +239,7 @@ impl Few {
 }
 
 impl Classes for Few {
-    ghost use Rattle.dj_call_tests.specs.Few.{few_types, few_program, few_prefix};
+    ghost use Rattle.dj_natives_tests.specs.Few.{few_types, few_program, few_prefix};
 
     ghost types = { λ few. few_types few.boxed };
 
@@ -282,7 +282,7 @@ impl Classes for Few {
 
 impl Holders for Few {
     ghost use Rattle.std.specs.Prelude.{length};
-    ghost use Rattle.dj_call_tests.specs.Few.{few_types, few_has};
+    ghost use Rattle.dj_natives_tests.specs.Few.{few_types, few_has};
 
     ghost count = { λ few. length (few_types few.boxed) };
 

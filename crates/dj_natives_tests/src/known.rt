@@ -5,14 +5,14 @@ ghost use Rattle.dj_names.specs.declared.run.Element.TheVariants as elements;
 ghost use Rattle.dj_heap.specs.Calls.{made_as};
 ghost use Rattle.dj_heap.specs.Heaps.{object_in};
 ghost use Rattle.dj_heap.specs.declared.object.Made.TheVariants as made;
-ghost use Rattle.dj_calls.specs.Known.{AreKnown, IsKnown};
-ghost use Rattle.dj_call_tests.specs.Few.{few_types};
-ghost use Rattle.dj_call_tests.specs.Arguments.{IsKnownAt};
+ghost use Rattle.dj_natives.specs.Known.{AreKnown, IsKnown};
+ghost use Rattle.dj_natives_tests.specs.Few.{few_types};
+ghost use Rattle.dj_natives_tests.specs.Arguments.{IsKnownAt};
 
 use crate::few::Few;
 use dj_heap::{Heap, Made};
+use dj_library_types::Classes;
 use dj_names::Element;
-use dj_natives::Classes;
 
 // Whether an array of references is of a class of such arrays.
 fn is_known_array(few: &Few, heap: &Heap, r: u32, class: u32) -> bool

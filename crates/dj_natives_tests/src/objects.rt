@@ -1,7 +1,7 @@
 ghost use Rattle.std.specs.Prelude.{◌≡◌, ◌<◌, false, length, IsTrue, IfSome};
-ghost use Rattle.dj_members.specs.Numbering.{AreNumbered};
-ghost use Rattle.dj_call_tests.specs.Few.{few_types};
-ghost use Rattle.dj_call_tests.specs.Arguments.{HasRoom};
+ghost use Rattle.dj_member_effects.specs.Numbering.{AreNumbered};
+ghost use Rattle.dj_natives_tests.specs.Few.{few_types};
+ghost use Rattle.dj_natives_tests.specs.Arguments.{HasRoom};
 
 use crate::arguments::units;
 use crate::few::Few;
@@ -10,12 +10,12 @@ use crate::known::are_known;
 use crate::rows::Text;
 use dj_effects::{Flow, Way, new_array, pop};
 use dj_heap::Heap;
-use dj_members::{
+use dj_library_types::Classes;
+use dj_member_effects::{
     FieldAccess, Literals, Statics, Thrown, check_cast, get_field, get_static, instance_of,
     new_object, push_text, put_field, put_static, throw_top,
 };
 use dj_names::{Element, Kind, Raised, Value};
-use dj_natives::Classes;
 use dj_stack::Frames;
 use std::alloc::Global;
 

@@ -3,8 +3,8 @@ ghost use Rattle.std.specs.List.{AllByRecursion};
 ghost use Rattle.dj_names.specs.trusted.Values.{value_kind};
 ghost use Rattle.dj_heap.specs.Heaps.{object_in};
 ghost use Rattle.dj_model.specs.trusted.Natives.{reference};
-ghost use Rattle.dj_calls.specs.Known.{AreArguments, IsOfChars};
-ghost use Rattle.dj_call_tests.specs.Arguments.{IsTaken};
+ghost use Rattle.dj_natives.specs.Known.{AreArguments, IsOfChars};
+ghost use Rattle.dj_natives_tests.specs.Arguments.{IsTaken};
 
 use crate::heaps::has_object;
 use dj_effects::is_of_kind;

@@ -10,14 +10,14 @@ use Rattle.dj_names.specs.declared.native.NativeId.TheVariants as natives
 use Rattle.dj_model.specs.trusted.Program.{Program, Class, Field, Method, Abstract, Native}
 use Rattle.dj_model.specs.trusted.Linking.{most_classes, FoundMethod, FoundField, place_of}
 use Rattle.dj_model.specs.SmallRuns.{class_with, field_with, method_with, code}
-use Rattle.dj_classes.specs.declared.place.Place.{Place}
-use Rattle.dj_linking.specs.Numbers.{numbers_up}
-use Rattle.dj_types.specs.declared.heights.Height.{Height}
-use Rattle.dj_types.specs.declared.members.Members.{Members}
-use Rattle.dj_types.specs.declared.members.MemberStarts.{MemberStarts}
-use Rattle.dj_types.specs.Typed.{Typed, begins_array, ArePlain}
-use Rattle.dj_types.specs.Members.{all_methods, all_fields, methods_in, fields_in, field_number, found_method_number, found_field_number, method_of_class, field_of_class, IsMethodPlace, IsFieldPlace, native_at}
-use Rattle.dj_types.specs.Numbered.{counts_of, AreStarts, AreCounted, IsBegun, IsStartOf, AreMemberClasses, fields_of_numbers, fields_up, AreSums, IsHeight, height_at, AddsTo, AreHeights, AreMembers, AreObjectPlaces}
+use Rattle.dj_class_table.specs.declared.place.Place.{Place}
+use Rattle.dj_resolution.specs.Numbers.{numbers_up}
+use Rattle.dj_numbering.specs.declared.heights.Height.{Height}
+use Rattle.dj_numbering.specs.declared.members.Members.{Members}
+use Rattle.dj_numbering.specs.declared.members.MemberStarts.{MemberStarts}
+use Rattle.dj_numbering.specs.Typed.{Typed, begins_array, ArePlain}
+use Rattle.dj_numbering.specs.Members.{all_methods, all_fields, methods_in, fields_in, field_number, found_method_number, found_field_number, method_of_class, field_of_class, IsMethodPlace, IsFieldPlace, native_at}
+use Rattle.dj_numbering.specs.Numbered.{counts_of, AreStarts, AreCounted, IsBegun, IsStartOf, AreMemberClasses, fields_of_numbers, fields_up, AreSums, IsHeight, height_at, AddsTo, AreHeights, AreMembers, AreObjectPlaces}
 
 -- ---- a program
 

@@ -15,12 +15,12 @@ use Rattle.dj_names.specs.trusted.NameReading.{reads_class_name}
 use Rattle.dj_model.specs.trusted.Program.{Program, Class, Method}
 use Rattle.dj_model.specs.trusted.Linking.{most_classes, chain_of, interfaces_from, interfaces_above, is_subclass, is_subtype, field_order, resolve_method, resolve_field, select, field_count, FoundMethod, FoundField}
 use Rattle.dj_model.specs.SmallRuns.{class_with, field_with, method_with, code}
-use Rattle.dj_declared.specs.trusted.Files.{desc_in}
-use Rattle.dj_classes.specs.Tables.{name_at}
-use Rattle.dj_types.specs.declared.types.MemberOf.{MemberOf}
-use Rattle.dj_types.specs.Own.{array_at}
-use Rattle.dj_types.specs.Typed.{Typed, texts_of, place_of_text, text_number, text_of_type, type_number, type_at, flags_at, super_at, interfaces_at, has_references, component_at, is_subtype_at, string_at, chars_at, stop_at, is_array_of, AreArrays}
-use Rattle.dj_types.specs.Members.{all_methods, all_fields, methods_before, fields_before, field_count_at, resolved_method, resolved_field, selected, method_number, IsNthMethod, IsNthField, IsMethodThere, IsFieldThere}
+use Rattle.dj_declarations.specs.trusted.Files.{desc_in}
+use Rattle.dj_class_table.specs.Tables.{name_at}
+use Rattle.dj_numbering.specs.declared.types.MemberOf.{MemberOf}
+use Rattle.dj_numbering.specs.Own.{array_at}
+use Rattle.dj_numbering.specs.Typed.{Typed, texts_of, place_of_text, text_number, text_of_type, type_number, type_at, flags_at, super_at, interfaces_at, has_references, component_at, is_subtype_at, string_at, chars_at, stop_at, is_array_of, AreArrays}
+use Rattle.dj_numbering.specs.Members.{all_methods, all_fields, methods_before, fields_before, field_count_at, resolved_method, resolved_field, selected, method_number, IsNthMethod, IsNthField, IsMethodThere, IsFieldThere}
 
 -- ---- a program
 

@@ -6,13 +6,13 @@ use Rattle.std.proofs.lemmas.List.{length_push, length-set, length-replicate, ge
 use Rattle.std.proofs.lemmas.Option.{none-some, same_Some}
 use Rattle.dj_model.specs.trusted.Program.{Program}
 use Rattle.dj_model.specs.trusted.Linking.{most_classes, own_field_count}
-use Rattle.dj_classes.specs.Tables.{super_number}
-use Rattle.dj_linking.specs.Numbers.{numbers_up}
-use Rattle.dj_linking.proofs.Levels.{most_is}
-use Rattle.dj_linking.proofs.Walks.{no_numbers_up}
-use Rattle.dj_types.specs.declared.heights.Height.{Height}
-use Rattle.dj_types.specs.Numbered.{fields_of_numbers, fields_up, AreSums, IsHeight, height_at, AddsTo, AreHeights}
-use Rattle.dj_types.proofs.Starts.{get_push, get_end}
+use Rattle.dj_class_table.specs.Tables.{super_number}
+use Rattle.dj_resolution.specs.Numbers.{numbers_up}
+use Rattle.dj_resolution.proofs.Levels.{most_is}
+use Rattle.dj_resolution.proofs.Walks.{no_numbers_up}
+use Rattle.dj_numbering.specs.declared.heights.Height.{Height}
+use Rattle.dj_numbering.specs.Numbered.{fields_of_numbers, fields_up, AreSums, IsHeight, height_at, AddsTo, AreHeights}
+use Rattle.dj_numbering.proofs.Starts.{get_push, get_end}
 
 -- ---- one class
 

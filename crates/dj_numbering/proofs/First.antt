@@ -10,16 +10,16 @@ use Rattle.dj_names.specs.trusted.Descriptors.{Describes}
 use Rattle.dj_names.specs.trusted.Types.{Name, same_name, same_desc}
 use Rattle.dj_model.specs.trusted.Program.{Program, Class, Method, Field, fields_of, is_named}
 use Rattle.dj_model.specs.trusted.Linking.{FoundMethod, FoundField}
-use Rattle.dj_declared.specs.trusted.Files.{desc_in}
-use Rattle.dj_declared.specs.Members.{IsDescriptor, field_name, method_place, field_place}
-use Rattle.dj_declared.proofs.DescTests.{desc_in_is, is_descriptor, same_name_itself, same_desc_itself}
-use Rattle.dj_classes.specs.Tables.{name_of, class_number, methods_of, methods_at, fields_at, method_there, field_there}
-use Rattle.dj_classes.specs.declared.place.Place.{Place}
-use Rattle.dj_linking.specs.Directories.{IsFirstLike}
-use Rattle.dj_linking.proofs.Resolution.{DoNamesDiffer}
-use Rattle.dj_types.specs.Members.{all_methods, all_fields, methods_in, fields_in, methods_before, fields_before, method_number, field_number, found_method_number, found_field_number}
-use Rattle.dj_types.specs.Named.{IsNamedMethod, IsNamedField}
-use Rattle.dj_types.proofs.Starts.{some_there}
+use Rattle.dj_declarations.specs.trusted.Files.{desc_in}
+use Rattle.dj_declarations.specs.Members.{IsDescriptor, field_name, method_place, field_place}
+use Rattle.dj_declarations.proofs.DescTests.{desc_in_is, is_descriptor, same_name_itself, same_desc_itself}
+use Rattle.dj_class_table.specs.Tables.{name_of, class_number, methods_of, methods_at, fields_at, method_there, field_there}
+use Rattle.dj_class_table.specs.declared.place.Place.{Place}
+use Rattle.dj_resolution.specs.Directories.{IsFirstLike}
+use Rattle.dj_resolution.proofs.Resolution.{DoNamesDiffer}
+use Rattle.dj_numbering.specs.Members.{all_methods, all_fields, methods_in, fields_in, methods_before, fields_before, method_number, field_number, found_method_number, found_field_number}
+use Rattle.dj_numbering.specs.Named.{IsNamedMethod, IsNamedField}
+use Rattle.dj_numbering.proofs.Starts.{some_there}
 
 -- ---- the first place in a list
 

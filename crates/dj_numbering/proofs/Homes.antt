@@ -11,17 +11,17 @@ use Rattle.dj_names.specs.trusted.Types.{Name}
 use Rattle.dj_model.specs.trusted.Types.{Prefix, object_name}
 use Rattle.dj_model.specs.trusted.Program.{Program, Class, class_at, flags_of, is_interface}
 use Rattle.dj_model.specs.trusted.Linking.{FoundMethod, most_classes, chain, interfaces_above, first_method, first_field, field_order, any_method, is_plain, method_chain, or_else, member_class, class_or_object, resolve_method, resolve_field, select, special_method}
-use Rattle.dj_declared.specs.trusted.Files.{desc_in}
-use Rattle.dj_classes.specs.Tables.{class_number, class_numbers}
-use Rattle.dj_classes.proofs.Numbered.{name_at-number}
-use Rattle.dj_linking.specs.Linked.{class_name, resolved_method, resolved_field}
-use Rattle.dj_linking.specs.Numbers.{numbers_up, numbers_above, first_some, method_found, field_found}
-use Rattle.dj_linking.proofs.Resolution.{DoNamesDiffer, number_of_name}
-use Rattle.dj_linking.proofs.Walks.{Missing, There, looked, no_numbers_up, numbers_of_chain, numbers_of_all, numbers_of_order, first_method_found, first_field_found}
-use Rattle.dj_types.specs.Typed.{Typed, AreArrays, types_of, type_at, is_array_of}
-use Rattle.dj_types.specs.Members as members
-use Rattle.dj_types.proofs.Starts.{some_there}
-use Rattle.dj_types.proofs.Reported.{IsArray, array_there, type_there, type_of_class, known_at}
+use Rattle.dj_declarations.specs.trusted.Files.{desc_in}
+use Rattle.dj_class_table.specs.Tables.{class_number, class_numbers}
+use Rattle.dj_class_table.proofs.Numbered.{name_at-number}
+use Rattle.dj_resolution.specs.Linked.{class_name, resolved_method, resolved_field}
+use Rattle.dj_resolution.specs.Numbers.{numbers_up, numbers_above, first_some, method_found, field_found}
+use Rattle.dj_resolution.proofs.Resolution.{DoNamesDiffer, number_of_name}
+use Rattle.dj_resolution.proofs.Walks.{Missing, There, looked, no_numbers_up, numbers_of_chain, numbers_of_all, numbers_of_order, first_method_found, first_field_found}
+use Rattle.dj_numbering.specs.Typed.{Typed, AreArrays, types_of, type_at, is_array_of}
+use Rattle.dj_numbering.specs.Members as members
+use Rattle.dj_numbering.proofs.Starts.{some_there}
+use Rattle.dj_numbering.proofs.Reported.{IsArray, array_there, type_there, type_of_class, known_at}
 
 -- ---- by numbers
 

@@ -15,21 +15,21 @@ use Rattle.dj_names.specs.trusted.Types.{Name, class_type, base_array, array_typ
 use Rattle.dj_model.specs.trusted.Program.{Program, Class}
 use Rattle.dj_model.specs.trusted.Linking.{most_classes, chain_of, field_count}
 use Rattle.dj_model.specs.SmallRuns.{class_with, field_with}
-use Rattle.dj_types.specs.declared.arrays.Arrays.{Arrays}
-use Rattle.dj_types.specs.declared.members.Members.{Members}
-use Rattle.dj_types.specs.declared.shapes.ElementType.{ElementType}
-use Rattle.dj_types.specs.declared.shapes.ElementType.TheVariants as elements
-use Rattle.dj_types.specs.declared.shapes.Shape.{Shape}
-use Rattle.dj_linking.specs.Directories.{CallTable, IsCallTable}
-use Rattle.dj_types.specs.Kept.{DoTextsRise, number_among, component_text, number_if, component_in, wholes_of, text_in, AreKept, IsTyped}
-use Rattle.dj_types.specs.declared.own.OwnClasses.{OwnClasses}
-use Rattle.dj_types.specs.Own.{AreOwn}
-use Rattle.dj_types.specs.Members.{all_fields, field_count_at}
-use Rattle.dj_types.specs.Numbered.{AreMembers, AreObjectPlaces}
-use Rattle.dj_types.specs.Shapes.{element_of, shape_type, IsElement, AreElements, element_in, shape_in}
-use Rattle.dj_types.specs.Typed.{Typed, ArePlain, begins_array}
-use Rattle.dj_types.proofs.Facts.{other_name, other_number}
-use Rattle.dj_types.proofs.Wholes.{spelled_by}
+use Rattle.dj_numbering.specs.declared.arrays.Arrays.{Arrays}
+use Rattle.dj_numbering.specs.declared.members.Members.{Members}
+use Rattle.dj_numbering.specs.declared.shapes.ElementType.{ElementType}
+use Rattle.dj_numbering.specs.declared.shapes.ElementType.TheVariants as elements
+use Rattle.dj_numbering.specs.declared.shapes.Shape.{Shape}
+use Rattle.dj_resolution.specs.Directories.{CallTable, IsCallTable}
+use Rattle.dj_numbering.specs.Kept.{DoTextsRise, number_among, component_text, number_if, component_in, wholes_of, text_in, AreKept, IsTyped}
+use Rattle.dj_numbering.specs.declared.own.OwnClasses.{OwnClasses}
+use Rattle.dj_numbering.specs.Own.{AreOwn}
+use Rattle.dj_numbering.specs.Members.{all_fields, field_count_at}
+use Rattle.dj_numbering.specs.Numbered.{AreMembers, AreObjectPlaces}
+use Rattle.dj_numbering.specs.Shapes.{element_of, shape_type, IsElement, AreElements, element_in, shape_in}
+use Rattle.dj_numbering.specs.Typed.{Typed, ArePlain, begins_array}
+use Rattle.dj_numbering.proofs.Facts.{other_name, other_number}
+use Rattle.dj_numbering.proofs.Wholes.{spelled_by}
 
 -- ---- a program
 

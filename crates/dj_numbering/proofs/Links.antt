@@ -1,2 +1,2 @@
--- Names of dj_linking's proofs, for the crates above.
-pub use Rattle.dj_linking.proofs.Resolution.{DoNamesDiffer}
+-- Names of dj_resolution's proofs, for the crates above.
+pub use Rattle.dj_resolution.proofs.Resolution.{DoNamesDiffer}

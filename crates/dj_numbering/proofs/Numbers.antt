@@ -5,9 +5,9 @@ use Rattle.std.specs.Option.{option_map}
 use Rattle.std.proofs.lemmas.Option.{none-some, same_Some}
 use Rattle.dj_names.specs.trusted.Types.{Name, same_name}
 use Rattle.dj_model.specs.trusted.Program.{Program}
-use Rattle.dj_classes.specs.Tables.{class_number}
-use Rattle.dj_types.specs.Typed.{place_of_text}
-use Rattle.dj_types.specs.Kept.{number_among}
+use Rattle.dj_class_table.specs.Tables.{class_number}
+use Rattle.dj_numbering.specs.Typed.{place_of_text}
+use Rattle.dj_numbering.specs.Kept.{number_among}
 
 pub number_of_class : (program : Program) (texts : List Name) (text : Name) (k : ℕ) → class_number program text ≡ Some k → number_among program texts text ≡ Some k
 number_of_class [] texts text k e = absurd (none-some k e)

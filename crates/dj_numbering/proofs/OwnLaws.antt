@@ -4,9 +4,9 @@ use Rattle.dj_names.specs.declared.descriptor.Base.{Base}
 use Rattle.dj_names.specs.declared.descriptor.Base.TheVariants as bases
 use Rattle.dj_names.specs.declared.run.Raised.{Raised}
 use Rattle.dj_names.specs.declared.run.Raised.TheVariants as raises
-use Rattle.dj_types.specs.declared.own.OwnClasses.{OwnClasses}
-use Rattle.dj_types.specs.Own.{AreOwn, array_at, array_in, raised_at, raised_in}
-use Rattle.dj_types.specs.Typed.{Typed, stop_at, string_at}
+use Rattle.dj_numbering.specs.declared.own.OwnClasses.{OwnClasses}
+use Rattle.dj_numbering.specs.Own.{AreOwn, array_at, array_in, raised_at, raised_in}
+use Rattle.dj_numbering.specs.Typed.{Typed, stop_at, string_at}
 
 pub are_own : (typed : Typed) (own : OwnClasses) → own.string ≡ string_at typed → own.stop ≡ stop_at typed
     → own.booleans ≡ array_at typed bases.Boolean → own.bytes ≡ array_at typed bases.Byte → own.chars ≡ array_at typed bases.Char → own.shorts ≡ array_at typed bases.Short

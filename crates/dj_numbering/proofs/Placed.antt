@@ -8,11 +8,11 @@ use Rattle.std.proofs.lemmas.List.{length-map, length_push, get_or_append_left, 
 use Rattle.std.proofs.lemmas.Option.{none-some, same_Some, slice_get-map, slice_get_within}
 use Rattle.dj_model.specs.trusted.Program.{Program, Class, Method, Field, fields_of}
 use Rattle.dj_model.specs.trusted.Linking.{FoundMethod, FoundField, place_of}
-use Rattle.dj_classes.specs.Tables.{methods_of, methods_at, fields_at, method_of_class, field_of_class, method_there, field_there}
-use Rattle.dj_classes.specs.declared.place.Place.{Place}
-use Rattle.dj_types.specs.Members.{all_methods, all_fields, methods_in, fields_in, methods_before, fields_before}
-use Rattle.dj_types.specs.Numbered.{counts_of, AreObjectPlaces, AreStarts, IsStartOf}
-use Rattle.dj_types.proofs.Starts.{some_there, placed, IsPlaced, all_count, before_count, member_of_number, number_within, count_at, counts_length}
+use Rattle.dj_class_table.specs.Tables.{methods_of, methods_at, fields_at, method_of_class, field_of_class, method_there, field_there}
+use Rattle.dj_class_table.specs.declared.place.Place.{Place}
+use Rattle.dj_numbering.specs.Members.{all_methods, all_fields, methods_in, fields_in, methods_before, fields_before}
+use Rattle.dj_numbering.specs.Numbered.{counts_of, AreObjectPlaces, AreStarts, IsStartOf}
+use Rattle.dj_numbering.proofs.Starts.{some_there, placed, IsPlaced, all_count, before_count, member_of_number, number_within, count_at, counts_length}
 
 -- what is known of a place and of the number there
 pub record IsNumbered {F : Type 0} (all : List F) (before start member : ℕ) (found : Option F) : Type 0 where

@@ -11,14 +11,14 @@ use Rattle.dj_names.specs.declared.descriptor.Ty.{Ty}
 use Rattle.dj_names.specs.trusted.Types.{Name, class_type, component_type}
 use Rattle.dj_names.specs.trusted.Descriptors.{type_text}
 use Rattle.dj_model.specs.trusted.Program.{Program, Class}
-use Rattle.dj_classes.specs.Tables.{name_of, class_number}
-use Rattle.dj_classes.proofs.Numbered.{name_at-number, class_number-within}
-use Rattle.dj_linking.specs.Linked.{class_name}
-use Rattle.dj_types.specs.declared.shapes.ElementType.TheVariants as elements
-use Rattle.dj_types.specs.declared.shapes.Shape.{Shape}
-use Rattle.dj_types.specs.Typed.{Typed, types_of, type_at, type_number, has_references, text_of_type, component_at, is_known_of, is_array_of}
-use Rattle.dj_types.specs.Shapes.{element_of, element_in, shape_type, IsElement, AreElements}
-use Rattle.dj_types.specs.Kept.{component_in, number_if}
+use Rattle.dj_class_table.specs.Tables.{name_of, class_number}
+use Rattle.dj_class_table.proofs.Numbered.{name_at-number, class_number-within}
+use Rattle.dj_resolution.specs.Linked.{class_name}
+use Rattle.dj_numbering.specs.declared.shapes.ElementType.TheVariants as elements
+use Rattle.dj_numbering.specs.declared.shapes.Shape.{Shape}
+use Rattle.dj_numbering.specs.Typed.{Typed, types_of, type_at, type_number, has_references, text_of_type, component_at, is_known_of, is_array_of}
+use Rattle.dj_numbering.specs.Shapes.{element_of, element_in, shape_type, IsElement, AreElements}
+use Rattle.dj_numbering.specs.Kept.{component_in, number_if}
 
 -- ---- types by numbers
 

@@ -8,13 +8,13 @@ use Rattle.dj_names.specs.trusted.Types.{Name, same_name, same_desc}
 use Rattle.dj_model.specs.trusted.Program.{Program, Class, Field, class_at, field_in, field_of, is_named}
 use Rattle.dj_model.specs.trusted.Linking.{FoundMethod, FoundField, field_or, first_field, most_classes, field_order, member_class, resolve_field}
 use Rattle.dj_model.proofs.SoundLinks.{resolved_there, there_name}
-use Rattle.dj_declared.specs.trusted.Files.{desc_in}
-use Rattle.dj_declared.proofs.DescTests.{same_name_is, same_desc_is}
-use Rattle.dj_classes.specs.Tables.{method_there, field_there}
-use Rattle.dj_classes.specs.declared.place.Place.{Place}
-use Rattle.dj_linking.specs.Linked.{Linked, member_of, resolved_method, resolved_field}
-use Rattle.dj_types.specs.Named.{IsNamedMethod, IsNamedField}
-use Rattle.dj_types.proofs.First.{reported_is}
+use Rattle.dj_declarations.specs.trusted.Files.{desc_in}
+use Rattle.dj_declarations.proofs.DescTests.{same_name_is, same_desc_is}
+use Rattle.dj_class_table.specs.Tables.{method_there, field_there}
+use Rattle.dj_class_table.specs.declared.place.Place.{Place}
+use Rattle.dj_resolution.specs.Linked.{Linked, member_of, resolved_method, resolved_field}
+use Rattle.dj_numbering.specs.Named.{IsNamedMethod, IsNamedField}
+use Rattle.dj_numbering.proofs.First.{reported_is}
 
 method_named : (linked : Linked) (class : ℕ) (name : Name) (desc : List ℕ) → IsNamedMethod name (desc_in desc) (resolved_method linked class name desc)
 method_named linked class name desc = by (resolved_method linked class name desc) refl where

@@ -13,9 +13,9 @@ use Rattle.dj_names.specs.declared.descriptor.Ty.{Ty}
 use Rattle.dj_names.specs.trusted.Types.{Name}
 use Rattle.dj_names.specs.trusted.Descriptors.{type_text}
 use Rattle.dj_model.specs.trusted.Libraries.{is_name_before}
-use Rattle.dj_classes.proofs.Orders.{is_name_before-cmp}
-use Rattle.dj_types.specs.Typed.{arrays_rise}
-use Rattle.dj_types.specs.Kept.{DoTextsRise}
+use Rattle.dj_class_table.proofs.Orders.{is_name_before-cmp}
+use Rattle.dj_numbering.specs.Typed.{arrays_rise}
+use Rattle.dj_numbering.specs.Kept.{DoTextsRise}
 
 less_from_test : (r : Ordering) → is_lt r ≡ true → r ≡ Less
 less_from_test Less e = refl

@@ -7,9 +7,9 @@ use Rattle.std.proofs.lemmas.List.{length_push, length-append, take_all}
 use Rattle.std.proofs.lemmas.List.Sums.{sum_by-cons, sum_by_more}
 use Rattle.std.proofs.lemmas.Option.{none-some, same_Some}
 use Rattle.dj_model.specs.trusted.Program.{Program, Class}
-use Rattle.dj_classes.specs.declared.place.Place.{Place}
-use Rattle.dj_types.specs.declared.members.MemberStarts.{MemberStarts}
-use Rattle.dj_types.specs.Numbered.{counts_of, AreStarts, AreCounted, AreMemberClasses, IsBegun, IsStartOf}
+use Rattle.dj_class_table.specs.declared.place.Place.{Place}
+use Rattle.dj_numbering.specs.declared.members.MemberStarts.{MemberStarts}
+use Rattle.dj_numbering.specs.Numbered.{counts_of, AreStarts, AreCounted, AreMemberClasses, IsBegun, IsStartOf}
 
 -- ---- sums
 

@@ -9,17 +9,17 @@ use Rattle.dj_names.specs.declared.descriptor.Desc.{Desc}
 use Rattle.dj_names.specs.trusted.Types.{Name}
 use Rattle.dj_model.specs.trusted.Program.{Program, Class, Field, class_at, fields_of, is_named, is_static}
 use Rattle.dj_model.specs.trusted.Linking.{FoundField, chain, superclasses, count_fields, fields_before, own_field_count, fields_in, field_count, own_place, place_of}
-use Rattle.dj_classes.specs.Tables.{class_numbers, name_of, name_at, super_number, fields_at, field_there}
-use Rattle.dj_classes.specs.declared.place.Place.{Place}
-use Rattle.dj_classes.proofs.Numbered.{class_at-at}
-use Rattle.dj_linking.specs.Linked.{class_name}
-use Rattle.dj_linking.specs.Numbers.{numbers_up, most_above}
-use Rattle.dj_linking.proofs.Climbs.{one_more_level}
-use Rattle.dj_linking.proofs.Resolution.{DoNamesDiffer, numbers_of_class}
-use Rattle.dj_linking.proofs.Specials.{superclass_numbers}
-use Rattle.dj_linking.proofs.Walks.{Missing, There, looked}
-use Rattle.dj_types.specs.Numbered.{fields_of_numbers, fields_up, AreSums}
-use Rattle.dj_types.proofs.Starts.{some_there}
+use Rattle.dj_class_table.specs.Tables.{class_numbers, name_of, name_at, super_number, fields_at, field_there}
+use Rattle.dj_class_table.specs.declared.place.Place.{Place}
+use Rattle.dj_class_table.proofs.Numbered.{class_at-at}
+use Rattle.dj_resolution.specs.Linked.{class_name}
+use Rattle.dj_resolution.specs.Numbers.{numbers_up, most_above}
+use Rattle.dj_resolution.proofs.Climbs.{one_more_level}
+use Rattle.dj_resolution.proofs.Resolution.{DoNamesDiffer, numbers_of_class}
+use Rattle.dj_resolution.proofs.Specials.{superclass_numbers}
+use Rattle.dj_resolution.proofs.Walks.{Missing, There, looked}
+use Rattle.dj_numbering.specs.Numbered.{fields_of_numbers, fields_up, AreSums}
+use Rattle.dj_numbering.proofs.Starts.{some_there}
 
 fields_in_numbers : (program : Program) (names : List Name) → fields_in program names ≡ fields_of_numbers program (class_numbers program names)
 fields_in_numbers program [] = refl

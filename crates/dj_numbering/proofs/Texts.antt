@@ -16,10 +16,10 @@ use Rattle.std.proofs.lemmas.List.Sorted.{searchable_from_sorted}
 use Rattle.std.proofs.lemmas.Map.Keys.{Less-from_sorted}
 use Rattle.std.proofs.lemmas.Option.{slice_get-get_or, slice_get_within, get_or_from_slice_get, same_Some, none-some}
 use Rattle.dj_names.specs.trusted.Types.{Name, same_name}
-use Rattle.dj_classes.proofs.Orders.{same_name-refl, names_from_same, names_from_cmp, cmp_itself, not_same_if_less}
-use Rattle.dj_types.specs.Typed.{place_of_text}
-use Rattle.dj_types.specs.Kept.{DoTextsRise}
-use Rattle.dj_types.proofs.Starts.{some_there}
+use Rattle.dj_class_table.proofs.Orders.{same_name-refl, names_from_same, names_from_cmp, cmp_itself, not_same_if_less}
+use Rattle.dj_numbering.specs.Typed.{place_of_text}
+use Rattle.dj_numbering.specs.Kept.{DoTextsRise}
+use Rattle.dj_numbering.proofs.Starts.{some_there}
 
 -- ---- the place of a text
 

@@ -16,16 +16,16 @@ use Rattle.dj_names.specs.declared.descriptor.Ty.{Ty}
 use Rattle.dj_names.specs.trusted.Types.{Name, class_type}
 use Rattle.dj_names.specs.trusted.Descriptors.{of_text, type_text}
 use Rattle.dj_model.specs.trusted.Program.{Program, Class}
-use Rattle.dj_classes.specs.Tables.{name_of, name_at}
-use Rattle.dj_linking.specs.Linked.{class_name}
-use Rattle.dj_types.specs.declared.arrays.Arrays.{Arrays}
-use Rattle.dj_types.specs.declared.shapes.ElementType.{ElementType}
-use Rattle.dj_types.specs.declared.shapes.ElementType.TheVariants as elements
-use Rattle.dj_types.specs.declared.shapes.Shape.{Shape}
-use Rattle.dj_types.specs.Typed.{Typed, AreArrays, texts_of, types_of, is_known_of, is_array_of, text_of_type}
-use Rattle.dj_types.specs.Shapes.{IsElement, AreElements, shape_type}
-use Rattle.dj_types.specs.Kept.{AreKept, component_in, component_text, whole_text, all_bases, whole_of_base, whole_of_class, wholes_of, base_place, text_in, texts_kept, types_kept}
-use Rattle.dj_types.proofs.Starts.{some_there}
+use Rattle.dj_class_table.specs.Tables.{name_of, name_at}
+use Rattle.dj_resolution.specs.Linked.{class_name}
+use Rattle.dj_numbering.specs.declared.arrays.Arrays.{Arrays}
+use Rattle.dj_numbering.specs.declared.shapes.ElementType.{ElementType}
+use Rattle.dj_numbering.specs.declared.shapes.ElementType.TheVariants as elements
+use Rattle.dj_numbering.specs.declared.shapes.Shape.{Shape}
+use Rattle.dj_numbering.specs.Typed.{Typed, AreArrays, texts_of, types_of, is_known_of, is_array_of, text_of_type}
+use Rattle.dj_numbering.specs.Shapes.{IsElement, AreElements, shape_type}
+use Rattle.dj_numbering.specs.Kept.{AreKept, component_in, component_text, whole_text, all_bases, whole_of_base, whole_of_class, wholes_of, base_place, text_in, texts_kept, types_kept}
+use Rattle.dj_numbering.proofs.Starts.{some_there}
 
 -- ---- the end of a descriptor
 

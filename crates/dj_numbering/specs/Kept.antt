@@ -12,18 +12,18 @@ use Rattle.dj_names.specs.trusted.Types.{Name, component_type}
 use Rattle.dj_names.specs.trusted.Descriptors.{type_text}
 use Rattle.dj_model.specs.trusted.Types.{Prefix}
 use Rattle.dj_model.specs.trusted.Program.{Program, Class}
-use Rattle.dj_classes.specs.Tables.{name_of}
-use Rattle.dj_linking.specs.Directories.{CallTable, IsCallTable}
-use Rattle.dj_types.specs.declared.arrays.Arrays.{Arrays}
-use Rattle.dj_types.specs.declared.members.Members.{Members}
-use Rattle.dj_types.specs.Typed.{ArePlain, AreArrays, has_references, place_of_text, text_of_type}
-use Rattle.dj_types.specs.declared.shapes.ElementType.{ElementType}
-use Rattle.dj_types.specs.declared.shapes.ElementType.TheVariants as elements
-use Rattle.dj_types.specs.declared.shapes.Shape.{Shape}
-use Rattle.dj_types.specs.Shapes.{AreElements, shape_type}
-use Rattle.dj_types.specs.Numbered.{AreMembers, AreObjectPlaces}
-use Rattle.dj_types.specs.declared.own.OwnClasses.{OwnClasses}
-use Rattle.dj_types.specs.Own.{AreOwn}
+use Rattle.dj_class_table.specs.Tables.{name_of}
+use Rattle.dj_resolution.specs.Directories.{CallTable, IsCallTable}
+use Rattle.dj_numbering.specs.declared.arrays.Arrays.{Arrays}
+use Rattle.dj_numbering.specs.declared.members.Members.{Members}
+use Rattle.dj_numbering.specs.Typed.{ArePlain, AreArrays, has_references, place_of_text, text_of_type}
+use Rattle.dj_numbering.specs.declared.shapes.ElementType.{ElementType}
+use Rattle.dj_numbering.specs.declared.shapes.ElementType.TheVariants as elements
+use Rattle.dj_numbering.specs.declared.shapes.Shape.{Shape}
+use Rattle.dj_numbering.specs.Shapes.{AreElements, shape_type}
+use Rattle.dj_numbering.specs.Numbered.{AreMembers, AreObjectPlaces}
+use Rattle.dj_numbering.specs.declared.own.OwnClasses.{OwnClasses}
+use Rattle.dj_numbering.specs.Own.{AreOwn}
 
 -- each text is below those after it
 abbrev pub DoTextsRise : List Name → Type 0

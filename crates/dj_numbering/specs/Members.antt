@@ -8,15 +8,15 @@ use Rattle.dj_names.specs.trusted.Descriptors.{Describes}
 use Rattle.dj_model.specs.trusted.Types.{Member}
 use Rattle.dj_model.specs.trusted.Program.{Program, Class, is_named}
 use Rattle.dj_model.specs.trusted.Linking.{FoundMethod, FoundField, resolve_method, resolve_field, select, special_method, field_count}
-use Rattle.dj_declared.specs.trusted.Files.{desc_in}
-use Rattle.dj_declared.specs.Members.{method_native}
-use Rattle.dj_classes.specs.Tables.{methods_at, fields_at, name_at}
-use Rattle.dj_classes.specs.declared.place.Place.{Place}
-use Rattle.dj_linking.specs.Linked.{class_name}
-use Rattle.dj_types.specs.declared.types.MethodId.{MethodId}
-use Rattle.dj_types.specs.declared.types.FieldId.{FieldId}
-use Rattle.dj_types.specs.declared.types.MemberOf.{MemberOf}
-use Rattle.dj_types.specs.Typed.{Typed, type_at}
+use Rattle.dj_declarations.specs.trusted.Files.{desc_in}
+use Rattle.dj_declarations.specs.Members.{method_native}
+use Rattle.dj_class_table.specs.Tables.{methods_at, fields_at, name_at}
+use Rattle.dj_class_table.specs.declared.place.Place.{Place}
+use Rattle.dj_resolution.specs.Linked.{class_name}
+use Rattle.dj_numbering.specs.declared.types.MethodId.{MethodId}
+use Rattle.dj_numbering.specs.declared.types.FieldId.{FieldId}
+use Rattle.dj_numbering.specs.declared.types.MemberOf.{MemberOf}
+use Rattle.dj_numbering.specs.Typed.{Typed, type_at}
 
 abbrev pub methods_in : Class → List FoundMethod
 methods_in c = map (λ m. record { class = c.name; method = m }) c.methods

@@ -5,10 +5,10 @@ use Rattle.dj_names.specs.declared.descriptor.Desc.{Desc}
 use Rattle.dj_names.specs.trusted.Types.{Name}
 use Rattle.dj_model.specs.trusted.Program.{Program}
 use Rattle.dj_model.specs.trusted.Linking.{FoundMethod, FoundField}
-use Rattle.dj_declared.specs.Members.{IsDescriptor}
-use Rattle.dj_linking.specs.Directories.{Numbering}
-use Rattle.dj_linking.specs.Numbered.{AreNumbersOf}
-use Rattle.dj_types.specs.declared.named.MemberName.{MemberName}
+use Rattle.dj_declarations.specs.Members.{IsDescriptor}
+use Rattle.dj_resolution.specs.Directories.{Numbering}
+use Rattle.dj_resolution.specs.Numbered.{AreNumbersOf}
+use Rattle.dj_numbering.specs.declared.named.MemberName.{MemberName}
 
 -- the directory, where there is one, is of these classes
 abbrev pub IsDirectoryOf : Program → Option (Bor Numbering) → Type 0

@@ -3,12 +3,12 @@ use Rattle.std.specs.Prelude.{◌≡◌, ℕ, ◌+◌, ◌-◌, ◌^◌, ◌<◌
 use Rattle.std.specs.Option.{option_map}
 use Rattle.dj_model.specs.trusted.Program.{Program, Class}
 use Rattle.dj_model.specs.trusted.Linking.{most_classes, own_field_count, place_of}
-use Rattle.dj_classes.specs.declared.place.Place.{Place}
-use Rattle.dj_linking.specs.Numbers.{numbers_up}
-use Rattle.dj_types.specs.declared.members.Members.{Members}
-use Rattle.dj_types.specs.declared.members.MemberStarts.{MemberStarts}
-use Rattle.dj_types.specs.declared.heights.Height.{Height}
-use Rattle.dj_types.specs.Members.{all_methods, all_fields, methods_in, fields_in}
+use Rattle.dj_class_table.specs.declared.place.Place.{Place}
+use Rattle.dj_resolution.specs.Numbers.{numbers_up}
+use Rattle.dj_numbering.specs.declared.members.Members.{Members}
+use Rattle.dj_numbering.specs.declared.members.MemberStarts.{MemberStarts}
+use Rattle.dj_numbering.specs.declared.heights.Height.{Height}
+use Rattle.dj_numbering.specs.Members.{all_methods, all_fields, methods_in, fields_in}
 
 -- ---- numbers of members
 

@@ -6,8 +6,8 @@ use Rattle.dj_names.specs.declared.run.Raised.{Raised}
 use Rattle.dj_names.specs.declared.run.Raised.TheVariants as raises
 use Rattle.dj_names.specs.trusted.Types.{base_array}
 use Rattle.dj_names.specs.trusted.Values.{raised_class}
-use Rattle.dj_types.specs.declared.own.OwnClasses.{OwnClasses}
-use Rattle.dj_types.specs.Typed.{Typed, stop_at, string_at, text_number, type_number}
+use Rattle.dj_numbering.specs.declared.own.OwnClasses.{OwnClasses}
+use Rattle.dj_numbering.specs.Typed.{Typed, stop_at, string_at, text_number, type_number}
 
 abbrev pub array_in : OwnClasses → Base → Option ℕ
 array_in own bases.Boolean = own.booleans

@@ -5,11 +5,11 @@ use Rattle.dj_names.specs.declared.descriptor.Of.{Of}
 use Rattle.dj_names.specs.declared.descriptor.Of.TheVariants as ofs
 use Rattle.dj_names.specs.declared.descriptor.Ty.{Ty}
 use Rattle.dj_model.specs.trusted.Program.{Program}
-use Rattle.dj_classes.specs.Tables.{class_number}
-use Rattle.dj_linking.specs.Linked.{class_name}
-use Rattle.dj_types.specs.declared.shapes.ElementType.{ElementType}
-use Rattle.dj_types.specs.declared.shapes.ElementType.TheVariants as elements
-use Rattle.dj_types.specs.declared.shapes.Shape.{Shape}
+use Rattle.dj_class_table.specs.Tables.{class_number}
+use Rattle.dj_resolution.specs.Linked.{class_name}
+use Rattle.dj_numbering.specs.declared.shapes.ElementType.{ElementType}
+use Rattle.dj_numbering.specs.declared.shapes.ElementType.TheVariants as elements
+use Rattle.dj_numbering.specs.declared.shapes.Shape.{Shape}
 
 -- ---- a type of a shape
 

@@ -13,7 +13,7 @@ use Rattle.dj_model.specs.trusted.Types.{Prefix, string_name}
 use Rattle.dj_model.specs.trusted.Program.{Program, flags_of, interfaces_of, superclass_of}
 use Rattle.dj_model.specs.trusted.Linking.{is_subtype}
 use Rattle.dj_model.specs.trusted.Libraries.{is_name_before}
-use Rattle.dj_classes.specs.Tables.{name_of, name_at, class_number, class_numbers}
+use Rattle.dj_class_table.specs.Tables.{name_of, name_at, class_number, class_numbers}
 
 pub record Typed : Type 0 where
   pub program : Program

@@ -1,13 +1,13 @@
 ghost use Rattle.std.specs.Prelude.{◌≡◌, ◌+◌, ◌^◌, ◌<◌, ◌≤◌, ◌++◌, length, map, IfOk, OnOk};
 ghost use Rattle.std.specs.Option.{option_map};
-ghost use Rattle.dj_types.specs.Typed.{begins_array, ArePlain, AreArrays, place_of_text};
-ghost use Rattle.dj_types.specs.Shapes.{IsElement, AreElements, shape_type};
-ghost use Rattle.dj_types.specs.Kept.{AreKept, DoTextsRise, all_bases, base_place, component_in, component_text, number_among, text_in, whole_of_base, whole_of_class, whole_place, whole_text, wholes_of};
+ghost use Rattle.dj_numbering.specs.Typed.{begins_array, ArePlain, AreArrays, place_of_text};
+ghost use Rattle.dj_numbering.specs.Shapes.{IsElement, AreElements, shape_type};
+ghost use Rattle.dj_numbering.specs.Kept.{AreKept, DoTextsRise, all_bases, base_place, component_in, component_text, number_among, text_in, whole_of_base, whole_of_class, whole_place, whole_text, wholes_of};
 
 use crate::error::TypesError;
 use crate::shapes::{ElementType, Shape};
-use dj_classes::ClassTable;
-use dj_declared::spell_type;
+use dj_class_table::ClassTable;
+use dj_declarations::spell_type;
 use dj_names::{Base, Name, Of, Ty};
 use std::alloc::{AllocError, Global};
 

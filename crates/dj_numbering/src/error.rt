@@ -12,7 +12,7 @@ pub enum TypesError {
 }
 
 impl From<AllocError> for TypesError {
-    ghost use Rattle.dj_types.specs.declared.error.TypesError.TheVariants.{Memory};
+    ghost use Rattle.dj_numbering.specs.declared.error.TypesError.TheVariants.{Memory};
 
     ghost from_gives = { λ _ e. e ≡ Memory };
 
@@ -22,7 +22,7 @@ impl From<AllocError> for TypesError {
 }
 
 impl<T: Drop> From<AllocFailed<T>> for TypesError {
-    ghost use Rattle.dj_types.specs.declared.error.TypesError.TheVariants.{Memory};
+    ghost use Rattle.dj_numbering.specs.declared.error.TypesError.TheVariants.{Memory};
 
     ghost from_gives = { λ _ e. e ≡ Memory };
 

@@ -1,9 +1,9 @@
 ghost use Rattle.std.specs.Prelude.{◌≡◌, ◌+◌, ◌<◌, All, None, Some, IfOk, IfSome, OnOk, get_or, length, replicate, slice_get};
 ghost use Rattle.dj_model.specs.trusted.Linking.{own_field_count};
-ghost use Rattle.dj_types.specs.Numbered.{AddsTo, AreHeights, AreSums, height_at};
+ghost use Rattle.dj_numbering.specs.Numbered.{AddsTo, AreHeights, AreSums, height_at};
 
 use crate::error::TypesError;
-use dj_classes::ClassTable;
+use dj_class_table::ClassTable;
 use std::alloc::Global;
 
 /// A class among those above it.

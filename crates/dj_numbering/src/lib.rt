@@ -11,8 +11,8 @@ mod places;
 mod shapes;
 mod types;
 
-pub use dj_classes::Place;
-pub use dj_linking::{BaseNames, Directory, Linker};
+pub use dj_class_table::Place;
+pub use dj_resolution::{BaseNames, Directory, Linker};
 pub use error::TypesError;
 pub use named::MemberName;
 pub use own::raised_name;

@@ -1,11 +1,11 @@
 ghost use Rattle.std.specs.Prelude.{◌≡◌, ◌+◌, ◌^◌, ◌<◌, ◌↔◌, length, get_or, IfOk, IsTrue};
-ghost use Rattle.dj_declared.specs.Members.{IsDescriptor};
-ghost use Rattle.dj_types.specs.Members.{all_methods, all_fields, methods_in, fields_in};
-ghost use Rattle.dj_types.specs.Numbered.{counts_of, AreCounted, AreMemberClasses, AreMembers, IsBegun, IsStartOf};
+ghost use Rattle.dj_declarations.specs.Members.{IsDescriptor};
+ghost use Rattle.dj_numbering.specs.Members.{all_methods, all_fields, methods_in, fields_in};
+ghost use Rattle.dj_numbering.specs.Numbered.{counts_of, AreCounted, AreMemberClasses, AreMembers, IsBegun, IsStartOf};
 
 use crate::error::TypesError;
 use crate::heights::field_sums;
-use dj_classes::{ClassTable, Place};
+use dj_class_table::{ClassTable, Place};
 use dj_names::{is_field_descriptor, is_method_descriptor};
 use std::alloc::Global;
 

@@ -1,11 +1,11 @@
 //! Members by their names and descriptors, with the numbers of these in a directory.
 ghost use Rattle.std.specs.Prelude.{◌≡◌, ◌<◌, length};
-ghost use Rattle.dj_declared.specs.trusted.Files.{desc_in};
-ghost use Rattle.dj_declared.specs.Members.{method_place, field_place};
-ghost use Rattle.dj_classes.specs.Tables.{methods_at, fields_at};
-ghost use Rattle.dj_types.specs.Named.{IsNumberedBy};
+ghost use Rattle.dj_declarations.specs.trusted.Files.{desc_in};
+ghost use Rattle.dj_declarations.specs.Members.{method_place, field_place};
+ghost use Rattle.dj_class_table.specs.Tables.{methods_at, fields_at};
+ghost use Rattle.dj_numbering.specs.Named.{IsNumberedBy};
 
-use dj_linking::Directory;
+use dj_resolution::Directory;
 
 /// The name and the descriptor of a member, and their numbers, where they have some.
 #[derive(Clone, Copy)]

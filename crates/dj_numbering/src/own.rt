@@ -3,15 +3,15 @@ ghost use Rattle.dj_names.specs.trusted.Types.{base_array};
 ghost use Rattle.dj_names.specs.Types.{sandbox_prefix};
 ghost use Rattle.dj_names.specs.trusted.Values.{raised_class};
 ghost use Rattle.dj_model.specs.trusted.Types.{string_name};
-ghost use Rattle.dj_classes.specs.Tables.{class_number};
-ghost use Rattle.dj_linking.specs.Linked.{prefix_of};
-ghost use Rattle.dj_types.specs.Kept.{AreKept, types_kept};
-ghost use Rattle.dj_types.specs.Own.{AreOwn, array_at, array_in, raised_in};
-ghost use Rattle.dj_types.specs.Typed.{stop_under, text_number, text_of_type};
+ghost use Rattle.dj_class_table.specs.Tables.{class_number};
+ghost use Rattle.dj_resolution.specs.Linked.{prefix_of};
+ghost use Rattle.dj_numbering.specs.Kept.{AreKept, types_kept};
+ghost use Rattle.dj_numbering.specs.Own.{AreOwn, array_at, array_in, raised_in};
+ghost use Rattle.dj_numbering.specs.Typed.{stop_under, text_number, text_of_type};
 
 use crate::arrays::{Arrays, number_in};
-use dj_linking::{BaseNames, Linker};
 use dj_names::{Base, Raised};
+use dj_resolution::{BaseNames, Linker};
 
 /// The numbers of the classes that a machine asks for by name, looked up once: a step of a run may ask them.
 #[derive(Clone, Copy, Debug)]

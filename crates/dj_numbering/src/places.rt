@@ -2,12 +2,12 @@
 ghost use Rattle.std.specs.Prelude.{◌≡◌, ◌<◌, length, Some, IfOk, slice_get};
 ghost use Rattle.std.specs.Option.{option_map};
 ghost use Rattle.dj_model.specs.trusted.Linking.{place_of};
-ghost use Rattle.dj_types.specs.Members.{all_fields};
-ghost use Rattle.dj_types.specs.Numbered.{AreMembers, AreObjectPlaces};
+ghost use Rattle.dj_numbering.specs.Members.{all_fields};
+ghost use Rattle.dj_numbering.specs.Numbered.{AreMembers, AreObjectPlaces};
 
 use crate::error::TypesError;
 use crate::members::{Members, place_at};
-use dj_classes::{ClassTable, Place};
+use dj_class_table::{ClassTable, Place};
 use std::alloc::Global;
 
 // The place of the field of a number among the instance fields of an object.

@@ -1,12 +1,12 @@
 ghost use Rattle.std.specs.Prelude.{◌≡◌, IsTrue};
 ghost use Rattle.dj_model.specs.trusted.Linking.{array_supertypes, is_among, is_below, is_subtype, takes_arrays};
-ghost use Rattle.dj_linking.specs.Linked.{prefix_of};
-ghost use Rattle.dj_types.specs.Typed.{is_known_of};
-ghost use Rattle.dj_types.specs.Shapes.{IsElement, element_in, element_of, shape_in, shape_type};
+ghost use Rattle.dj_resolution.specs.Linked.{prefix_of};
+ghost use Rattle.dj_numbering.specs.Typed.{is_known_of};
+ghost use Rattle.dj_numbering.specs.Shapes.{IsElement, element_in, element_of, shape_in, shape_type};
 
-use dj_classes::ClassTable;
-use dj_linking::{BaseNames, Linker};
+use dj_class_table::ClassTable;
 use dj_names::{Base, Of, Ty};
+use dj_resolution::{BaseNames, Linker};
 
 /// What an array's elements are.
 #[derive(Clone, Copy, Debug, PartialEq, Eq)]

@@ -1,14 +1,14 @@
 ghost use Rattle.std.specs.Prelude.{◌≡◌, ◌+◌, ◌^◌, ◌<◌, length, map, Some, None, IfOk, IfSome, slice_get};
 ghost use Rattle.std.specs.Option.{option_map};
 ghost use Rattle.dj_model.specs.trusted.Linking.{member_class, place_of};
-ghost use Rattle.dj_declared.specs.trusted.Files.{desc_in};
-ghost use Rattle.dj_declared.specs.Members.{IsDescriptor};
-ghost use Rattle.dj_classes.specs.Tables.{class_number, methods_at, fields_at, method_there, field_there};
-ghost use Rattle.dj_types.specs.Typed.{texts_of, types_of, type_at, text_number, flags_at, super_at, interfaces_at, component_at, is_subtype_at, string_at, chars_at, stop_at, ArePlain, AreArrays};
-ghost use Rattle.dj_types.specs.Own.{array_at, raised_at};
-ghost use Rattle.dj_types.specs.Shapes.{IsElement, AreElements, shape_type};
-ghost use Rattle.dj_types.specs.Named.{IsDirectoryOf, IsNumbered, IsNumberedBy, IsNamedMethod, IsNamedField};
-ghost use Rattle.dj_types.specs.Members.{all_methods, all_fields, field_count_at, resolved_method, resolved_field, selected, special_of, found_method_number, found_field_number, IsMethodThere, IsFieldThere, IsNthMethod, IsNthField, IsMethodPlace, IsFieldPlace, native_at, number_of_method, number_of_field, methods_before, fields_before};
+ghost use Rattle.dj_declarations.specs.trusted.Files.{desc_in};
+ghost use Rattle.dj_declarations.specs.Members.{IsDescriptor};
+ghost use Rattle.dj_class_table.specs.Tables.{class_number, methods_at, fields_at, method_there, field_there};
+ghost use Rattle.dj_numbering.specs.Typed.{texts_of, types_of, type_at, text_number, flags_at, super_at, interfaces_at, component_at, is_subtype_at, string_at, chars_at, stop_at, ArePlain, AreArrays};
+ghost use Rattle.dj_numbering.specs.Own.{array_at, raised_at};
+ghost use Rattle.dj_numbering.specs.Shapes.{IsElement, AreElements, shape_type};
+ghost use Rattle.dj_numbering.specs.Named.{IsDirectoryOf, IsNumbered, IsNumberedBy, IsNamedMethod, IsNamedField};
+ghost use Rattle.dj_numbering.specs.Members.{all_methods, all_fields, field_count_at, resolved_method, resolved_field, selected, special_of, found_method_number, found_field_number, IsMethodThere, IsFieldThere, IsNthMethod, IsNthField, IsMethodPlace, IsFieldPlace, native_at, number_of_method, number_of_field, methods_before, fields_before};
 
 use crate::arrays::{Arrays, check_names, number_in, text_in};
 use crate::error::TypesError;
@@ -17,9 +17,9 @@ use crate::named::{MemberName, field_in, method_in};
 use crate::own::OwnClasses;
 use crate::places::object_places;
 use crate::shapes::{ElementType, Shape, is_subtype};
-use dj_classes::Place;
-use dj_linking::{CallTable, Directory, Linker, resolve_field_of, resolve_method_of};
+use dj_class_table::Place;
 use dj_names::{Base, NativeId, Raised};
+use dj_resolution::{CallTable, Directory, Linker, resolve_field_of, resolve_method_of};
 use std::alloc::Global;
 use std::marker::Model;
 
@@ -60,11 +60,11 @@ pub struct Types {
 }
 
 impl Model for Types {
-    ghost use Rattle.dj_types.specs.Typed.{Typed};
+    ghost use Rattle.dj_numbering.specs.Typed.{Typed};
 
     ghost Value = { Typed };
 
-    ghost use Rattle.dj_types.specs.Kept.{IsTyped, types_kept};
+    ghost use Rattle.dj_numbering.specs.Kept.{IsTyped, types_kept};
 
     ghost view = { λ types. record { program = types.linker.program; prefix = types.linker.prefix; arrays = types_kept types.linker.program types.kept } };
 

@@ -3,11 +3,11 @@ use Rattle.std.proofs.Common.{◌≡◌, ℕ, ◌^◌, ◌<◌, ◌≤◌, ◌&&
 use Rattle.std.specs.Int.{w8, w16}
 use Rattle.std.specs.List.{flat_map}
 use Rattle.std.proofs.lemmas.Bool.{le-leb, lt-ltb}
-use Rattle.dj_bytes.specs.trusted.Spelling.{u2, s1, s2, s4}
-use Rattle.dj_bytes.specs.Reading.{Cursor}
-use Rattle.dj_bytes.proofs.Steps.{bind_again}
-use Rattle.dj_bytes.proofs.Spans.{Spans, Spans-stay, step_again}
-use Rattle.dj_bytes.proofs.Numbers.{u1_reads, u2_reads}
+use Rattle.dj_cursor.specs.trusted.Spelling.{u2, s1, s2, s4}
+use Rattle.dj_cursor.specs.Reading.{Cursor}
+use Rattle.dj_cursor.proofs.Steps.{bind_again}
+use Rattle.dj_cursor.proofs.Spans.{Spans, Spans-stay, step_again}
+use Rattle.dj_cursor.proofs.Numbers.{u1_reads, u2_reads}
 use Rattle.dj_ops.specs.declared.instruction.Instr.{Instr}
 use Rattle.dj_ops.specs.declared.instruction.Instr.TheVariants as instrs
 use Rattle.dj_ops.specs.trusted.Forms.{OperandForm, Bare, SignedByte, SignedShort, ShortLiteral, LongLiteral, Slot, SlotAndByte, ShortOffset, LongOffset, MemberIndex, InterfaceIndex, DynamicIndex, ClassIndex, ArrayType, MultiIndex, TableSwitch, LookupSwitch, WidePrefix, Reserved, form_of}

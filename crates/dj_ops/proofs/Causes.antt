@@ -1,12 +1,12 @@
 -- A refusal has its cause, and where a cause is that refusal comes: by the forms of opcodes.
 use Rattle.std.proofs.Common.{◌≡◌, ◌≢◌, ℕ, ◌<◌, ◌≤◌, ◌&&◌, ◌⊎◌, Bool, true, false, ltb, eqb, nat_le, List, [], ◌∷◌, ◌++◌, length, get_or, Err, refl, sym, ap, ap₂, subst, ◌∙◌, arith, inl, inr}
 use Rattle.std.proofs.lemmas.Bool.{le-leb, leb-true, ltb-false, eqb-false, ne_eqb}
-use Rattle.dj_bytes.specs.trusted.Spelling.{u1, u2}
-use Rattle.dj_bytes.specs.Reading.{Cursor, u1_at, u2_at}
-use Rattle.dj_bytes.proofs.Bytes.{IsBytes}
-use Rattle.dj_bytes.proofs.Steps.{bind_again, bind_err, bind_fails}
-use Rattle.dj_bytes.proofs.Spans.{Spans}
-use Rattle.dj_bytes.proofs.Numbers.{u1_reads, u2_reads}
+use Rattle.dj_cursor.specs.trusted.Spelling.{u1, u2}
+use Rattle.dj_cursor.specs.Reading.{Cursor, u1_at, u2_at}
+use Rattle.dj_cursor.proofs.Bytes.{IsBytes}
+use Rattle.dj_cursor.proofs.Steps.{bind_again, bind_err, bind_fails}
+use Rattle.dj_cursor.proofs.Spans.{Spans}
+use Rattle.dj_cursor.proofs.Numbers.{u1_reads, u2_reads}
 use Rattle.dj_ops.specs.declared.instruction.Instr.{Instr}
 use Rattle.dj_ops.specs.declared.instruction.Instr.TheVariants as instrs
 use Rattle.dj_ops.specs.declared.read.OpError.{OpError}

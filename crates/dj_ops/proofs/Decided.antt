@@ -1,7 +1,7 @@
 -- An address of bytes has an instruction or a refusal, and one of them alone.
 use Rattle.std.proofs.Common.{◌≡◌, ℕ, ◌<◌, ◌⊎◌, List, length, Result, Ok, Err, refl, arith, inl, inr}
-use Rattle.dj_bytes.specs.Reading.{Cursor, cursor_at}
-use Rattle.dj_bytes.proofs.Bytes.{IsBytes}
+use Rattle.dj_cursor.specs.Reading.{Cursor, cursor_at}
+use Rattle.dj_cursor.proofs.Bytes.{IsBytes}
 use Rattle.dj_ops.specs.declared.instruction.Instr.{Instr}
 use Rattle.dj_ops.specs.declared.read.OpError.{OpError}
 use Rattle.dj_ops.specs.Laws.{OneRefusal, NoInstructionWhereRefused, HasInstruction, HasRefusal, InstructionOrRefusal}

@@ -2,11 +2,11 @@
 use Rattle.std.proofs.Common.{◌≡◌, ℕ, ◌^◌, ◌<◌, ◌&&◌, Bool, true, false, ltb, eqb, nat_le, ℤ, List, [], ◌∷◌, ◌++◌, Ok, refl, sym, ap, ap₂, subst, arith, inl, inr}
 use Rattle.std.proofs.lemmas.Bool.{leb-true, ltb-true, eqb-true}
 use Rattle.std.proofs.lemmas.Int.{ints}
-use Rattle.dj_bytes.specs.trusted.Spelling.{u1, u2, s2}
-use Rattle.dj_bytes.specs.Reading.{Cursor}
-use Rattle.dj_bytes.proofs.Bytes.{IsBytes}
-use Rattle.dj_bytes.proofs.Spans.{Spans, Spans-none, Spans-then, Reads, step_takes}
-use Rattle.dj_bytes.proofs.Numbers.{u1_reads, u2_reads}
+use Rattle.dj_cursor.specs.trusted.Spelling.{u1, u2, s2}
+use Rattle.dj_cursor.specs.Reading.{Cursor}
+use Rattle.dj_cursor.proofs.Bytes.{IsBytes}
+use Rattle.dj_cursor.proofs.Spans.{Spans, Spans-none, Spans-then, Reads, step_takes}
+use Rattle.dj_cursor.proofs.Numbers.{u1_reads, u2_reads}
 use Rattle.dj_ops.specs.declared.instruction.Instr.{Instr}
 use Rattle.dj_ops.specs.declared.instruction.Instr.TheVariants as instrs
 use Rattle.dj_ops.specs.trusted.Forms.{OperandForm, Bare, SignedByte, SignedShort, ShortLiteral, LongLiteral, Slot, SlotAndByte, ShortOffset, LongOffset, MemberIndex, ClassIndex, form_of}

@@ -1,6 +1,6 @@
 -- Instructions of every family with their bytes, by hand from JVMS 6.5: what is read of the bytes, and what is written of the instruction.
 use Rattle.std.proofs.Common.{◌≡◌, ℕ, ◌+◌, pos, negsuc, List, [], ◌∷◌, ◌++◌, length, replicate, map, true, false, Ok, Err, refl, Result, Option, Some, None, ◌≢◌}
-use Rattle.dj_bytes.specs.Reading.{Cursor, cursor_at, many_at}
+use Rattle.dj_cursor.specs.Reading.{Cursor, cursor_at, many_at}
 use Rattle.dj_ops.specs.declared.instruction.Instr.{Instr}
 use Rattle.dj_ops.specs.declared.instruction.Instr.TheVariants as instrs
 use Rattle.dj_ops.specs.declared.read.OpError.{OpError}

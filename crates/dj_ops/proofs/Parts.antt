@@ -5,14 +5,14 @@ use Rattle.std.proofs.lemmas.Bool.{ltb-false}
 use Rattle.std.proofs.lemmas.Int.{of_z-to_z, to_z-of_z, ints}
 use Rattle.std.proofs.lemmas.List.{length-drop}
 use Rattle.std.proofs.Math.Facts.{sfits_to_z}
-use Rattle.dj_bytes.specs.declared.cursor.Cut.{Cut}
-use Rattle.dj_bytes.specs.trusted.Spelling.{u1, u2, u4, s1, s2, s4}
-use Rattle.dj_bytes.specs.Steps.{lifted}
-use Rattle.dj_bytes.specs.Reading.{Cursor, bytes_at, number_at, block_at, u1_at, u2_at, u4_at, many_at}
-use Rattle.dj_bytes.proofs.Bytes.{IsBytes}
-use Rattle.dj_bytes.proofs.Steps.{bind_ok, bind_again, bind_err, bind_fails, lifted_ok, lifted_err, cond_either, cond_true, cond_false}
-use Rattle.dj_bytes.proofs.Spans.{Spans, Spans-then, Reads, step_takes, step_again}
-use Rattle.dj_bytes.proofs.Numbers.{u1_reads, u2_reads, u4_reads, bytes_cut, bytes_short, number_cut, number_short}
+use Rattle.dj_cursor.specs.declared.cursor.Cut.{Cut}
+use Rattle.dj_cursor.specs.trusted.Spelling.{u1, u2, u4, s1, s2, s4}
+use Rattle.dj_cursor.specs.Steps.{lifted}
+use Rattle.dj_cursor.specs.Reading.{Cursor, bytes_at, number_at, block_at, u1_at, u2_at, u4_at, many_at}
+use Rattle.dj_cursor.proofs.Bytes.{IsBytes}
+use Rattle.dj_cursor.proofs.Steps.{bind_ok, bind_again, bind_err, bind_fails, lifted_ok, lifted_err, cond_either, cond_true, cond_false}
+use Rattle.dj_cursor.proofs.Spans.{Spans, Spans-then, Reads, step_takes, step_again}
+use Rattle.dj_cursor.proofs.Numbers.{u1_reads, u2_reads, u4_reads, bytes_cut, bytes_short, number_cut, number_short}
 use Rattle.dj_ops.specs.declared.instruction.Instr.{Instr}
 use Rattle.dj_ops.specs.declared.read.OpError.{OpError}
 use Rattle.dj_ops.specs.declared.read.OpError.TheVariants as errors

@@ -1,7 +1,7 @@
 -- What follows an opcode is refused for its cause, and where the cause is, for all forms.
 use Rattle.std.proofs.Common.{◌≡◌, ℕ, List, Err, refl, ap, subst, ◌∙◌, arith}
-use Rattle.dj_bytes.specs.Reading.{Cursor}
-use Rattle.dj_bytes.proofs.Bytes.{IsBytes}
+use Rattle.dj_cursor.specs.Reading.{Cursor}
+use Rattle.dj_cursor.proofs.Bytes.{IsBytes}
 use Rattle.dj_ops.specs.declared.instruction.Instr.{Instr}
 use Rattle.dj_ops.specs.declared.read.OpError.{OpError}
 use Rattle.dj_ops.specs.declared.read.OpError.TheVariants as errors

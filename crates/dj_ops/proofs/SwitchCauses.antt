@@ -6,13 +6,13 @@ use Rattle.std.specs.Int.{w32}
 use Rattle.std.proofs.lemmas.Bool.{false_from_ne_true, true≢false}
 use Rattle.std.proofs.lemmas.Int.{ints}
 use Rattle.std.proofs.lemmas.List.{drop_at, length-append, length-drop}
-use Rattle.dj_bytes.specs.trusted.Spelling.{s4}
-use Rattle.dj_bytes.specs.Reading.{Cursor, block_at}
-use Rattle.dj_bytes.proofs.Bytes.{IsBytes}
-use Rattle.dj_bytes.proofs.Steps.{bind_again, bind_err, bind_fails, cond_either, cond_true, cond_false}
-use Rattle.dj_bytes.proofs.Spans.{Spans, IsBytes-Spans}
-use Rattle.dj_bytes.proofs.Numbers.{block_reads}
-use Rattle.dj_bytes.proofs.Parts.{many_reads}
+use Rattle.dj_cursor.specs.trusted.Spelling.{s4}
+use Rattle.dj_cursor.specs.Reading.{Cursor, block_at}
+use Rattle.dj_cursor.proofs.Bytes.{IsBytes}
+use Rattle.dj_cursor.proofs.Steps.{bind_again, bind_err, bind_fails, cond_either, cond_true, cond_false}
+use Rattle.dj_cursor.proofs.Spans.{Spans, IsBytes-Spans}
+use Rattle.dj_cursor.proofs.Numbers.{block_reads}
+use Rattle.dj_cursor.proofs.Parts.{many_reads}
 use Rattle.dj_ops.specs.declared.instruction.Instr.{Instr}
 use Rattle.dj_ops.specs.declared.instruction.Instr.TheVariants as instrs
 use Rattle.dj_ops.specs.declared.read.OpError.{OpError}

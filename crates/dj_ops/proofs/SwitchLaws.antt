@@ -4,13 +4,13 @@ use Rattle.std.specs.Prelude.{unsigned_abs, int_lt, AllPairs}
 use Rattle.std.specs.List.{flat_map, AllByRecursion}
 use Rattle.std.specs.Int.{w32}
 use Rattle.std.proofs.lemmas.Int.{ints}
-use Rattle.dj_bytes.specs.trusted.Spelling.{s4}
-use Rattle.dj_bytes.specs.Reading.{Cursor}
-use Rattle.dj_bytes.proofs.Bytes.{IsBytes}
-use Rattle.dj_bytes.proofs.Steps.{bind_again, cond_either, cond_true, cond_false}
-use Rattle.dj_bytes.proofs.Spans.{Spans, Spans-then, Reads, step_takes, step_again}
-use Rattle.dj_bytes.proofs.Numbers.{block_reads}
-use Rattle.dj_bytes.proofs.Parts.{many_reads}
+use Rattle.dj_cursor.specs.trusted.Spelling.{s4}
+use Rattle.dj_cursor.specs.Reading.{Cursor}
+use Rattle.dj_cursor.proofs.Bytes.{IsBytes}
+use Rattle.dj_cursor.proofs.Steps.{bind_again, cond_either, cond_true, cond_false}
+use Rattle.dj_cursor.proofs.Spans.{Spans, Spans-then, Reads, step_takes, step_again}
+use Rattle.dj_cursor.proofs.Numbers.{block_reads}
+use Rattle.dj_cursor.proofs.Parts.{many_reads}
 use Rattle.dj_ops.specs.declared.instruction.Instr.{Instr}
 use Rattle.dj_ops.specs.declared.instruction.Instr.TheVariants as instrs
 use Rattle.dj_ops.specs.trusted.Instructions.{IsTable, IsLookup, IsPadding, offset, IsFar, high_of, target_bytes, pair_bytes, SpellsInstruction, padding_count}

@@ -2,12 +2,12 @@
 use Rattle.std.proofs.Common.{◌≡◌, ℕ, ◌+◌, ◌-◌, ◌<◌, ◌≤◌, List, [], ◌∷◌, length, get_or, take, drop, Result, Ok, Err, slice_range, refl, sym, ap, ap₂, subst, ◌∙◌, arith, inl, inr}
 use Rattle.std.proofs.lemmas.List.{take_at, length-append, length-take, length-drop, get_or-drop, drop-drop}
 use Rattle.std.proofs.lemmas.List.Folds.{drop_split}
-use Rattle.dj_bytes.specs.Steps.{Fails}
-use Rattle.dj_bytes.specs.Reading.{Cursor, cursor_at, u1_at}
-use Rattle.dj_bytes.proofs.Bytes.{IsBytes, IsBytes-drop}
-use Rattle.dj_bytes.proofs.Steps.{bind_again, bind_err}
-use Rattle.dj_bytes.proofs.Spans.{Spans, Spans-then, IsBytes-Spans, step_takes}
-use Rattle.dj_bytes.proofs.Numbers.{u1_reads}
+use Rattle.dj_cursor.specs.Steps.{Fails}
+use Rattle.dj_cursor.specs.Reading.{Cursor, cursor_at, u1_at}
+use Rattle.dj_cursor.proofs.Bytes.{IsBytes, IsBytes-drop}
+use Rattle.dj_cursor.proofs.Steps.{bind_again, bind_err}
+use Rattle.dj_cursor.proofs.Spans.{Spans, Spans-then, IsBytes-Spans, step_takes}
+use Rattle.dj_cursor.proofs.Numbers.{u1_reads}
 use Rattle.dj_ops.specs.declared.instruction.Instr.{Instr}
 use Rattle.dj_ops.specs.declared.read.OpError.{OpError}
 use Rattle.dj_ops.specs.declared.read.OpError.TheVariants as errors

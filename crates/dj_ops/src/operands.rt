@@ -1,11 +1,11 @@
-ghost use Rattle.dj_bytes.specs.Steps.{Gives};
-ghost use Rattle.dj_bytes.specs.Views.{cursor_of};
+ghost use Rattle.dj_cursor.specs.Steps.{Gives};
+ghost use Rattle.dj_cursor.specs.Views.{cursor_of};
 ghost use Rattle.dj_ops.specs.trusted.Forms.{form_of};
 ghost use Rattle.dj_ops.specs.Reading.{is_memory, s1_at, s2_at, s4_at, byte_push_at, short_push_at, short_literal_at, long_literal_at, local_at, increment_at, short_branch_at, long_branch_at, member_at, class_at, index_and_two_at, interface_at, dynamic_at, array_at, multi_at, wide_local_at, wide_increment_at, wide_form_at, wide_at};
 
 use crate::instruction::Instr;
 use crate::read::OpError;
-use dj_bytes::Cursor;
+use dj_cursor::Cursor;
 
 /// A signed byte.
 #[tactic(auto, unfolding(crate::specs::Reading::s1_at))]

@@ -1,6 +1,6 @@
 ghost use Rattle.std.specs.Prelude.{◌≡◌, ℕ, ◌^◌, ◌<◌, length, Ok, Err, IfSome, IfOk, IfErr, IsTrue};
-ghost use Rattle.dj_bytes.specs.Steps.{Gives};
-ghost use Rattle.dj_bytes.specs.Views.{cursor_of};
+ghost use Rattle.dj_cursor.specs.Steps.{Gives};
+ghost use Rattle.dj_cursor.specs.Views.{cursor_of};
 ghost use Rattle.dj_ops.specs.declared.instruction.Instr.{Instr};
 ghost use Rattle.dj_ops.specs.declared.instruction.Instr.TheVariants.{Simple};
 ghost use Rattle.dj_ops.specs.trusted.Forms.{Bare, form_of};
@@ -15,7 +15,7 @@ use crate::operands::{
     read_short_literal, read_short_push, read_wide,
 };
 use crate::switches::{read_lookup, read_table};
-use dj_bytes::{Cursor, Cut};
+use dj_cursor::{Cursor, Cut};
 use std::alloc::{AllocError, AllocFailed, Global};
 use thiserror::Error;
 

@@ -1,16 +1,16 @@
 ghost use Rattle.std.specs.Prelude.{◌≡◌, ℕ, ◌+◌, ◌-ℤ◌, unsigned_abs};
-ghost use Rattle.dj_bytes.specs.Steps.{Gives};
-ghost use Rattle.dj_bytes.specs.Reading.{many_at};
-ghost use Rattle.dj_bytes.specs.Views.{cursor_of};
+ghost use Rattle.dj_cursor.specs.Steps.{Gives};
+ghost use Rattle.dj_cursor.specs.Reading.{many_at};
+ghost use Rattle.dj_cursor.specs.Views.{cursor_of};
 ghost use Rattle.dj_ops.specs.trusted.Instructions.{padding_count};
 ghost use Rattle.dj_ops.specs.Reading.{is_memory, cut, target_at, pair_at, bounds_at, count_at, table_from, lookup_from, padded_at};
-ghost use Rattle.dj_bytes.specs.Reading.{block_at};
+ghost use Rattle.dj_cursor.specs.Reading.{block_at};
 
 use crate::instruction::Instr;
 use crate::lists::{Pairs, Targets};
 use crate::operands::read_s4;
 use crate::read::OpError;
-use dj_bytes::Cursor;
+use dj_cursor::Cursor;
 use std::alloc::Global;
 
 /// The target of an offset of four bytes.

@@ -1,6 +1,6 @@
 ghost use Rattle.std.specs.Prelude.{◌+◌, ◌^◌, ◌<◌, FitsSigned, [], ◌∷◌};
 ghost use Rattle.std.specs.Int.{w16};
-ghost use Rattle.dj_bytes.specs.trusted.Spelling.{u2, s2, s4};
+ghost use Rattle.dj_cursor.specs.trusted.Spelling.{u2, s2, s4};
 ghost use Rattle.dj_ops.specs.trusted.Forms.{form_of};
 ghost use Rattle.dj_ops.specs.trusted.Instructions.{signed_bytes, IsPushed, IsOffset, literal_bytes, IsLiteral, IsLocal, IsIncrement, IsProper, IsFar, AreOffsets, offset, written, length_at};
 ghost use Rattle.dj_ops.specs.Instructions.{Appended};

@@ -1,6 +1,6 @@
 ghost use Rattle.std.specs.Prelude.{◌≡◌, ◌+◌, ◌<◌, ◌++◌, replicate, OnOk};
 ghost use Rattle.std.specs.List.{flat_map, AllByRecursion};
-ghost use Rattle.dj_bytes.specs.trusted.Spelling.{s4};
+ghost use Rattle.dj_cursor.specs.trusted.Spelling.{s4};
 ghost use Rattle.dj_ops.specs.trusted.Instructions.{IsTable, IsLookup, IsFar, offset, high_of, target_bytes, pair_bytes, written, padding_count};
 ghost use Rattle.dj_ops.specs.Instructions.{Appended};
 ghost use Rattle.dj_ops.specs.declared.instruction.Instr.TheVariants as instrs;

@@ -5,7 +5,7 @@ use Rattle.std.proofs.lemmas.Grind.{reverse_onto}
 use Rattle.std.proofs.lemmas.List.{length-reverse}
 use Rattle.std.proofs.lemmas.Option.{same_Some}
 use Rattle.dj_stack.specs.Frames.{StackFrame, frame_at, local_at, operand_at, top_locals, top_operands}
-use Rattle.dj_machine_tests.proofs.Places.{some_within}
+use Rattle.dj_parts_tests.proofs.Places.{some_within}
 
 pub frame_here : (frames : List StackFrame) (f : ℕ) → f < length frames → IsSome (frame_at frames f)
 frame_here frames f within = some_within (reverse frames) f (omega (arith, within, length-reverse frames))

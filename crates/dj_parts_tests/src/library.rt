@@ -1,5 +1,5 @@
 use dj_library::{LibraryHead, deterministic, heads, raw};
-use dj_natives::{LibClass, Library};
+use dj_library_types::{LibClass, Library};
 use std::alloc::Global;
 
 // A class: its name, its flags, and the number of its methods in the deterministic and in the raw library.

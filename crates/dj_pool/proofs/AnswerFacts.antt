@@ -4,7 +4,7 @@ use Rattle.std.specs.Prelude.{codes}
 use Rattle.std.specs.List.{list_all}
 use Rattle.std.proofs.lemmas.Bool.{and_parts}
 use Rattle.std.proofs.lemmas.Bool.Decides.{nat_tests}
-use Rattle.dj_bytes.proofs.Bytes.{IsBytes}
+use Rattle.dj_cursor.proofs.Bytes.{IsBytes}
 use Rattle.dj_names.specs.trusted.NameReading.{reads_class_name}
 use Rattle.dj_names.specs.trusted.DescReading.{dims_read, name_read, class_read, of_read, type_read, params_read, field_read, return_read, method_read}
 use Rattle.dj_names.specs.trusted.UnitReading.{unit_read, long_read, two_read, three_read}

@@ -7,15 +7,15 @@ use Rattle.std.proofs.lemmas.Bool.{eqb-true}
 use Rattle.std.proofs.lemmas.Int.{ints}
 use Rattle.std.proofs.lemmas.List.{length-append, length-replicate, append-nil}
 use Rattle.std.proofs.lemmas.List.Elements.{All-from_recursion}
-use Rattle.dj_bytes.specs.trusted.Spelling.{u1, u2, u4, u8, s4, s8}
-use Rattle.dj_bytes.specs.Steps.{◌>>=◌}
-use Rattle.dj_bytes.specs.Reading.{Cursor, block_at, u1_at, u2_at, u4_at, u8_at}
-use Rattle.dj_bytes.specs.Faults.{after, IsCut}
-use Rattle.dj_bytes.proofs.Bytes.{IsBytes}
-use Rattle.dj_bytes.proofs.Steps.{bind_again, bind_err, bind_fails, cond_either, cond_false}
-use Rattle.dj_bytes.proofs.Spans.{Spans, IsBytes-Spans, Reads, step_again}
-use Rattle.dj_bytes.proofs.Numbers.{u1_reads, u2_reads, u4_reads, u8_reads, block_reads}
-use Rattle.dj_bytes.proofs.FaultLaws.{Refuses, after-Spans, u1_refuses, u2_refuses, u4_refuses, u8_refuses, block_refuses}
+use Rattle.dj_cursor.specs.trusted.Spelling.{u1, u2, u4, u8, s4, s8}
+use Rattle.dj_cursor.specs.Steps.{◌>>=◌}
+use Rattle.dj_cursor.specs.Reading.{Cursor, block_at, u1_at, u2_at, u4_at, u8_at}
+use Rattle.dj_cursor.specs.Faults.{after, IsCut}
+use Rattle.dj_cursor.proofs.Bytes.{IsBytes}
+use Rattle.dj_cursor.proofs.Steps.{bind_again, bind_err, bind_fails, cond_either, cond_false}
+use Rattle.dj_cursor.proofs.Spans.{Spans, IsBytes-Spans, Reads, step_again}
+use Rattle.dj_cursor.proofs.Numbers.{u1_reads, u2_reads, u4_reads, u8_reads, block_reads}
+use Rattle.dj_cursor.proofs.FaultLaws.{Refuses, after-Spans, u1_refuses, u2_refuses, u4_refuses, u8_refuses, block_refuses}
 use Rattle.dj_names.specs.trusted.ModifiedUtf8.{IsModifiedUtf8}
 use Rattle.dj_names.specs.Tests.{modified_utf8_test}
 use Rattle.dj_pool.specs.declared.pool.PoolError.{PoolError}

@@ -3,13 +3,13 @@ use Rattle.std.proofs.Common.{◌≡◌, ℕ, ◌^◌, ◌<◌, ◌||◌, true, 
 use Rattle.std.specs.Int.{w32, w64, cast_signed, cast_unsigned}
 use Rattle.std.proofs.lemmas.Bool.{eqb-true, or_cases}
 use Rattle.std.proofs.lemmas.Int.{of_z-to_z, to_z-of_z, ints}
-use Rattle.dj_bytes.specs.trusted.Spelling.{u1, u2, u4, u8, s4, s8}
-use Rattle.dj_bytes.specs.Steps.{◌>>=◌}
-use Rattle.dj_bytes.specs.Reading.{Cursor, u1_at, u2_at, u4_at, u8_at}
-use Rattle.dj_bytes.proofs.Bytes.{IsBytes}
-use Rattle.dj_bytes.proofs.Steps.{bind_again, never_ok, guard_ok, guard_again, cond_either}
-use Rattle.dj_bytes.proofs.Spans.{Spans, Spans-then, Reads, step_takes, step_again}
-use Rattle.dj_bytes.proofs.Numbers.{u1_reads, u2_reads, u4_reads, u8_reads, block_reads}
+use Rattle.dj_cursor.specs.trusted.Spelling.{u1, u2, u4, u8, s4, s8}
+use Rattle.dj_cursor.specs.Steps.{◌>>=◌}
+use Rattle.dj_cursor.specs.Reading.{Cursor, u1_at, u2_at, u4_at, u8_at}
+use Rattle.dj_cursor.proofs.Bytes.{IsBytes}
+use Rattle.dj_cursor.proofs.Steps.{bind_again, never_ok, guard_ok, guard_again, cond_either}
+use Rattle.dj_cursor.proofs.Spans.{Spans, Spans-then, Reads, step_takes, step_again}
+use Rattle.dj_cursor.proofs.Numbers.{u1_reads, u2_reads, u4_reads, u8_reads, block_reads}
 use Rattle.dj_pool.specs.declared.pool.PoolError.{PoolError}
 use Rattle.dj_pool.specs.declared.pool.PoolError.TheVariants as pool_errors
 use Rattle.dj_pool.specs.trusted.Pool.{Constant, Utf8, Integer, Float, Long, Double, Class, Text, Field, Method, InterfaceMethod, NameAndType, Handle, MethodType, Dynamic, Hole, constant_bytes, IsWhole}

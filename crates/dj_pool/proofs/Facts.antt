@@ -4,7 +4,7 @@ use Rattle.std.specs.Prelude.{nat_eq, codes}
 use Rattle.std.specs.List.{flat_map, list_any}
 use Rattle.std.specs.Int.{w64}
 use Rattle.std.proofs.lemmas.Int.{ints}
-use Rattle.dj_bytes.specs.Reading.{cursor_at}
+use Rattle.dj_cursor.specs.Reading.{cursor_at}
 use Rattle.dj_names.specs.trusted.NameReading.{reads_class_name}
 use Rattle.dj_names.specs.trusted.DescReading.{dims_read, name_read, class_read, of_read, type_read, params_read, field_read, return_read, method_read}
 use Rattle.dj_names.specs.trusted.UnitReading.{unit_read, long_read, two_read, three_read}

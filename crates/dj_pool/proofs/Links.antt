@@ -3,7 +3,7 @@ use Rattle.std.proofs.Common.{◌≡◌, ℕ, zero, suc, ◌+◌, ◌<◌, ◌�
 use Rattle.std.specs.Prelude.{slice_get, nat_le}
 use Rattle.std.specs.List.{AllByRecursion}
 use Rattle.std.proofs.lemmas.Bool.{leb-true, leb-false, lt-leb}
-use Rattle.dj_bytes.proofs.Steps.{cond_either, cond_true, cond_false}
+use Rattle.dj_cursor.proofs.Steps.{cond_either, cond_true, cond_false}
 use Rattle.dj_pool.specs.trusted.Pool.{Constant, Hole, takes_two, indexed, IsWhole, IsLinked, IsConstant}
 use Rattle.dj_pool.specs.Faults.{IsMislinked}
 use Rattle.dj_pool.specs.Tests.{is_linked, is_fit}

@@ -1,10 +1,10 @@
 -- Reading what stands at the indexes one after the other, as a loop does.
 use Rattle.std.proofs.Common.{◌≡◌, ℕ, suc, ◌-◌, ◌+◌, ◌≤◌, ◌<◌, Bool, List, [], ◌∷◌, ◌++◌, Result, Ok, sym, ap, subst, ◌∙◌, arith}
 use Rattle.std.proofs.lemmas.List.{append-nil}
-use Rattle.dj_bytes.proofs.Steps.{fails_then}
-use Rattle.dj_bytes.proofs.Loop.{with_prefix, with_prefix-next}
-use Rattle.dj_bytes.specs.Steps.{◌>>=◌, Fails}
-use Rattle.dj_bytes.specs.Reading.{Cursor}
+use Rattle.dj_cursor.proofs.Steps.{fails_then}
+use Rattle.dj_cursor.proofs.Loop.{with_prefix, with_prefix-next}
+use Rattle.dj_cursor.specs.Steps.{◌>>=◌, Fails}
+use Rattle.dj_cursor.specs.Reading.{Cursor}
 use Rattle.dj_pool.specs.declared.pool.PoolError.{PoolError}
 use Rattle.dj_pool.specs.trusted.Pool.{Constant, takes_two}
 use Rattle.dj_pool.specs.Memory.{pool_is_memory}

@@ -1,10 +1,10 @@
 -- A pool that is read where it stands is spelled there, one that is spelled there is read, and the fault that is reported is the first.
 use Rattle.std.proofs.Common.{◌≡◌, ℕ, List, Result, Ok, Err, refl, ap, subst, inl, inr}
-use Rattle.dj_bytes.specs.Steps.{Gives}
-use Rattle.dj_bytes.specs.Reading.{Cursor, cursor_at}
-use Rattle.dj_bytes.proofs.Bytes.{IsBytes, IsBytes-drop}
-use Rattle.dj_bytes.proofs.Steps.{bind_err}
-use Rattle.dj_bytes.proofs.Spans.{step_takes}
+use Rattle.dj_cursor.specs.Steps.{Gives}
+use Rattle.dj_cursor.specs.Reading.{Cursor, cursor_at}
+use Rattle.dj_cursor.proofs.Bytes.{IsBytes, IsBytes-drop}
+use Rattle.dj_cursor.proofs.Steps.{bind_err}
+use Rattle.dj_cursor.proofs.Spans.{step_takes}
 use Rattle.dj_pool.specs.declared.pool.PoolError.{PoolError}
 use Rattle.dj_pool.specs.declared.pool.PoolError.TheVariants as pool_errors
 use Rattle.dj_pool.specs.Memory.{pool_is_memory}

@@ -6,14 +6,14 @@ use Rattle.std.proofs.lemmas.Bool.{eqb-true}
 use Rattle.std.proofs.lemmas.Bool.Decides.{nat_tests}
 use Rattle.std.proofs.lemmas.List.{length-take, take_all}
 use Rattle.std.proofs.lemmas.Option.{slice_get_within}
-use Rattle.dj_bytes.specs.trusted.Spelling.{u2}
-use Rattle.dj_bytes.specs.Reading.{Cursor}
-use Rattle.dj_bytes.specs.Faults.{after}
-use Rattle.dj_bytes.proofs.Bytes.{IsBytes}
-use Rattle.dj_bytes.proofs.Steps.{bind_again, bind_err, bind_fails, never_ok, cond_either, cond_true, cond_false}
-use Rattle.dj_bytes.proofs.Spans.{Spans, Spans-then, IsBytes-Spans, Reads, step_takes, step_again}
-use Rattle.dj_bytes.proofs.Numbers.{u2_reads}
-use Rattle.dj_bytes.proofs.FaultLaws.{Refuses, Spans-after, after-Spans, u2_refuses}
+use Rattle.dj_cursor.specs.trusted.Spelling.{u2}
+use Rattle.dj_cursor.specs.Reading.{Cursor}
+use Rattle.dj_cursor.specs.Faults.{after}
+use Rattle.dj_cursor.proofs.Bytes.{IsBytes}
+use Rattle.dj_cursor.proofs.Steps.{bind_again, bind_err, bind_fails, never_ok, cond_either, cond_true, cond_false}
+use Rattle.dj_cursor.proofs.Spans.{Spans, Spans-then, IsBytes-Spans, Reads, step_takes, step_again}
+use Rattle.dj_cursor.proofs.Numbers.{u2_reads}
+use Rattle.dj_cursor.proofs.FaultLaws.{Refuses, Spans-after, after-Spans, u2_refuses}
 use Rattle.dj_pool.specs.declared.pool.PoolError.{PoolError}
 use Rattle.dj_pool.specs.declared.pool.PoolError.TheVariants as pool_errors
 use Rattle.dj_pool.specs.trusted.Pool.{Constant, indexed, constant_bytes, pool_bytes, constant_at, IsPool}

@@ -1,6 +1,6 @@
 -- What reading a pool and changing one answer.
 use Rattle.std.specs.Prelude.{◌≡◌, ℕ, ◌+◌, ◌-◌, ◌≤◌, ◌<◌, ⊤, List, [], ◌∷◌, ◌++◌, length, drop, slice_set, Some, Result, Ok, Err, IsSomeAnd}
-use Rattle.dj_bytes.specs.Reading.{cursor_at}
+use Rattle.dj_cursor.specs.Reading.{cursor_at}
 use Rattle.dj_pool.specs.declared.pool.PoolError.{PoolError}
 use Rattle.dj_pool.specs.declared.pool.PoolError.TheVariants as pool_errors
 use Rattle.dj_pool.specs.declared.append.AppendError.{AppendError}

@@ -1,9 +1,9 @@
 -- Bytes at which there is no pool: the first fault, in the order in which a pool is read. Indexes are looked up after the last constant.
 use Rattle.std.specs.Prelude.{◌≡◌, ℕ, ◌+◌, ◌-◌, ◌^◌, ◌<◌, ◌≤◌, ◌⊎◌, true, List, [], ◌∷◌, ◌++◌, length, take, Some, Contains}
 use Rattle.std.specs.List.{flat_map, AllByRecursion}
-use Rattle.dj_bytes.specs.trusted.Spelling.{u1, u2, u4, u8, s4, s8}
-use Rattle.dj_bytes.specs.Reading.{Cursor}
-use Rattle.dj_bytes.specs.Faults.{IsCut, IsDenied, InTurn, after, Fits2}
+use Rattle.dj_cursor.specs.trusted.Spelling.{u1, u2, u4, u8, s4, s8}
+use Rattle.dj_cursor.specs.Reading.{Cursor}
+use Rattle.dj_cursor.specs.Faults.{IsCut, IsDenied, InTurn, after, Fits2}
 use Rattle.dj_names.specs.trusted.ModifiedUtf8.{IsModifiedUtf8}
 use Rattle.dj_pool.specs.declared.pool.PoolError.{PoolError}
 use Rattle.dj_pool.specs.declared.pool.PoolError.TheVariants as pool_errors

@@ -1,6 +1,6 @@
 -- Laws of pools that hold whatever is read or changed.
 use Rattle.std.specs.Prelude.{◌≡◌, ℕ, ◌^◌, ◌<◌, ◌≤◌, ◌⊎◌, ◌↔◌, List, [], ◌∷◌, ◌++◌, None, slice_index, option_and_then}
-use Rattle.dj_bytes.specs.Reading.{cursor_at}
+use Rattle.dj_cursor.specs.Reading.{cursor_at}
 use Rattle.dj_names.specs.trusted.Descriptors.{IsFieldDescriptor, IsMethodDescriptor}
 use Rattle.dj_pool.specs.declared.pool.PoolError.{PoolError}
 use Rattle.dj_pool.specs.trusted.Pool.{Constant, indexed, constant_at, text_of, class_text_of, names_of, member_of, text_at, class_name_at, name_and_type_at, NamesText, NamesDesc, IsConstant, IsPool}

@@ -1,6 +1,6 @@
 ghost use Rattle.std.specs.Prelude.{◌≡◌, ◌+◌, ◌^◌, ◌<◌, length, map, option_map, IfOk};
-ghost use Rattle.dj_bytes.specs.Steps.{Gives};
-ghost use Rattle.dj_bytes.specs.Views.{cursor_of};
+ghost use Rattle.dj_cursor.specs.Steps.{Gives};
+ghost use Rattle.dj_cursor.specs.Views.{cursor_of};
 ghost use Rattle.dj_names.specs.Tests.{unqualified_name_test, method_name_test, field_descriptor_test, method_descriptor_test};
 ghost use Rattle.dj_pool.specs.trusted.Pool.{constant_at};
 ghost use Rattle.dj_pool.specs.Views.{constant_of};
@@ -12,7 +12,7 @@ use crate::entries::is_wide;
 use crate::kinds::{TextKinds, kinds_of_entries};
 use crate::pool::{Entry, Pool, PoolError};
 use crate::read::read_slots;
-use dj_bytes::Cursor;
+use dj_cursor::Cursor;
 use std::alloc::{AllocError, Global};
 use std::marker::Model;
 

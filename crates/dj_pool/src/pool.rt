@@ -5,7 +5,7 @@ ghost use Rattle.dj_pool.specs.Views.{constant_of};
 ghost use Rattle.dj_pool.specs.declared.pool.PoolError.TheVariants as pool_errors;
 
 use crate::entries::entry_at;
-use dj_bytes::Cut;
+use dj_cursor::Cut;
 use std::alloc::{AllocError, AllocFailed};
 use std::marker::Model;
 use thiserror::Error;

@@ -1,6 +1,6 @@
 ghost use Rattle.std.specs.Prelude.{◌≡◌, ◌≤◌, ◌<◌, ◌^◌, length, map, false, IfOk, vec_len};
-ghost use Rattle.dj_bytes.specs.Steps.{Gives};
-ghost use Rattle.dj_bytes.specs.Views.{cursor_of};
+ghost use Rattle.dj_cursor.specs.Steps.{Gives};
+ghost use Rattle.dj_cursor.specs.Views.{cursor_of};
 ghost use Rattle.dj_pool.specs.Views.{constant_of};
 ghost use Rattle.dj_pool.specs.Memory.{pool_is_memory};
 ghost use Rattle.dj_pool.specs.Reading.{utf8_at, number4, number4_at, number8, number8_at, named, named_at, paired, paired_at, handle_at, is_named, is_paired, untagged_at, constant_at_cursor, slot_at, slots_at, pool_from};
@@ -10,7 +10,7 @@ use crate::entries::is_wide;
 use crate::judged::read_judged_pool;
 use crate::pool::{Entry, Pool, PoolError};
 use crate::scan::is_utf8;
-use dj_bytes::Cursor;
+use dj_cursor::Cursor;
 use std::alloc::Global;
 
 // The fewest bytes that a constant has.

@@ -8,8 +8,8 @@ use Rattle.dj_class.specs.trusted.ClassFile.{MemberInfo, ClassFile}
 use Rattle.dj_model.specs.trusted.Program.{Program, Class, Method, Field, Body, Abstract, Runs}
 use Rattle.dj_model.specs.Program.{body_map}
 use Rattle.dj_model.specs.trusted.Libraries.{library_method, library_class, is_name_before, inserted, joined, library_program}
-use Rattle.dj_declared.specs.trusted.Files.{is_bodiless, no_code, declared_method, declared_field, declared_class, declared_program}
-use Rattle.dj_declared.specs.Files.{bare_method, bare_field, bare_class}
+use Rattle.dj_declarations.specs.trusted.Files.{is_bodiless, no_code, declared_method, declared_field, declared_class, declared_program}
+use Rattle.dj_declarations.specs.Files.{bare_method, bare_field, bare_class}
 use Rattle.dj_program.specs.trusted.Programs.{AreSideBySide, IsBodyIn, IsMethodIn, field_in_file, IsClassIn, IsProgramIn}
 use Rattle.dj_program.specs.Laws.{BareIsDeclared}
 

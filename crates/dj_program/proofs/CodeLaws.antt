@@ -2,9 +2,9 @@
 use Rattle.std.proofs.Common.{ℕ, List, refl, sym, subst, Contains, arith}
 use Rattle.dj_pool.specs.trusted.Pool.{Constant}
 use Rattle.dj_class.specs.trusted.ClassFile.{MemberInfo}
-use Rattle.dj_check.specs.declared.code.WholeCode.{WholeCode}
-use Rattle.dj_check.specs.trusted.Code.{HasFrames}
-use Rattle.dj_check.specs.Passes.{bodies_in, IsWholeMethod}
+use Rattle.dj_early_rules.specs.declared.code.WholeCode.{WholeCode}
+use Rattle.dj_early_rules.specs.trusted.Code.{HasFrames}
+use Rattle.dj_early_rules.specs.Passes.{bodies_in, IsWholeMethod}
 use Rattle.dj_program.specs.trusted.Codes.{IsMethodCode}
 
 pub whole_is : (pool : List Constant) (m : MemberInfo) (code : WholeCode) → IsWholeMethod pool m code

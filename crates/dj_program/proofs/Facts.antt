@@ -17,9 +17,9 @@ use Rattle.dj_model.specs.trusted.Instructions.{AnInt, ALong, AText, AClass, AFi
 use Rattle.dj_model.specs.trusted.Opcodes.{instruction_of, simple}
 use Rattle.dj_model.specs.trusted.Program as programs
 use Rattle.dj_model.specs.trusted.Program.{Code, Abstract, Runs}
-use Rattle.dj_declared.specs.trusted.Files.{desc_in, type_in}
+use Rattle.dj_declarations.specs.trusted.Files.{desc_in, type_in}
 use Rattle.dj_program.specs.trusted.Naming.{units_in, named_at, named_by, instruction_in, constant_in}
-use Rattle.dj_check.specs.trusted.Code.{HasFrames}
+use Rattle.dj_early_rules.specs.trusted.Code.{HasFrames}
 use Rattle.dj_program.specs.trusted.Codes.{CodeParts, code_in, catches_in}
 use Rattle.dj_program.specs.trusted.Programs.{IsBodyIn}
 

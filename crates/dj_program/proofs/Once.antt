@@ -18,10 +18,10 @@ use Rattle.dj_frames.specs.trusted.StackMaps.{IsStackMap}
 use Rattle.dj_frames.proofs.WholeLaws.{one_stack_map}
 use Rattle.dj_model.specs.trusted.Program.{Program, Class, Method, Field, Body, Abstract, Runs, Code, has_flag}
 use Rattle.dj_model.specs.trusted.Libraries.{joined, library_program}
-use Rattle.dj_check.specs.trusted.Attributes.{codes_of, maps_of}
-use Rattle.dj_check.specs.trusted.Malformed.{IsBodiless, LacksCode, IsFaulty, IsFaultyMethod}
-use Rattle.dj_check.specs.trusted.Code.{IsCodeOf, AreFramesAt, AreFramesOf, HasFrames}
-use Rattle.dj_declared.specs.trusted.Files.{is_bodiless, declared_method, declared_class}
+use Rattle.dj_early_rules.specs.trusted.Attributes.{codes_of, maps_of}
+use Rattle.dj_early_rules.specs.trusted.Malformed.{IsBodiless, LacksCode, IsFaulty, IsFaultyMethod}
+use Rattle.dj_early_rules.specs.trusted.Code.{IsCodeOf, AreFramesAt, AreFramesOf, HasFrames}
+use Rattle.dj_declarations.specs.trusted.Files.{is_bodiless, declared_method, declared_class}
 use Rattle.dj_program.specs.trusted.Codes.{CodeParts, code_in, IsMethodCode}
 use Rattle.dj_program.specs.trusted.Programs.{AreSideBySide, IsBodyIn, IsMethodIn, field_in_file, IsClassIn, IsProgramIn}
 use Rattle.dj_program.specs.Laws.{AreWhole, OneProgram}

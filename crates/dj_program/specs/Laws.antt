@@ -3,9 +3,9 @@ use Rattle.std.specs.Prelude.{◌≡◌, ⊤, List, [], ◌∷◌, map}
 use Rattle.dj_names.specs.trusted.Library.{Library}
 use Rattle.dj_class.specs.trusted.ClassFile.{ClassFile}
 use Rattle.dj_model.specs.trusted.Program.{Program}
-use Rattle.dj_check.specs.trusted.Malformed.{IsFaulty}
-use Rattle.dj_declared.specs.trusted.Files.{declared_program}
-use Rattle.dj_declared.specs.Files.{bare_class}
+use Rattle.dj_early_rules.specs.trusted.Malformed.{IsFaulty}
+use Rattle.dj_declarations.specs.trusted.Files.{declared_program}
+use Rattle.dj_declarations.specs.Files.{bare_class}
 use Rattle.dj_program.specs.trusted.Programs.{IsProgramIn}
 
 -- none of the files has a faulty part

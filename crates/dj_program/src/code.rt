@@ -1,11 +1,11 @@
 ghost use Rattle.std.specs.Prelude.{List};
 ghost use Rattle.dj_pool.specs.trusted.Pool.{Constant};
 ghost use Rattle.dj_class.specs.trusted.ClassFile.{MemberInfo};
-ghost use Rattle.dj_check.specs.Passes.{IsWholeMethod};
+ghost use Rattle.dj_early_rules.specs.Passes.{IsWholeMethod};
 ghost use Rattle.dj_program.specs.trusted.Codes.{IsMethodCode};
 ghost use Rattle.dj_program.specs.Views.{parts_of};
 
-use dj_check::WholeCode;
+use dj_early_rules::WholeCode;
 use dj_labels::Labelled;
 use dj_ops::Frames;
 

@@ -8,10 +8,10 @@ use Rattle.std.proofs.lemmas.Nat.Bits.{bit_at-lt, bit_at-zero, bit_at_and, bit_a
 use Rattle.std.proofs.Math.ListN.{get_or-append, length-replicate, length-set}
 use Rattle.std.proofs.Math.Seq.{get_or-append_seam}
 use Rattle.dj_model.proofs.MappedNames.{either}
-use Rattle.dj_linking.specs.Numbers.{has, with_above, with_all, with_new, AreBelow, lists_of}
-use Rattle.dj_linking.specs.Bits.{AreBits, HaveBits, HaveRows, in_bits, words_for}
-use Rattle.dj_linking.proofs.Lists.{all_there, has_right, has_self}
-use Rattle.dj_linking.proofs.Marks.{get_none, has_push_other, item_is}
+use Rattle.dj_resolution.specs.Numbers.{has, with_above, with_all, with_new, AreBelow, lists_of}
+use Rattle.dj_resolution.specs.Bits.{AreBits, HaveBits, HaveRows, in_bits, words_for}
+use Rattle.dj_resolution.proofs.Lists.{all_there, has_right, has_self}
+use Rattle.dj_resolution.proofs.Marks.{get_none, has_push_other, item_is}
 
 -- the word with the number's bit
 abbrev pub with_bit : List ℕ → ℕ → ℕ

@@ -10,27 +10,27 @@ use Rattle.dj_names.specs.trusted.Types.{Name}
 use Rattle.dj_model.specs.trusted.Program.{Program, Class, Method, method_in}
 use Rattle.dj_model.specs.trusted.Linking.{method_or, most_classes, or_else, FoundMethod}
 use Rattle.dj_model.proofs.MappedNames.{either}
-use Rattle.dj_declared.specs.trusted.Files.{desc_in}
-use Rattle.dj_declared.specs.Members.{method_name, method_place}
-use Rattle.dj_declared.proofs.DescTests.{desc_in_is}
-use Rattle.dj_classes.specs.Tables.{methods_of, methods_at, method_of_class, method_there, super_number}
-use Rattle.dj_classes.specs.declared.place.Place.{Place}
-use Rattle.dj_directory.specs.declared.rows.MemberRow.{MemberRow}
-use Rattle.dj_directory.specs.Calls.{passes, DeclareFirst, DeclareLike, DeclaresLike, IsFirstOf, IsNearestFirst, IsNearestLike}
-use Rattle.dj_directory.specs.Spans.{StartsFrom}
-use Rattle.dj_linking.specs.declared.nearest.Near.{Near}
-use Rattle.dj_linking.specs.Called.{SaysFirst, SaysOwn, SaysUp}
-use Rattle.dj_linking.specs.Nearest.{IsNearest}
-use Rattle.dj_linking.specs.Numbers.{first_some, has, method_found, method_in_class, most_above, numbers_up, SaysMethod}
-use Rattle.dj_linking.specs.Ranked.{AreRanks, HasRow, rank_in}
-use Rattle.dj_linking.proofs.Chained.{next_within, short_at, up_within}
-use Rattle.dj_linking.proofs.Climbs.{most_above_is, one_more_level}
-use Rattle.dj_linking.proofs.Finding.{reported_first, reported_none}
-use Rattle.dj_linking.proofs.Nearing.{first_near, none_found, none_or}
-use Rattle.dj_linking.proofs.Lists.{has_cases}
-use Rattle.dj_linking.proofs.Numbered.{method_found_at, no_method, none_in_class}
-use Rattle.dj_linking.proofs.Selections.{described_there, found_there, own, Is}
-use Rattle.dj_linking.proofs.Walks.{no_numbers_up}
+use Rattle.dj_declarations.specs.trusted.Files.{desc_in}
+use Rattle.dj_declarations.specs.Members.{method_name, method_place}
+use Rattle.dj_declarations.proofs.DescTests.{desc_in_is}
+use Rattle.dj_class_table.specs.Tables.{methods_of, methods_at, method_of_class, method_there, super_number}
+use Rattle.dj_class_table.specs.declared.place.Place.{Place}
+use Rattle.dj_member_index.specs.declared.rows.MemberRow.{MemberRow}
+use Rattle.dj_member_index.specs.Calls.{passes, DeclareFirst, DeclareLike, DeclaresLike, IsFirstOf, IsNearestFirst, IsNearestLike}
+use Rattle.dj_member_index.specs.Spans.{StartsFrom}
+use Rattle.dj_resolution.specs.declared.nearest.Near.{Near}
+use Rattle.dj_resolution.specs.Called.{SaysFirst, SaysOwn, SaysUp}
+use Rattle.dj_resolution.specs.Nearest.{IsNearest}
+use Rattle.dj_resolution.specs.Numbers.{first_some, has, method_found, method_in_class, most_above, numbers_up, SaysMethod}
+use Rattle.dj_resolution.specs.Ranked.{AreRanks, HasRow, rank_in}
+use Rattle.dj_resolution.proofs.Chained.{next_within, short_at, up_within}
+use Rattle.dj_resolution.proofs.Climbs.{most_above_is, one_more_level}
+use Rattle.dj_resolution.proofs.Finding.{reported_first, reported_none}
+use Rattle.dj_resolution.proofs.Nearing.{first_near, none_found, none_or}
+use Rattle.dj_resolution.proofs.Lists.{has_cases}
+use Rattle.dj_resolution.proofs.Numbered.{method_found_at, no_method, none_in_class}
+use Rattle.dj_resolution.proofs.Selections.{described_there, found_there, own, Is}
+use Rattle.dj_resolution.proofs.Walks.{no_numbers_up}
 
 -- ---- the first method of a class
 

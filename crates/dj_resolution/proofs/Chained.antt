@@ -11,15 +11,15 @@ use Rattle.std.proofs.Math.ListN.{length-set, length-replicate}
 use Rattle.dj_model.specs.trusted.Program.{Program}
 use Rattle.dj_model.specs.trusted.Linking.{most_classes}
 use Rattle.dj_model.proofs.MappedNames.{either}
-use Rattle.dj_classes.specs.Tables.{super_number}
-use Rattle.dj_linking.specs.declared.chains.Chains.{Chains}
-use Rattle.dj_linking.specs.Numbers.{has, with_all, first_places, numbers_up, most_above, lists_of, AreBelow, AreInside}
-use Rattle.dj_linking.specs.Chained.{AreChained, AreLearnt, AreListsOf, AreRows, IsShort, known_count, once_up, row_at}
-use Rattle.dj_linking.proofs.Finding.{super_within}
-use Rattle.dj_linking.proofs.Climbs.{most_above_is, one_more_level}
-use Rattle.dj_linking.proofs.Lists.{has_cases, has_either, has_flat, flat_alike, all_append, all_cases, all_of_places}
-use Rattle.dj_linking.proofs.Marks.{below_none, get_none, item_is}
-use Rattle.dj_linking.proofs.Walks.{no_numbers_up}
+use Rattle.dj_class_table.specs.Tables.{super_number}
+use Rattle.dj_resolution.specs.declared.chains.Chains.{Chains}
+use Rattle.dj_resolution.specs.Numbers.{has, with_all, first_places, numbers_up, most_above, lists_of, AreBelow, AreInside}
+use Rattle.dj_resolution.specs.Chained.{AreChained, AreLearnt, AreListsOf, AreRows, IsShort, known_count, once_up, row_at}
+use Rattle.dj_resolution.proofs.Finding.{super_within}
+use Rattle.dj_resolution.proofs.Climbs.{most_above_is, one_more_level}
+use Rattle.dj_resolution.proofs.Lists.{has_cases, has_either, has_flat, flat_alike, all_append, all_cases, all_of_places}
+use Rattle.dj_resolution.proofs.Marks.{below_none, get_none, item_is}
+use Rattle.dj_resolution.proofs.Walks.{no_numbers_up}
 
 -- ---- superclasses
 

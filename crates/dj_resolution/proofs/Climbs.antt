@@ -5,11 +5,11 @@ use Rattle.dj_names.specs.declared.descriptor.Desc.{Desc}
 use Rattle.dj_names.specs.trusted.Types.{Name}
 use Rattle.dj_model.specs.trusted.Program.{Program, method_in, is_static}
 use Rattle.dj_model.specs.trusted.Linking.{most_classes, or_else, is_not_static}
-use Rattle.dj_declared.specs.Members.{method_flags}
-use Rattle.dj_classes.specs.Tables.{super_number, methods_at}
-use Rattle.dj_linking.specs.Numbers.{numbers_up, first_some, method_found, SaysMethod, most_above}
-use Rattle.dj_linking.proofs.Finding.{reported_first, reported_next, super_within, named, Is, static_clear, static_set}
-use Rattle.dj_linking.proofs.Walks.{no_numbers_up}
+use Rattle.dj_declarations.specs.Members.{method_flags}
+use Rattle.dj_class_table.specs.Tables.{super_number, methods_at}
+use Rattle.dj_resolution.specs.Numbers.{numbers_up, first_some, method_found, SaysMethod, most_above}
+use Rattle.dj_resolution.proofs.Finding.{reported_first, reported_next, super_within, named, Is, static_clear, static_set}
+use Rattle.dj_resolution.proofs.Walks.{no_numbers_up}
 
 pub record IsClimbed {A : Type 0} (f : ℕ → Option A) (program : Program) (levels : ℕ) (first : Option ℕ) (i : ℕ) (next : Option ℕ) : Type 0 where
   pub same : first_some f (numbers_up levels program first) ≡ first_some f (numbers_up (levels - i) program next)

@@ -12,27 +12,27 @@ use Rattle.dj_names.specs.trusted.Types.{Name, same_desc, same_name}
 use Rattle.dj_model.specs.trusted.Program.{Program, Method, Field, field_in, is_named, method_in}
 use Rattle.dj_model.specs.trusted.Linking.{any_method, is_plain, most_classes, FoundMethod}
 use Rattle.dj_model.proofs.MappedNames.{either}
-use Rattle.dj_declared.specs.trusted.Files.{desc_in}
-use Rattle.dj_declared.specs.Members.{IsDescriptor, field_place, method_place}
-use Rattle.dj_declared.proofs.DescTests.{desc_in_is, is_descriptor, same_desc_is, same_name_is}
-use Rattle.dj_classes.specs.Tables.{fields_at, method_there, methods_at}
-use Rattle.dj_directory.specs.declared.rows.MemberRow.{MemberRow}
-use Rattle.dj_directory.specs.DirectoryRows.{IsRow, Named, field_named, fields_named, method_named, methods_named}
-use Rattle.dj_directory.specs.Numberings.{DeclareFields, DeclareMethods, Numbering, number_of}
-use Rattle.dj_linking.specs.declared.shared.MarkedMember.{MarkedMember}
-use Rattle.dj_linking.specs.Bits.{AreBits, IsTop, in_bits, in_both}
-use Rattle.dj_linking.specs.Marked.{AddsMarks, AreMarks}
-use Rattle.dj_linking.specs.Nearest.{IsNearestMarked}
-use Rattle.dj_linking.specs.Numbered.{AreTexts}
-use Rattle.dj_linking.specs.Numbers.{field_found, first_some, has, method_found, numbers_up}
-use Rattle.dj_linking.specs.Ranked.{AreRanks, HasRow, rank_in}
-use Rattle.dj_linking.specs.Shared.{AreRankMarks, HasTexts, IsFieldMarked, IsFieldNumbered, IsMethodNumbered, IsPlainMarked, IsRankMarked, declares_method}
-use Rattle.dj_linking.proofs.Chained.{up_within}
-use Rattle.dj_linking.proofs.Marking.{reported_some}
-use Rattle.dj_linking.proofs.Nearing.{first_near, no_method, none_found}
-use Rattle.dj_linking.proofs.Numbered.{field_found_at, method_found_at, method_reported}
-use Rattle.dj_linking.proofs.Ranking.{all_have, has_mapped, mapped_has}
-use Rattle.dj_linking.proofs.Tops.{both, first_of, second_if, second_of}
+use Rattle.dj_declarations.specs.trusted.Files.{desc_in}
+use Rattle.dj_declarations.specs.Members.{IsDescriptor, field_place, method_place}
+use Rattle.dj_declarations.proofs.DescTests.{desc_in_is, is_descriptor, same_desc_is, same_name_is}
+use Rattle.dj_class_table.specs.Tables.{fields_at, method_there, methods_at}
+use Rattle.dj_member_index.specs.declared.rows.MemberRow.{MemberRow}
+use Rattle.dj_member_index.specs.DirectoryRows.{IsRow, Named, field_named, fields_named, method_named, methods_named}
+use Rattle.dj_member_index.specs.Numberings.{DeclareFields, DeclareMethods, Numbering, number_of}
+use Rattle.dj_resolution.specs.declared.shared.MarkedMember.{MarkedMember}
+use Rattle.dj_resolution.specs.Bits.{AreBits, IsTop, in_bits, in_both}
+use Rattle.dj_resolution.specs.Marked.{AddsMarks, AreMarks}
+use Rattle.dj_resolution.specs.Nearest.{IsNearestMarked}
+use Rattle.dj_resolution.specs.Numbered.{AreTexts}
+use Rattle.dj_resolution.specs.Numbers.{field_found, first_some, has, method_found, numbers_up}
+use Rattle.dj_resolution.specs.Ranked.{AreRanks, HasRow, rank_in}
+use Rattle.dj_resolution.specs.Shared.{AreRankMarks, HasTexts, IsFieldMarked, IsFieldNumbered, IsMethodNumbered, IsPlainMarked, IsRankMarked, declares_method}
+use Rattle.dj_resolution.proofs.Chained.{up_within}
+use Rattle.dj_resolution.proofs.Marking.{reported_some}
+use Rattle.dj_resolution.proofs.Nearing.{first_near, no_method, none_found}
+use Rattle.dj_resolution.proofs.Numbered.{field_found_at, method_found_at, method_reported}
+use Rattle.dj_resolution.proofs.Ranking.{all_have, has_mapped, mapped_has}
+use Rattle.dj_resolution.proofs.Tops.{both, first_of, second_if, second_of}
 
 -- ---- the ranks of classes as marks
 

@@ -11,13 +11,13 @@ use Rattle.dj_names.specs.trusted.Types.{Name}
 use Rattle.dj_model.specs.trusted.Program.{Program, Class, Method, method_in, superclass_of, flags_of, is_private, is_static, is_interface}
 use Rattle.dj_model.specs.trusted.Linking.{most_classes, or_else, is_plain}
 use Rattle.dj_model.proofs.MappedNames.{either}
-use Rattle.dj_declared.specs.Members.{method_flags}
-use Rattle.dj_classes.specs.Tables.{class_number, super_number, methods_of, methods_at, flags_in}
-use Rattle.dj_linking.specs.Numbers.{numbers_up, first_some, has, method_found, SaysMethod}
-use Rattle.dj_linking.proofs.Lists.{has_self, has_more}
-use Rattle.dj_linking.proofs.Levels.{most_is}
-use Rattle.dj_linking.proofs.Searches.{or_else_none}
-use Rattle.dj_linking.proofs.Walks.{Missing, There, looked, no_numbers_up}
+use Rattle.dj_declarations.specs.Members.{method_flags}
+use Rattle.dj_class_table.specs.Tables.{class_number, super_number, methods_of, methods_at, flags_in}
+use Rattle.dj_resolution.specs.Numbers.{numbers_up, first_some, has, method_found, SaysMethod}
+use Rattle.dj_resolution.proofs.Lists.{has_self, has_more}
+use Rattle.dj_resolution.proofs.Levels.{most_is}
+use Rattle.dj_resolution.proofs.Searches.{or_else_none}
+use Rattle.dj_resolution.proofs.Walks.{Missing, There, looked, no_numbers_up}
 
 -- ---- what is answered
 

@@ -8,12 +8,12 @@ use Rattle.std.proofs.lemmas.Grind.{flat_map-append}
 use Rattle.std.proofs.Math.ListN.{length-set, length-replicate}
 use Rattle.dj_model.specs.trusted.Program.{Program}
 use Rattle.dj_model.proofs.MappedNames.{either}
-use Rattle.dj_classes.specs.Tables.{interface_numbers}
-use Rattle.dj_linking.specs.Bits.{words_for}
-use Rattle.dj_linking.specs.Numbers.{has, with_new, with_all, with_above, AreBelow, AreAbove, AreKnown, IsEnough, marked_count, numbers_above, once_above, lists_of}
-use Rattle.dj_linking.proofs.Lists.{has_cases, has_either, all_append, all_of_places}
-use Rattle.dj_linking.proofs.Levels.{IsClosed, closed_none, closed_more, nothing_new, above_listed, enough_more, enough_next}
-use Rattle.dj_linking.proofs.Marks.{once_below, get_none}
+use Rattle.dj_class_table.specs.Tables.{interface_numbers}
+use Rattle.dj_resolution.specs.Bits.{words_for}
+use Rattle.dj_resolution.specs.Numbers.{has, with_new, with_all, with_above, AreBelow, AreAbove, AreKnown, IsEnough, marked_count, numbers_above, once_above, lists_of}
+use Rattle.dj_resolution.proofs.Lists.{has_cases, has_either, all_append, all_of_places}
+use Rattle.dj_resolution.proofs.Levels.{IsClosed, closed_none, closed_more, nothing_new, above_listed, enough_more, enough_next}
+use Rattle.dj_resolution.proofs.Marks.{once_below, get_none}
 
 -- ---- one class
 

@@ -4,9 +4,9 @@ use Rattle.std.specs.List.{flat_map}
 use Rattle.std.proofs.lemmas.Bool.{false≢true}
 use Rattle.dj_model.specs.trusted.Program.{Program}
 use Rattle.dj_model.specs.trusted.Linking.{most_classes}
-use Rattle.dj_classes.specs.Tables.{interface_numbers}
-use Rattle.dj_linking.specs.Numbers.{has, with_all, numbers_from, numbers_above, IsEnough}
-use Rattle.dj_linking.proofs.Lists.{has_here, has_more, has_cases, flat_has, has_flat, flat_alike, all_keeps, all_has, all_cases, all_there}
+use Rattle.dj_class_table.specs.Tables.{interface_numbers}
+use Rattle.dj_resolution.specs.Numbers.{has, with_all, numbers_from, numbers_above, IsEnough}
+use Rattle.dj_resolution.proofs.Lists.{has_here, has_more, has_cases, flat_has, has_flat, flat_alike, all_keeps, all_has, all_cases, all_there}
 
 -- ---- more levels have no fewer interfaces
 

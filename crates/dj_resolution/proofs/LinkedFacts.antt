@@ -13,9 +13,9 @@ use Rattle.dj_model.specs.trusted.Types.{Member}
 use Rattle.dj_model.specs.trusted.Program.{Program, Class, Method}
 use Rattle.dj_model.specs.trusted.Linking.{most_classes, chain_of, interfaces_from, interfaces_above, field_order, resolve_method, resolve_field, FoundMethod, FoundField}
 use Rattle.dj_model.specs.SmallRuns.{class_with, field_with, method_with, code}
-use Rattle.dj_declared.specs.trusted.Files.{desc_in}
-use Rattle.dj_linking.specs.declared.linker.BaseNames.TheVariants as bases
-use Rattle.dj_linking.specs.Linked.{Linked, prefix_of, member_of, resolved_method, resolved_field, class_name}
+use Rattle.dj_declarations.specs.trusted.Files.{desc_in}
+use Rattle.dj_resolution.specs.declared.linker.BaseNames.TheVariants as bases
+use Rattle.dj_resolution.specs.Linked.{Linked, prefix_of, member_of, resolved_method, resolved_field, class_name}
 
 -- ---- a program
 

@@ -7,15 +7,15 @@ use Rattle.dj_names.specs.trusted.Types.{Name}
 use Rattle.dj_model.specs.trusted.Program.{Program, Class, Field, field_in, fields_of}
 use Rattle.dj_model.specs.trusted.Linking.{most_classes, or_else, field_or, FoundField}
 use Rattle.dj_model.proofs.MappedNames.{either}
-use Rattle.dj_classes.specs.Tables.{super_number}
-use Rattle.dj_linking.specs.Numbers.{has, AreBelow, field_found, field_in_class, first_some, most_above, numbers_above, numbers_up, once_above}
-use Rattle.dj_linking.specs.Chained.{field_row, has_field, once_up}
-use Rattle.dj_linking.proofs.Chained.{up_one}
-use Rattle.dj_linking.proofs.Lists.{has_cases, has_here, has_left, has_more, has_right}
-use Rattle.dj_linking.proofs.Marks.{once_below}
-use Rattle.dj_linking.proofs.Searches.{first_places_found, first_some_alike, first_some_flat}
-use Rattle.dj_linking.proofs.Subclasses.{has_after, has_apart, has_places, in_turn}
-use Rattle.dj_linking.proofs.Walks.{no_numbers_up}
+use Rattle.dj_class_table.specs.Tables.{super_number}
+use Rattle.dj_resolution.specs.Numbers.{has, AreBelow, field_found, field_in_class, first_some, most_above, numbers_above, numbers_up, once_above}
+use Rattle.dj_resolution.specs.Chained.{field_row, has_field, once_up}
+use Rattle.dj_resolution.proofs.Chained.{up_one}
+use Rattle.dj_resolution.proofs.Lists.{has_cases, has_here, has_left, has_more, has_right}
+use Rattle.dj_resolution.proofs.Marks.{once_below}
+use Rattle.dj_resolution.proofs.Searches.{first_places_found, first_some_alike, first_some_flat}
+use Rattle.dj_resolution.proofs.Subclasses.{has_after, has_apart, has_places, in_turn}
+use Rattle.dj_resolution.proofs.Walks.{no_numbers_up}
 
 -- ---- methods
 

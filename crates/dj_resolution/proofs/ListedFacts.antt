@@ -10,11 +10,11 @@ use Rattle.dj_names.specs.trusted.Library.{int}
 use Rattle.dj_model.specs.trusted.Program.{Program, Class, Field, Method}
 use Rattle.dj_model.specs.trusted.Linking.{most_classes, any_method, FoundMethod, FoundField}
 use Rattle.dj_model.specs.SmallRuns.{class_with, field_with, method_with, code}
-use Rattle.dj_classes.specs.declared.place.Place.{Place}
-use Rattle.dj_linking.specs.Bits.{in_bits, AreBits, words_for, HaveBits, HaveRows}
-use Rattle.dj_linking.specs.Chained.{AreRows, has_field, field_row, once_up, known_count, AreChained, row_at}
-use Rattle.dj_linking.specs.Marked.{is_plain_at, IsCovered}
-use Rattle.dj_linking.specs.Numbers.{has, with_new, first_places, numbers_from, numbers_above, once_above, numbers_up, with_above, AreAbove, marked_count, AreBelow, first_some, method_found, field_found, SaysMethod, SaysField, AreInside, IsNamed}
+use Rattle.dj_class_table.specs.declared.place.Place.{Place}
+use Rattle.dj_resolution.specs.Bits.{in_bits, AreBits, words_for, HaveBits, HaveRows}
+use Rattle.dj_resolution.specs.Chained.{AreRows, has_field, field_row, once_up, known_count, AreChained, row_at}
+use Rattle.dj_resolution.specs.Marked.{is_plain_at, IsCovered}
+use Rattle.dj_resolution.specs.Numbers.{has, with_new, first_places, numbers_from, numbers_above, once_above, numbers_up, with_above, AreAbove, marked_count, AreBelow, first_some, method_found, field_found, SaysMethod, SaysField, AreInside, IsNamed}
 
 -- ---- a program
 

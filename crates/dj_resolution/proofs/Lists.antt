@@ -4,7 +4,7 @@ use Rattle.std.specs.List.{flat_map}
 use Rattle.std.proofs.lemmas.Bool.{false≢true}
 use Rattle.std.proofs.lemmas.Bool.{eq-eqb}
 use Rattle.dj_model.proofs.MappedNames.{either}
-use Rattle.dj_linking.specs.Numbers.{has, with_new, with_all, first_places}
+use Rattle.dj_resolution.specs.Numbers.{has, with_new, with_all, first_places}
 
 pub has_here : (xs : List ℕ) (y x : ℕ) → y ≡ x → has (y ∷ xs) x ≡ true
 has_here xs y x same = rw (eq-eqb y x same) refl

@@ -13,16 +13,16 @@ use Rattle.dj_names.specs.trusted.Types.{Name}
 use Rattle.dj_model.specs.trusted.Program.{Program, Class, Method, is_private, is_static, method_in}
 use Rattle.dj_model.specs.trusted.Linking.{is_plain, method_or}
 use Rattle.dj_model.proofs.MappedNames.{either}
-use Rattle.dj_declared.specs.Members.{field_place, method_flags, method_place}
-use Rattle.dj_classes.specs.Tables.{field_there, fields_at, methods_at, methods_of}
-use Rattle.dj_directory.specs.declared.rows.MemberRow.{MemberRow}
-use Rattle.dj_directory.specs.Numberings.{ClassesDiffer, DeclareFields, DeclareMethods}
-use Rattle.dj_linking.specs.Bits.{AreBits, in_bits}
-use Rattle.dj_linking.specs.Marked.{AddsMarks, AreMarks, IsCovered, IsOfRow, is_plain_at, is_plain_one}
-use Rattle.dj_linking.specs.Numbers.{AreBelow, field_found, first_some, method_found, method_in_class}
-use Rattle.dj_linking.proofs.Finding.{private_clear, private_set, private_test, static_test, reported_none}
-use Rattle.dj_linking.proofs.Nearing.{none_found}
-use Rattle.dj_linking.proofs.Numbered.{field_reported, method_found_at, no_field_reported, no_plain_reported}
+use Rattle.dj_declarations.specs.Members.{field_place, method_flags, method_place}
+use Rattle.dj_class_table.specs.Tables.{field_there, fields_at, methods_at, methods_of}
+use Rattle.dj_member_index.specs.declared.rows.MemberRow.{MemberRow}
+use Rattle.dj_member_index.specs.Numberings.{ClassesDiffer, DeclareFields, DeclareMethods}
+use Rattle.dj_resolution.specs.Bits.{AreBits, in_bits}
+use Rattle.dj_resolution.specs.Marked.{AddsMarks, AreMarks, IsCovered, IsOfRow, is_plain_at, is_plain_one}
+use Rattle.dj_resolution.specs.Numbers.{AreBelow, field_found, first_some, method_found, method_in_class}
+use Rattle.dj_resolution.proofs.Finding.{private_clear, private_set, private_test, static_test, reported_none}
+use Rattle.dj_resolution.proofs.Nearing.{none_found}
+use Rattle.dj_resolution.proofs.Numbered.{field_reported, method_found_at, no_field_reported, no_plain_reported}
 
 -- ---- one method
 

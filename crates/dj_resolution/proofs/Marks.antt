@@ -8,11 +8,11 @@ use Rattle.dj_model.specs.trusted.Program.{Program, interfaces_of}
 use Rattle.dj_names.specs.trusted.Types.{Name}
 use Rattle.dj_model.specs.trusted.Linking.{most_classes}
 use Rattle.dj_model.proofs.MappedNames.{either}
-use Rattle.dj_classes.specs.Tables.{class_numbers, interface_numbers}
-use Rattle.dj_linking.specs.Numbers.{has, with_new, with_all, AreBelow, numbers_from, numbers_above, once_above, lists_of, AreAbove, AreInside}
-use Rattle.dj_linking.proofs.Lists.{has_cases, has_either, has_flat, all_append, all_cases}
-use Rattle.dj_linking.proofs.Finding.{has_at}
-use Rattle.dj_linking.proofs.Walks.{Missing, There, looked}
+use Rattle.dj_class_table.specs.Tables.{class_numbers, interface_numbers}
+use Rattle.dj_resolution.specs.Numbers.{has, with_new, with_all, AreBelow, numbers_from, numbers_above, once_above, lists_of, AreAbove, AreInside}
+use Rattle.dj_resolution.proofs.Lists.{has_cases, has_either, has_flat, all_append, all_cases}
+use Rattle.dj_resolution.proofs.Finding.{has_at}
+use Rattle.dj_resolution.proofs.Walks.{Missing, There, looked}
 
 pub has_push_other : (xs : List ℕ) (x k : ℕ) → nat_eq x k ≡ false → has (xs ++ x ∷ []) k ≡ has xs k
 has_push_other [] x k apart = rw apart refl

@@ -9,18 +9,18 @@ use Rattle.dj_names.specs.trusted.Types.{Name}
 use Rattle.dj_model.specs.trusted.Program.{Program}
 use Rattle.dj_model.specs.trusted.Linking.{any_method, most_classes, or_else, FoundMethod}
 use Rattle.dj_model.proofs.MappedNames.{either}
-use Rattle.dj_declared.specs.Members.{method_place}
-use Rattle.dj_classes.specs.Tables.{methods_at, method_there, super_number}
-use Rattle.dj_directory.specs.declared.rows.MemberRow.{MemberRow}
-use Rattle.dj_directory.specs.Numberings.{DeclareMethods}
-use Rattle.dj_linking.specs.declared.nearest.Near.{Near}
-use Rattle.dj_linking.specs.Nearest.{IsNear, IsNearest, nearer}
-use Rattle.dj_linking.specs.Numbers.{first_some, has, method_found, numbers_up}
-use Rattle.dj_linking.specs.Ranked.{AreRanks, HasRow, rank_in}
-use Rattle.dj_linking.proofs.Chained.{up_within}
-use Rattle.dj_linking.proofs.Finding.{reported_none}
-use Rattle.dj_linking.proofs.Lists.{has_cases, has_more, has_self}
-use Rattle.dj_linking.proofs.Numbered.{method_reported, no_method_reported}
+use Rattle.dj_declarations.specs.Members.{method_place}
+use Rattle.dj_class_table.specs.Tables.{methods_at, method_there, super_number}
+use Rattle.dj_member_index.specs.declared.rows.MemberRow.{MemberRow}
+use Rattle.dj_member_index.specs.Numberings.{DeclareMethods}
+use Rattle.dj_resolution.specs.declared.nearest.Near.{Near}
+use Rattle.dj_resolution.specs.Nearest.{IsNear, IsNearest, nearer}
+use Rattle.dj_resolution.specs.Numbers.{first_some, has, method_found, numbers_up}
+use Rattle.dj_resolution.specs.Ranked.{AreRanks, HasRow, rank_in}
+use Rattle.dj_resolution.proofs.Chained.{up_within}
+use Rattle.dj_resolution.proofs.Finding.{reported_none}
+use Rattle.dj_resolution.proofs.Lists.{has_cases, has_more, has_self}
+use Rattle.dj_resolution.proofs.Numbered.{method_reported, no_method_reported}
 
 -- ---- the first of classes whose ranks fall
 

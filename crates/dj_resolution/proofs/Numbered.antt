@@ -7,11 +7,11 @@ use Rattle.dj_names.specs.declared.descriptor.Desc.{Desc}
 use Rattle.dj_names.specs.trusted.Types.{Name}
 use Rattle.dj_model.specs.trusted.Program.{Program, Class, Method, Field, fields_of, flags_of, method_in, field_in, is_interface, is_named}
 use Rattle.dj_model.specs.trusted.Linking.{any_method, is_plain, method_or, field_or, most_classes, option_list}
-use Rattle.dj_declared.specs.Members.{method_place, field_place}
-use Rattle.dj_classes.specs.Tables.{methods_of, methods_at, fields_at, method_of_class, field_of_class}
-use Rattle.dj_classes.specs.declared.place.Place.{Place}
-use Rattle.dj_linking.specs.Numbers.{first_some, numbers_above, numbers_up, SaysMethod, SaysField, method_found, field_found, method_in_class, field_in_class}
-use Rattle.dj_linking.proofs.Finding.{reported_none}
+use Rattle.dj_declarations.specs.Members.{method_place, field_place}
+use Rattle.dj_class_table.specs.Tables.{methods_of, methods_at, fields_at, method_of_class, field_of_class}
+use Rattle.dj_class_table.specs.declared.place.Place.{Place}
+use Rattle.dj_resolution.specs.Numbers.{first_some, numbers_above, numbers_up, SaysMethod, SaysField, method_found, field_found, method_in_class, field_in_class}
+use Rattle.dj_resolution.proofs.Finding.{reported_none}
 
 abbrev later : ℕ → ℕ
 later place = place + 1

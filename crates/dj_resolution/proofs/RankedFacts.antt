@@ -7,18 +7,18 @@ use Rattle.dj_names.specs.trusted.Types.{Name, same_name}
 use Rattle.dj_model.specs.trusted.Program.{Program, Method}
 use Rattle.dj_model.specs.trusted.Linking.{most_classes, is_plain, FoundMethod}
 use Rattle.dj_model.specs.SmallRuns.{class_with, method_with, code}
-use Rattle.dj_classes.specs.Tables.{super_number}
-use Rattle.dj_classes.specs.declared.place.Place.{Place}
-use Rattle.dj_directory.specs.declared.rows.MemberRow.{MemberRow}
-use Rattle.dj_linking.specs.declared.nearest.Near.{Near}
-use Rattle.dj_linking.specs.declared.ranked.Ranks.{Ranks}
-use Rattle.dj_linking.specs.Bits.{AreBits}
-use Rattle.dj_linking.specs.Called.{SaysOwn, SaysFirst, SaysUp}
-use Rattle.dj_linking.specs.Chained.{IsShort}
-use Rattle.dj_linking.specs.Nearest.{IsNear, HasNearest, IsNearest, nearer}
-use Rattle.dj_linking.specs.Numbers.{SaysMethod, first_some, has, lists_of, method_found, most_above, numbers_up}
-use Rattle.dj_linking.specs.Ranked.{rank_in, HasRow, IsRow, IsRanked, AreRanked, IsRowAbove, AreRanks, AreRanksOf}
-use Rattle.dj_linking.proofs.Bits.{bit_put, bits_more, bits_none}
+use Rattle.dj_class_table.specs.Tables.{super_number}
+use Rattle.dj_class_table.specs.declared.place.Place.{Place}
+use Rattle.dj_member_index.specs.declared.rows.MemberRow.{MemberRow}
+use Rattle.dj_resolution.specs.declared.nearest.Near.{Near}
+use Rattle.dj_resolution.specs.declared.ranked.Ranks.{Ranks}
+use Rattle.dj_resolution.specs.Bits.{AreBits}
+use Rattle.dj_resolution.specs.Called.{SaysOwn, SaysFirst, SaysUp}
+use Rattle.dj_resolution.specs.Chained.{IsShort}
+use Rattle.dj_resolution.specs.Nearest.{IsNear, HasNearest, IsNearest, nearer}
+use Rattle.dj_resolution.specs.Numbers.{SaysMethod, first_some, has, lists_of, method_found, most_above, numbers_up}
+use Rattle.dj_resolution.specs.Ranked.{rank_in, HasRow, IsRow, IsRanked, AreRanked, IsRowAbove, AreRanks, AreRanksOf}
+use Rattle.dj_resolution.proofs.Bits.{bit_put, bits_more, bits_none}
 
 -- ---- a program
 

@@ -8,17 +8,17 @@ use Rattle.std.proofs.Math.ListN.{length-set, length-replicate}
 use Rattle.dj_model.specs.trusted.Program.{Program}
 use Rattle.dj_model.specs.trusted.Linking.{most_classes}
 use Rattle.dj_model.proofs.MappedNames.{either, alike}
-use Rattle.dj_classes.specs.Tables.{super_number}
-use Rattle.dj_linking.specs.Bits.{AreBits, in_bits, words_for}
-use Rattle.dj_linking.specs.Chained.{IsShort}
-use Rattle.dj_linking.specs.Numbers.{has, lists_of, most_above, numbers_up}
-use Rattle.dj_linking.specs.Ranked.{AreRanked, AreRanks, HasRow, IsRanked, IsRow, IsRowAbove, rank_in}
-use Rattle.dj_linking.proofs.Bits.{bits_none}
-use Rattle.dj_linking.proofs.Chained.{short_at, short_first, short_more, short_next, up_one}
-use Rattle.dj_linking.proofs.Climbs.{most_above_is, one_more_level}
-use Rattle.dj_linking.proofs.Lists.{has_cases, has_here, has_more, has_self}
-use Rattle.dj_linking.proofs.Marks.{item_is}
-use Rattle.dj_linking.proofs.Walks.{no_numbers_up}
+use Rattle.dj_class_table.specs.Tables.{super_number}
+use Rattle.dj_resolution.specs.Bits.{AreBits, in_bits, words_for}
+use Rattle.dj_resolution.specs.Chained.{IsShort}
+use Rattle.dj_resolution.specs.Numbers.{has, lists_of, most_above, numbers_up}
+use Rattle.dj_resolution.specs.Ranked.{AreRanked, AreRanks, HasRow, IsRanked, IsRow, IsRowAbove, rank_in}
+use Rattle.dj_resolution.proofs.Bits.{bits_none}
+use Rattle.dj_resolution.proofs.Chained.{short_at, short_first, short_more, short_next, up_one}
+use Rattle.dj_resolution.proofs.Climbs.{most_above_is, one_more_level}
+use Rattle.dj_resolution.proofs.Lists.{has_cases, has_here, has_more, has_self}
+use Rattle.dj_resolution.proofs.Marks.{item_is}
+use Rattle.dj_resolution.proofs.Walks.{no_numbers_up}
 
 -- ---- numbers of numbers
 

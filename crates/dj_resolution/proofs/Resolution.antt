@@ -9,13 +9,13 @@ use Rattle.dj_model.specs.trusted.Types.{Prefix, object_name}
 use Rattle.dj_model.specs.trusted.Program.{Program, Class, class_at, is_interface, flags_of}
 use Rattle.dj_model.specs.trusted.Linking.{most_classes, option_list, chain, interfaces_above, first_method, field_order, FoundMethod, FoundField, any_method, is_plain, method_chain, or_else, resolve_method, resolve_field}
 use Rattle.dj_model.proofs.MappedNames.{either}
-use Rattle.dj_declared.specs.trusted.Files.{desc_in}
-use Rattle.dj_classes.specs.Tables.{class_number, class_numbers, name_at}
-use Rattle.dj_linking.specs.Linked.{Linked, resolved_method, resolved_field}
-use Rattle.dj_linking.specs.Numbers.{numbers_above, numbers_up, first_some, method_found, field_found}
-use Rattle.dj_linking.proofs.Finding.{reported_first, reported_next, number_within}
-use Rattle.dj_linking.proofs.Searches.{first_some_flat}
-use Rattle.dj_linking.proofs.Walks.{Missing, There, looked, numbers_of_chain, numbers_of_all, numbers_of_order, first_method_found, first_field_found}
+use Rattle.dj_declarations.specs.trusted.Files.{desc_in}
+use Rattle.dj_class_table.specs.Tables.{class_number, class_numbers, name_at}
+use Rattle.dj_resolution.specs.Linked.{Linked, resolved_method, resolved_field}
+use Rattle.dj_resolution.specs.Numbers.{numbers_above, numbers_up, first_some, method_found, field_found}
+use Rattle.dj_resolution.proofs.Finding.{reported_first, reported_next, number_within}
+use Rattle.dj_resolution.proofs.Searches.{first_some_flat}
+use Rattle.dj_resolution.proofs.Walks.{Missing, There, looked, numbers_of_chain, numbers_of_all, numbers_of_order, first_method_found, first_field_found}
 
 -- no two classes have one name
 abbrev pub DoNamesDiffer : Program → Type 0

@@ -5,8 +5,8 @@ use Rattle.std.specs.Option.{option_map}
 use Rattle.std.proofs.lemmas.Bool.{false≢true}
 use Rattle.dj_model.specs.trusted.Linking.{or_else}
 use Rattle.dj_model.proofs.MappedNames.{either}
-use Rattle.dj_linking.specs.Numbers.{has, with_new, with_all, first_places, first_some}
-use Rattle.dj_linking.proofs.Lists.{has_cases, new_there, new_new}
+use Rattle.dj_resolution.specs.Numbers.{has, with_new, with_all, first_places, first_some}
+use Rattle.dj_resolution.proofs.Lists.{has_cases, new_there, new_new}
 
 -- ---- searches
 

@@ -13,15 +13,15 @@ use Rattle.dj_names.specs.trusted.Types.{Name}
 use Rattle.dj_model.specs.trusted.Types.{Prefix}
 use Rattle.dj_model.specs.trusted.Program.{Program, Class, Method, is_private}
 use Rattle.dj_model.specs.trusted.Linking.{most_classes, chain, member_class, is_plain, has_body, with_body, select, FoundMethod}
-use Rattle.dj_declared.specs.trusted.Files.{desc_in}
-use Rattle.dj_declared.specs.Members.{IsDescriptor, method_flags, method_name, method_has_body}
-use Rattle.dj_declared.proofs.DescTests.{desc_in_is, is_descriptor}
-use Rattle.dj_classes.specs.Tables.{class_number, methods_of, methods_at, method_of_class, method_there}
-use Rattle.dj_classes.specs.declared.place.Place.{Place}
-use Rattle.dj_linking.specs.Numbers.{first_some, method_found, numbers_up, SaysMethod}
-use Rattle.dj_linking.proofs.Climbs.{IsClimbed}
-use Rattle.dj_linking.proofs.Finding.{private_set}
-use Rattle.dj_linking.proofs.Walks.{numbers_of_chain, first_method_found}
+use Rattle.dj_declarations.specs.trusted.Files.{desc_in}
+use Rattle.dj_declarations.specs.Members.{IsDescriptor, method_flags, method_name, method_has_body}
+use Rattle.dj_declarations.proofs.DescTests.{desc_in_is, is_descriptor}
+use Rattle.dj_class_table.specs.Tables.{class_number, methods_of, methods_at, method_of_class, method_there}
+use Rattle.dj_class_table.specs.declared.place.Place.{Place}
+use Rattle.dj_resolution.specs.Numbers.{first_some, method_found, numbers_up, SaysMethod}
+use Rattle.dj_resolution.proofs.Climbs.{IsClimbed}
+use Rattle.dj_resolution.proofs.Finding.{private_set}
+use Rattle.dj_resolution.proofs.Walks.{numbers_of_chain, first_method_found}
 
 pub climb_from : {A : Type 0} (f : ℕ → Option A) (program : Program) (levels : ℕ) (first : Option ℕ) → IfSome first (λ k. k < length program) → IsClimbed f program levels first 0 first
 climb_from f program levels first within =

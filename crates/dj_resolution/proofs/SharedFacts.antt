@@ -2,15 +2,15 @@
 use Rattle.std.proofs.Common.{◌≡◌, ℕ, zero, suc, ◌<◌, List, [], ◌∷◌, ◌||◌, ◌≤◌, Bool, true, Option, Some, None, get_or, nat_eq, refl, sym, ap, ◌∙◌, subst, arith, inl, inr, if◌then◌else◌}
 use Rattle.std.specs.Prelude.{is_some}
 use Rattle.std.proofs.lemmas.Bool.{false≢true}
-use Rattle.dj_directory.specs.declared.rows.MemberRow.{MemberRow}
-use Rattle.dj_linking.specs.Bits.{IsHighest, in_bits}
-use Rattle.dj_linking.specs.Marked.{AddsMarks, AreMarks, IsCovered}
-use Rattle.dj_linking.specs.Nearest.{IsNearestMarked}
-use Rattle.dj_linking.specs.Numbers.{has}
-use Rattle.dj_linking.specs.Ranked.{rank_in}
-use Rattle.dj_linking.specs.Shared.{AreRankMarks, IsOfRank}
-use Rattle.dj_linking.proofs.Lists.{has_cases}
-use Rattle.dj_linking.proofs.RankedFacts.{bits_b}
+use Rattle.dj_member_index.specs.declared.rows.MemberRow.{MemberRow}
+use Rattle.dj_resolution.specs.Bits.{IsHighest, in_bits}
+use Rattle.dj_resolution.specs.Marked.{AddsMarks, AreMarks, IsCovered}
+use Rattle.dj_resolution.specs.Nearest.{IsNearestMarked}
+use Rattle.dj_resolution.specs.Numbers.{has}
+use Rattle.dj_resolution.specs.Ranked.{rank_in}
+use Rattle.dj_resolution.specs.Shared.{AreRankMarks, IsOfRank}
+use Rattle.dj_resolution.proofs.Lists.{has_cases}
+use Rattle.dj_resolution.proofs.RankedFacts.{bits_b}
 
 -- ---- marks of classes
 

@@ -9,14 +9,14 @@ use Rattle.dj_model.specs.trusted.Types.{constructor_name}
 use Rattle.dj_model.specs.trusted.Program.{Program, Class, Method, class_at, superclass_of}
 use Rattle.dj_model.specs.trusted.Linking.{chain, chain_of, superclasses, first_method, is_not_static, is_among, FoundMethod, special_method}
 use Rattle.dj_model.proofs.MappedNames.{either}
-use Rattle.dj_classes.specs.Tables.{class_number, class_numbers, super_number, method_there, method_of_class, name_at}
-use Rattle.dj_classes.specs.declared.place.Place.{Place}
-use Rattle.dj_linking.specs.Linked.{class_name}
-use Rattle.dj_linking.specs.Numbers.{has, first_some, method_found, numbers_up, most_above, IsNamed}
-use Rattle.dj_linking.proofs.Climbs.{one_more_level}
-use Rattle.dj_linking.proofs.Resolution.{DoNamesDiffer, class_of_name}
-use Rattle.dj_linking.proofs.Subclasses.{among_numbers}
-use Rattle.dj_linking.proofs.Walks.{numbers_of_chain, first_method_found}
+use Rattle.dj_class_table.specs.Tables.{class_number, class_numbers, super_number, method_there, method_of_class, name_at}
+use Rattle.dj_class_table.specs.declared.place.Place.{Place}
+use Rattle.dj_resolution.specs.Linked.{class_name}
+use Rattle.dj_resolution.specs.Numbers.{has, first_some, method_found, numbers_up, most_above, IsNamed}
+use Rattle.dj_resolution.proofs.Climbs.{one_more_level}
+use Rattle.dj_resolution.proofs.Resolution.{DoNamesDiffer, class_of_name}
+use Rattle.dj_resolution.proofs.Subclasses.{among_numbers}
+use Rattle.dj_resolution.proofs.Walks.{numbers_of_chain, first_method_found}
 
 abbrev the_found : Name → Method → FoundMethod
 the_found name m = record { class = name; method = m }

@@ -9,13 +9,13 @@ use Rattle.dj_names.specs.trusted.Types.{Name, same_name}
 use Rattle.dj_model.specs.trusted.Program.{Program, Class}
 use Rattle.dj_model.specs.trusted.Linking.{most_classes, chain, interfaces_above, is_among, is_subclass}
 use Rattle.dj_model.proofs.MappedNames.{either, alike}
-use Rattle.dj_classes.specs.Tables.{class_number, class_numbers}
-use Rattle.dj_linking.specs.Linked.{class_name}
-use Rattle.dj_linking.specs.Numbers.{has, first_some, first_places, numbers_above, numbers_up}
-use Rattle.dj_linking.proofs.Finding.{reported_none, drop_none}
-use Rattle.dj_linking.proofs.Lists.{has_more, has_cases, has_left, has_right, has_either, has_flat, flat_has, all_has, all_cases, has_here, has_self}
-use Rattle.dj_linking.proofs.Resolution.{DoNamesDiffer, number_of_name, numbers_of_class, above_numbers}
-use Rattle.dj_linking.proofs.Walks.{Missing, There, looked, numbers_append}
+use Rattle.dj_class_table.specs.Tables.{class_number, class_numbers}
+use Rattle.dj_resolution.specs.Linked.{class_name}
+use Rattle.dj_resolution.specs.Numbers.{has, first_some, first_places, numbers_above, numbers_up}
+use Rattle.dj_resolution.proofs.Finding.{reported_none, drop_none}
+use Rattle.dj_resolution.proofs.Lists.{has_more, has_cases, has_left, has_right, has_either, has_flat, flat_has, all_has, all_cases, has_here, has_self}
+use Rattle.dj_resolution.proofs.Resolution.{DoNamesDiffer, number_of_name, numbers_of_class, above_numbers}
+use Rattle.dj_resolution.proofs.Walks.{Missing, There, looked, numbers_append}
 
 -- ---- among numbers
 

@@ -6,7 +6,7 @@ use Rattle.std.proofs.lemmas.Bool.{cases_lt, false≢true}
 use Rattle.std.proofs.lemmas.List.{get_or_past}
 use Rattle.std.proofs.lemmas.Nat.Bits.{bit_at-zero, bit_at_and}
 use Rattle.dj_model.proofs.MappedNames.{either}
-use Rattle.dj_linking.specs.Bits.{IsTop, IsTopIn, in_bits, in_both}
+use Rattle.dj_resolution.specs.Bits.{IsTop, IsTopIn, in_bits, in_both}
 
 -- ---- numbers among those of both
 

@@ -7,12 +7,12 @@ use Rattle.dj_names.specs.trusted.Types.{Name}
 use Rattle.dj_model.specs.trusted.Program.{Class, Method, Field, method_in, field_in, is_named, is_interface, fields_of, flags_of}
 use Rattle.dj_model.specs.trusted.Types.{object_name}
 use Rattle.dj_model.specs.trusted.Linking.{any_method, is_plain, most_classes, option_list, or_else, method_or, field_or}
-use Rattle.dj_declared.specs.trusted.Files.{desc_in}
-use Rattle.dj_declared.specs.Members.{method_place, field_place}
-use Rattle.dj_classes.specs.Tables.{class_number, methods_at, methods_of, fields_at}
-use Rattle.dj_linking.specs.Linked.{Linked, resolved_method, resolved_field}
-use Rattle.dj_linking.specs.Numbers.{first_some, method_in_class, field_in_class, method_found, field_found, numbers_above, numbers_up}
-use Rattle.dj_linking.proofs.Resolution.{DoNamesDiffer, method_resolved, field_resolved}
+use Rattle.dj_declarations.specs.trusted.Files.{desc_in}
+use Rattle.dj_declarations.specs.Members.{method_place, field_place}
+use Rattle.dj_class_table.specs.Tables.{class_number, methods_at, methods_of, fields_at}
+use Rattle.dj_resolution.specs.Linked.{Linked, resolved_method, resolved_field}
+use Rattle.dj_resolution.specs.Numbers.{first_some, method_in_class, field_in_class, method_found, field_found, numbers_above, numbers_up}
+use Rattle.dj_resolution.proofs.Resolution.{DoNamesDiffer, method_resolved, field_resolved}
 
 none_there : (b : Bool) (o : Option ℕ) → (if b then Some 0 else option_map (λ place. place + 1) o) ≡ None → (b ≡ false) × (o ≡ None)
 none_there true o e = absurd cc

@@ -9,8 +9,8 @@ use Rattle.dj_names.specs.trusted.Types.{Name, same_name}
 use Rattle.dj_model.specs.trusted.Program.{Program, Class, Method, Field, class_at, method_in, method_of, field_in, field_of, superclass_of, interfaces_of}
 use Rattle.dj_model.specs.trusted.Linking.{most_classes, option_list, chain_of, interfaces_from, FoundMethod, FoundField, method_or, first_method, field_or, first_field, field_order, or_else}
 use Rattle.dj_model.proofs.MappedNames.{either}
-use Rattle.dj_classes.specs.Tables.{class_number, class_numbers, interface_numbers}
-use Rattle.dj_linking.specs.Numbers.{numbers_from, numbers_above, numbers_up, first_some, method_found, field_found}
+use Rattle.dj_class_table.specs.Tables.{class_number, class_numbers, interface_numbers}
+use Rattle.dj_resolution.specs.Numbers.{numbers_from, numbers_above, numbers_up, first_some, method_found, field_found}
 
 -- ---- a class by its name and by its number
 

@@ -1,7 +1,7 @@
 -- Sets of numbers as bits of words.
 use Rattle.std.specs.Prelude.{◌≡◌, ℕ, ◌+◌, ◌<◌, ◌≤◌, ◌/◌, ◌%◌, ◌&&◌, Bool, true, false, List, [], length, Option, Some, None, nat_eq, get_or}
 use Rattle.std.specs.Int.{bit_at}
-use Rattle.dj_linking.specs.Numbers.{has}
+use Rattle.dj_resolution.specs.Numbers.{has}
 
 -- the number's bit is set
 abbrev pub in_bits : List ℕ → ℕ → Bool

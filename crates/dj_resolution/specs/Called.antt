@@ -2,9 +2,9 @@
 use Rattle.std.specs.Prelude.{◌≡◌, ℕ, ◌≤◌, Bool, Option, Some}
 use Rattle.dj_model.specs.trusted.Program.{Program, Method}
 use Rattle.dj_model.specs.trusted.Linking.{FoundMethod}
-use Rattle.dj_classes.specs.Tables.{method_there}
-use Rattle.dj_classes.specs.declared.place.Place.{Place}
-use Rattle.dj_linking.specs.Numbers.{SaysMethod, first_some, method_found, most_above, numbers_up}
+use Rattle.dj_class_table.specs.Tables.{method_there}
+use Rattle.dj_class_table.specs.declared.place.Place.{Place}
+use Rattle.dj_resolution.specs.Numbers.{SaysMethod, first_some, method_found, most_above, numbers_up}
 
 -- the method that the class declares with the name and the descriptor of the one at a place, where it passes the test
 abbrev pub SaysOwn : Program → (Method → Bool) → Place → ℕ → Option Place → Type 0

@@ -3,9 +3,9 @@ use Rattle.std.specs.Prelude.{◌≡◌, ℕ, ◌+◌, ◌<◌, Bool, List, [], 
 use Rattle.std.specs.List.{filter, flat_map}
 use Rattle.dj_model.specs.trusted.Program.{Program}
 use Rattle.dj_model.specs.trusted.Linking.{most_classes}
-use Rattle.dj_classes.specs.Tables.{fields_at}
-use Rattle.dj_linking.specs.declared.chains.Chains.{Chains}
-use Rattle.dj_linking.specs.Numbers.{first_places, lists_of, numbers_up, once_above}
+use Rattle.dj_class_table.specs.Tables.{fields_at}
+use Rattle.dj_resolution.specs.declared.chains.Chains.{Chains}
+use Rattle.dj_resolution.specs.Numbers.{first_places, lists_of, numbers_up, once_above}
 
 -- ---- rows
 

@@ -5,10 +5,10 @@ use Rattle.dj_names.specs.Types.{sandbox_prefix}
 use Rattle.dj_model.specs.trusted.Types.{Member, Prefix}
 use Rattle.dj_model.specs.trusted.Program.{Program}
 use Rattle.dj_model.specs.trusted.Linking.{FoundMethod, FoundField, resolve_method, resolve_field}
-use Rattle.dj_declared.specs.trusted.Files.{desc_in}
-use Rattle.dj_classes.specs.Tables.{name_at}
-use Rattle.dj_linking.specs.declared.linker.BaseNames.{BaseNames}
-use Rattle.dj_linking.specs.declared.linker.BaseNames.TheVariants as bases
+use Rattle.dj_declarations.specs.trusted.Files.{desc_in}
+use Rattle.dj_class_table.specs.Tables.{name_at}
+use Rattle.dj_resolution.specs.declared.linker.BaseNames.{BaseNames}
+use Rattle.dj_resolution.specs.declared.linker.BaseNames.TheVariants as bases
 
 -- what stands before the names of the library's classes
 abbrev pub prefix_of : BaseNames → Prefix

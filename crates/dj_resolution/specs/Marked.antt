@@ -2,9 +2,9 @@
 use Rattle.std.specs.Prelude.{◌≡◌, ◌⊎◌, ℕ, ◌<◌, Bool, true, false, List, Contains, Option, Some, None, is_some, slice_get}
 use Rattle.dj_model.specs.trusted.Program.{Program, Method}
 use Rattle.dj_model.specs.trusted.Linking.{is_plain}
-use Rattle.dj_classes.specs.Tables.{methods_at}
-use Rattle.dj_directory.specs.declared.rows.MemberRow.{MemberRow}
-use Rattle.dj_linking.specs.Bits.{in_bits}
+use Rattle.dj_class_table.specs.Tables.{methods_at}
+use Rattle.dj_member_index.specs.declared.rows.MemberRow.{MemberRow}
+use Rattle.dj_resolution.specs.Bits.{in_bits}
 
 abbrev pub is_plain_one : Option Method → Bool
 is_plain_one None = false

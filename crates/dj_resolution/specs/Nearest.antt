@@ -1,10 +1,10 @@
 -- The nearest of the classes that declare a member: of those above a class, the one of the highest rank.
 use Rattle.std.specs.Prelude.{◌≡◌, ℕ, ◌<◌, ◌≤◌, true, false, List, Option, Some, None, ltb, if◌then◌else◌, get_or}
-use Rattle.dj_linking.specs.Bits.{in_bits}
-use Rattle.dj_directory.specs.declared.rows.MemberRow.{MemberRow}
-use Rattle.dj_linking.specs.declared.nearest.Near.{Near}
-use Rattle.dj_linking.specs.Numbers.{has}
-use Rattle.dj_linking.specs.Ranked.{rank_in}
+use Rattle.dj_resolution.specs.Bits.{in_bits}
+use Rattle.dj_member_index.specs.declared.rows.MemberRow.{MemberRow}
+use Rattle.dj_resolution.specs.declared.nearest.Near.{Near}
+use Rattle.dj_resolution.specs.Numbers.{has}
+use Rattle.dj_resolution.specs.Ranked.{rank_in}
 
 -- the class of the row with its rank, or it isn't among those above
 abbrev pub IsNear : List ℕ → List ℕ → MemberRow → Option Near → Type 0

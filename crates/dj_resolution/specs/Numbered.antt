@@ -1,8 +1,8 @@
 -- Texts by the numbers that a directory gives them.
 use Rattle.std.specs.Prelude.{◌≡◌, ◌⊎◌, ℕ, List, Option, Some, None}
-use Rattle.dj_declared.specs.Members.{IsDescriptor}
-use Rattle.dj_directory.specs.Numberings.{Numbering, number_of}
-use Rattle.dj_linking.specs.Linked.{Linked, resolved_method, resolved_field}
+use Rattle.dj_declarations.specs.Members.{IsDescriptor}
+use Rattle.dj_member_index.specs.Numberings.{Numbering, number_of}
+use Rattle.dj_resolution.specs.Linked.{Linked, resolved_method, resolved_field}
 
 -- the texts have these numbers, and the second is a descriptor
 pub record AreTexts (directory : Numbering) (name desc : ℕ) (n d : List ℕ) : Type 0 where

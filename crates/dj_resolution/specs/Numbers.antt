@@ -7,8 +7,8 @@ use Rattle.dj_names.specs.declared.descriptor.Desc.{Desc}
 use Rattle.dj_names.specs.trusted.Types.{Name}
 use Rattle.dj_model.specs.trusted.Program.{Program, Class, Method, method_in, field_in}
 use Rattle.dj_model.specs.trusted.Linking.{most_classes, FoundMethod, FoundField, method_or, field_or, or_else}
-use Rattle.dj_classes.specs.Tables.{super_number, interface_numbers, method_there, field_there}
-use Rattle.dj_classes.specs.declared.place.Place.{Place}
+use Rattle.dj_class_table.specs.Tables.{super_number, interface_numbers, method_there, field_there}
+use Rattle.dj_class_table.specs.declared.place.Place.{Place}
 
 -- ---- numbers, each once
 

@@ -2,11 +2,11 @@
 use Rattle.std.specs.Prelude.{◌≡◌, ℕ, ◌+◌, ◌<◌, ◌^◌, List, [], map, length, Some, get_or}
 use Rattle.dj_model.specs.trusted.Program.{Program}
 use Rattle.dj_model.specs.trusted.Linking.{most_classes}
-use Rattle.dj_classes.specs.Tables.{super_number}
-use Rattle.dj_linking.specs.declared.ranked.Ranks.{Ranks}
-use Rattle.dj_linking.specs.Bits.{AreBits, words_for}
-use Rattle.dj_linking.specs.Chained.{IsShort}
-use Rattle.dj_linking.specs.Numbers.{lists_of, most_above, numbers_up}
+use Rattle.dj_class_table.specs.Tables.{super_number}
+use Rattle.dj_resolution.specs.declared.ranked.Ranks.{Ranks}
+use Rattle.dj_resolution.specs.Bits.{AreBits, words_for}
+use Rattle.dj_resolution.specs.Chained.{IsShort}
+use Rattle.dj_resolution.specs.Numbers.{lists_of, most_above, numbers_up}
 
 abbrev pub rank_in : List ℕ → ℕ → ℕ
 rank_in ranks class = get_or ranks class 0

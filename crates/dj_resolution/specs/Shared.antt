@@ -4,20 +4,20 @@ use Rattle.dj_names.specs.declared.descriptor.Desc.{Desc}
 use Rattle.dj_names.specs.trusted.Types.{Name}
 use Rattle.dj_model.specs.trusted.Program.{Program}
 use Rattle.dj_model.specs.trusted.Linking.{any_method, is_plain}
-use Rattle.dj_declared.specs.trusted.Files.{desc_in}
-use Rattle.dj_declared.specs.Members.{field_place, method_place}
-use Rattle.dj_classes.specs.Tables.{fields_at, methods_at}
-use Rattle.dj_directory.specs.Numberings.{Numbering}
-use Rattle.dj_linking.specs.declared.chains.Chains.{Chains}
-use Rattle.dj_linking.specs.declared.ranked.Ranks.{Ranks}
-use Rattle.dj_linking.specs.declared.shared.MarkedMember.{MarkedMember}
-use Rattle.dj_linking.specs.declared.shared.Shared.{Shared}
-use Rattle.dj_linking.specs.Bits.{in_bits}
-use Rattle.dj_linking.specs.Chained.{AreFieldChains, AreMethodChains}
-use Rattle.dj_linking.specs.Marked.{AreMarks}
-use Rattle.dj_linking.specs.Numbered.{AreTexts}
-use Rattle.dj_linking.specs.Numbers.{AreAbove, field_found, method_found}
-use Rattle.dj_linking.specs.Ranked.{AreRanksOf, rank_in}
+use Rattle.dj_declarations.specs.trusted.Files.{desc_in}
+use Rattle.dj_declarations.specs.Members.{field_place, method_place}
+use Rattle.dj_class_table.specs.Tables.{fields_at, methods_at}
+use Rattle.dj_member_index.specs.Numberings.{Numbering}
+use Rattle.dj_resolution.specs.declared.chains.Chains.{Chains}
+use Rattle.dj_resolution.specs.declared.ranked.Ranks.{Ranks}
+use Rattle.dj_resolution.specs.declared.shared.MarkedMember.{MarkedMember}
+use Rattle.dj_resolution.specs.declared.shared.Shared.{Shared}
+use Rattle.dj_resolution.specs.Bits.{in_bits}
+use Rattle.dj_resolution.specs.Chained.{AreFieldChains, AreMethodChains}
+use Rattle.dj_resolution.specs.Marked.{AreMarks}
+use Rattle.dj_resolution.specs.Numbered.{AreTexts}
+use Rattle.dj_resolution.specs.Numbers.{AreAbove, field_found, method_found}
+use Rattle.dj_resolution.specs.Ranked.{AreRanksOf, rank_in}
 
 -- ---- what marks say
 

@@ -1,11 +1,11 @@
 ghost use Rattle.std.specs.Prelude.{◌≡◌, ◌+◌, ◌<◌, ◌≤◌, ◌^◌, ℕ, false, true, [], length, replicate, get_or, IfOk, OnOk};
-ghost use Rattle.dj_linking.specs.Bits.{HaveBits, words_for};
-ghost use Rattle.dj_linking.specs.Numbers.{AreAbove, AreBelow, AreKnown, IsEnough, lists_of, marked_count, once_above, with_above};
+ghost use Rattle.dj_resolution.specs.Bits.{HaveBits, words_for};
+ghost use Rattle.dj_resolution.specs.Numbers.{AreAbove, AreBelow, AreKnown, IsEnough, lists_of, marked_count, once_above, with_above};
 
 use crate::empty::{empty_lists, empty_rows};
 use crate::numbers::Numbers;
 use crate::order::order_of;
-use dj_classes::ClassTable;
+use dj_class_table::ClassTable;
 use std::alloc::{AllocError, Global};
 
 // For each class, by its number, the interfaces above it, each once, and these as bits, where they are known.

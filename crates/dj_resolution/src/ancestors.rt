@@ -1,15 +1,15 @@
 ghost use Rattle.std.specs.Prelude.{◌≡◌, ◌<◌, ◌∷◌, length, Some, flat_map};
 ghost use Rattle.dj_model.specs.trusted.Linking.{most_classes};
-ghost use Rattle.dj_linking.specs.Chained.{AreMethodChains};
-ghost use Rattle.dj_linking.specs.Numbers.{AreAbove, has, lists_of, numbers_above, numbers_up};
-ghost use Rattle.dj_linking.specs.Ranked.{AreRanksOf};
+ghost use Rattle.dj_resolution.specs.Chained.{AreMethodChains};
+ghost use Rattle.dj_resolution.specs.Numbers.{AreAbove, has, lists_of, numbers_above, numbers_up};
+ghost use Rattle.dj_resolution.specs.Ranked.{AreRanksOf};
 
 use crate::chains::Chains;
 use crate::find::MOST_CLASSES;
 use crate::numbers::is_among;
 use crate::ranked::Ranks;
 use crate::special::is_own_or_superclass;
-use dj_classes::ClassTable;
+use dj_class_table::ClassTable;
 
 // Whether a class is the other one, or that is one of the interfaces above it.
 fn is_at(table: &ClassTable, above: &[Vec<u32>], class: u32, other: u32) -> bool

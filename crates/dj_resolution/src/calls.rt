@@ -2,19 +2,19 @@
 ghost use Rattle.std.specs.Prelude.{◌≡◌, ◌<◌, length, Some, IfSome, if◌then◌else◌};
 ghost use Rattle.dj_model.specs.trusted.Program.{is_private};
 ghost use Rattle.dj_model.specs.trusted.Linking.{FoundMethod, is_not_static, is_plain, most_classes, with_body};
-ghost use Rattle.dj_classes.specs.Tables.{methods_at, method_there, super_number};
-ghost use Rattle.dj_directory.specs.Calls.{IsCallTable, tests};
-ghost use Rattle.dj_linking.specs.Called.{SaysFirst, SaysOwn, SaysUp};
-ghost use Rattle.dj_linking.specs.Numbers.{SaysMethod, first_some, lists_of, method_found, most_above, numbers_up};
-ghost use Rattle.dj_linking.specs.Ranked.{AreRanksOf, HasRow};
+ghost use Rattle.dj_class_table.specs.Tables.{methods_at, method_there, super_number};
+ghost use Rattle.dj_member_index.specs.Calls.{IsCallTable, tests};
+ghost use Rattle.dj_resolution.specs.Called.{SaysFirst, SaysOwn, SaysUp};
+ghost use Rattle.dj_resolution.specs.Numbers.{SaysMethod, first_some, lists_of, method_found, most_above, numbers_up};
+ghost use Rattle.dj_resolution.specs.Ranked.{AreRanksOf, HasRow};
 
 use crate::find::PRIVATE;
 use crate::nearest::nearest_of;
 use crate::ranked::Ranks;
 use crate::select::plain_method_from;
 use crate::special::instance_method_above;
-use dj_classes::{ClassTable, Place};
-use dj_directory::CallTable;
+use dj_class_table::{ClassTable, Place};
+use dj_member_index::CallTable;
 
 // The method that a class declares with the name and the descriptor of the one at a place, where a call may take it.
 fn own_method(

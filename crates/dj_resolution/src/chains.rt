@@ -1,12 +1,12 @@
 ghost use Rattle.std.specs.Prelude.{◌≡◌, IfOk};
-ghost use Rattle.dj_linking.specs.Bits.{HaveRows};
-ghost use Rattle.dj_linking.specs.Numbers.{AreBelow, first_places, lists_of, with_all};
+ghost use Rattle.dj_resolution.specs.Bits.{HaveRows};
+ghost use Rattle.dj_resolution.specs.Numbers.{AreBelow, first_places, lists_of, with_all};
 
 use crate::empty::empty_rows;
 use crate::numbers::{Numbers, is_among};
 use crate::ranked::MOST_ROWS;
 use crate::words::may_have_bit;
-use dj_classes::ClassTable;
+use dj_class_table::ClassTable;
 use std::alloc::{AllocError, Global};
 
 /// For each class, by its number, the place of its list: the rows of the class and its superclasses in turn, each number once. Classes may share a list, and one whose superclasses go round has none.
@@ -34,9 +34,9 @@ fn joined(alloc: Global, bound: usize, row: &[u32], above: &[u32]) -> Result<Num
 impl Chains {
     ghost use Rattle.std.specs.Prelude.{◌<◌, ◌^◌, ◌++◌, ◌∷◌, [], length, replicate, set, Some, None, IfSome, OnOk, slice_get, get_or, option_and_then};
     ghost use Rattle.std.specs.Option.{option_map};
-    ghost use Rattle.dj_classes.specs.Tables.{super_number};
-    ghost use Rattle.dj_linking.specs.Numbers.{AreInside, has};
-    ghost use Rattle.dj_linking.specs.Chained.{AreLearnt, AreListsOf, row_at};
+    ghost use Rattle.dj_class_table.specs.Tables.{super_number};
+    ghost use Rattle.dj_resolution.specs.Numbers.{AreInside, has};
+    ghost use Rattle.dj_resolution.specs.Chained.{AreLearnt, AreListsOf, row_at};
 
     // No list is known.
     fn none(alloc: Global, count: usize) -> Result<Chains, AllocError>

@@ -1,11 +1,11 @@
 //! Whether to look members up by the numbers of their texts. Short searches among short texts cost less than numbering all texts;
 //! long ones are worth it. Both ways find the same members.
 ghost use Rattle.std.specs.Prelude.{◌<◌, ◌≤◌, length};
-ghost use Rattle.dj_linking.specs.Chained.{AreMethodChains};
-ghost use Rattle.dj_linking.specs.Numbers.{AreBelow};
+ghost use Rattle.dj_resolution.specs.Chained.{AreMethodChains};
+ghost use Rattle.dj_resolution.specs.Numbers.{AreBelow};
 
 use crate::chains::Chains;
-use dj_classes::ClassTable;
+use dj_class_table::ClassTable;
 
 // A text of more bytes is numbered.
 const LONG_TEXT: usize = 200;

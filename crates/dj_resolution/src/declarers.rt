@@ -1,16 +1,16 @@
 //! Classes that declare a member, as bits.
 ghost use Rattle.std.specs.Prelude.{◌≡◌, ℕ, ◌<◌, ◌≤◌, ◌*◌, ◌&&◌, true, ltb, nat_eq, Contains, length, Some, slice_get, if◌then◌else◌};
 ghost use Rattle.std.specs.Option.{option_map};
-ghost use Rattle.dj_declared.specs.Members.{method_flags};
-ghost use Rattle.dj_classes.specs.Tables.{methods_at};
-ghost use Rattle.dj_directory.specs.declared.rows.MemberRow.{MemberRow};
-ghost use Rattle.dj_linking.specs.Bits.{in_bits};
-ghost use Rattle.dj_linking.specs.Marked.{AddsMarks, is_plain_at};
-ghost use Rattle.dj_linking.specs.Ranked.{rank_in};
+ghost use Rattle.dj_declarations.specs.Members.{method_flags};
+ghost use Rattle.dj_class_table.specs.Tables.{methods_at};
+ghost use Rattle.dj_member_index.specs.declared.rows.MemberRow.{MemberRow};
+ghost use Rattle.dj_resolution.specs.Bits.{in_bits};
+ghost use Rattle.dj_resolution.specs.Marked.{AddsMarks, is_plain_at};
+ghost use Rattle.dj_resolution.specs.Ranked.{rank_in};
 
 use crate::find::{PRIVATE, STATIC};
 use crate::words::put_bit;
-use dj_directory::{Directory, MemberRow};
+use dj_member_index::{Directory, MemberRow};
 
 /// The access flags of a method (JVMS table 4.6-A).
 pub fn method_flags(directory: &Directory<'_>, class: u32, member: u32) -> u16

@@ -1,15 +1,15 @@
 //! Members by the numbers of their texts, where these have numbers.
 ghost use Rattle.std.specs.Prelude.{◌≡◌, ◌<◌, ℕ, List, Some, length};
 ghost use Rattle.std.specs.Option.{option_map};
-ghost use Rattle.dj_declared.specs.Members.{IsDescriptor};
-ghost use Rattle.dj_classes.specs.Tables.{method_there, field_there};
-ghost use Rattle.dj_directory.specs.Numberings.{number_of};
-ghost use Rattle.dj_linking.specs.Linked.{Linked, resolved_method, resolved_field};
-ghost use Rattle.dj_linking.specs.Numbered.{AreNumbersOf, Unnumbered};
+ghost use Rattle.dj_declarations.specs.Members.{IsDescriptor};
+ghost use Rattle.dj_class_table.specs.Tables.{method_there, field_there};
+ghost use Rattle.dj_member_index.specs.Numberings.{number_of};
+ghost use Rattle.dj_resolution.specs.Linked.{Linked, resolved_method, resolved_field};
+ghost use Rattle.dj_resolution.specs.Numbered.{AreNumbersOf, Unnumbered};
 
 use crate::linker::Linker;
-use dj_classes::Place;
-use dj_directory::Directory;
+use dj_class_table::Place;
+use dj_member_index::Directory;
 
 // A member has texts with numbers, so nothing resolves where one of them has none.
 fn nothing_resolves(linker: &Linker, directory: &Directory<'_>, class: u32)

@@ -1,8 +1,8 @@
 ghost use Rattle.std.specs.Prelude.{◌≡◌, ◌<◌, length, IfOk};
-ghost use Rattle.dj_linking.specs.Numbers.{AreBelow, AreInside, lists_of};
+ghost use Rattle.dj_resolution.specs.Numbers.{AreBelow, AreInside, lists_of};
 
 use crate::empty::empty_lists;
-use dj_classes::ClassTable;
+use dj_class_table::ClassTable;
 use std::alloc::{AllocError, Global};
 
 // For each class, by its number, the classes whose superclass it is.

@@ -1,5 +1,5 @@
 ghost use Rattle.std.specs.Prelude.{◌≡◌, [], length, replicate, IfOk};
-ghost use Rattle.dj_linking.specs.Numbers.{lists_of};
+ghost use Rattle.dj_resolution.specs.Numbers.{lists_of};
 
 use std::alloc::{AllocError, Global};
 

@@ -1,10 +1,10 @@
 ghost use Rattle.std.specs.Prelude.{◌≡◌, ◌<◌, ◌++◌, ◌∷◌, [], length, IfOk, OnOk};
 ghost use Rattle.std.specs.List.{filter};
-ghost use Rattle.dj_linking.specs.Numbers.{AreAbove, AreBelow, lists_of};
-ghost use Rattle.dj_linking.specs.Chained.{AreFieldChains, AreRows, field_row, has_field};
+ghost use Rattle.dj_resolution.specs.Numbers.{AreAbove, AreBelow, lists_of};
+ghost use Rattle.dj_resolution.specs.Chained.{AreFieldChains, AreRows, field_row, has_field};
 
 use crate::chains::Chains;
-use dj_classes::ClassTable;
+use dj_class_table::ClassTable;
 use std::alloc::{AllocError, Global};
 
 // The class comes to the row if it declares a field.

@@ -1,13 +1,13 @@
 ghost use Rattle.std.specs.Prelude.{◌<◌, length, Some, IfSome, slice_get, if◌then◌else◌, ◌∷◌};
 ghost use Rattle.dj_model.specs.trusted.Program.{is_interface, flags_of};
 ghost use Rattle.dj_model.specs.trusted.Linking.{any_method, is_plain, most_classes, option_list};
-ghost use Rattle.dj_declared.specs.Members.{IsDescriptor};
-ghost use Rattle.dj_declared.specs.trusted.Files.{desc_in};
-ghost use Rattle.dj_linking.specs.Chained.{AreFieldChains, AreMethodChains};
-ghost use Rattle.dj_linking.specs.Numbers.{AreAbove, AreBelow, SaysMethod, SaysField, first_some, method_found, field_found, lists_of, numbers_above, numbers_up};
+ghost use Rattle.dj_declarations.specs.Members.{IsDescriptor};
+ghost use Rattle.dj_declarations.specs.trusted.Files.{desc_in};
+ghost use Rattle.dj_resolution.specs.Chained.{AreFieldChains, AreMethodChains};
+ghost use Rattle.dj_resolution.specs.Numbers.{AreAbove, AreBelow, SaysMethod, SaysField, first_some, method_found, field_found, lists_of, numbers_above, numbers_up};
 
 use crate::chains::Chains;
-use dj_classes::{ClassTable, Place};
+use dj_class_table::{ClassTable, Place};
 
 /// JVMS table 4.6-A.
 pub const PRIVATE: u16 = 0x0002;

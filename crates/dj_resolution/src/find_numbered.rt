@@ -3,15 +3,15 @@ ghost use Rattle.std.specs.Prelude.{◌≡◌, ℕ, List, ◌<◌, ◌≤◌, tr
 ghost use Rattle.std.specs.Option.{option_map};
 ghost use Rattle.dj_model.specs.trusted.Program.{is_interface, flags_of};
 ghost use Rattle.dj_model.specs.trusted.Linking.{any_method, is_plain, most_classes, option_list};
-ghost use Rattle.dj_declared.specs.trusted.Files.{desc_in};
-ghost use Rattle.dj_classes.specs.Tables.{flags_in, super_number};
-ghost use Rattle.dj_linking.specs.Bits.{in_bits};
-ghost use Rattle.dj_linking.specs.Chained.{AreFieldChains, AreMethodChains};
-ghost use Rattle.dj_linking.specs.Marked.{IsCovered};
-ghost use Rattle.dj_linking.specs.Numbered.{AreTexts};
-ghost use Rattle.dj_linking.specs.Numbers.{AreAbove, AreBelow, SaysMethod, SaysField, first_some, method_found, field_found, lists_of, numbers_above, numbers_up};
-ghost use Rattle.dj_linking.specs.Ranked.{AreRanksOf, HasRow};
-ghost use Rattle.dj_linking.specs.Shared.{HaveFieldMarks, HavePlainMarks, HaveRankMarks};
+ghost use Rattle.dj_declarations.specs.trusted.Files.{desc_in};
+ghost use Rattle.dj_class_table.specs.Tables.{flags_in, super_number};
+ghost use Rattle.dj_resolution.specs.Bits.{in_bits};
+ghost use Rattle.dj_resolution.specs.Chained.{AreFieldChains, AreMethodChains};
+ghost use Rattle.dj_resolution.specs.Marked.{IsCovered};
+ghost use Rattle.dj_resolution.specs.Numbered.{AreTexts};
+ghost use Rattle.dj_resolution.specs.Numbers.{AreAbove, AreBelow, SaysMethod, SaysField, first_some, method_found, field_found, lists_of, numbers_above, numbers_up};
+ghost use Rattle.dj_resolution.specs.Ranked.{AreRanksOf, HasRow};
+ghost use Rattle.dj_resolution.specs.Shared.{HaveFieldMarks, HavePlainMarks, HaveRankMarks};
 
 use crate::chains::Chains;
 use crate::declarers::{mark_all, mark_plain, method_flags};
@@ -20,8 +20,8 @@ use crate::nearest::nearest_of;
 use crate::ranked::{MOST_ROWS, Ranks};
 use crate::shared::{FEW_ROWS, Shared};
 use crate::words::may_have_bit;
-use dj_classes::Place;
-use dj_directory::Directory;
+use dj_class_table::Place;
+use dj_member_index::Directory;
 
 // A search among at most this many classes looks at them one by one; a longer one first marks all classes that declare the member.
 const SHORT_WALK: u32 = 8;

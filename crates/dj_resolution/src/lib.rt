@@ -27,6 +27,6 @@ mod special;
 mod words;
 
 pub use described::{resolve_field_of, resolve_method_of};
-pub use dj_classes::{ClassTable, Place, TableError};
-pub use dj_directory::{CallTable, Directory};
+pub use dj_class_table::{ClassTable, Place, TableError};
+pub use dj_member_index::{CallTable, Directory};
 pub use linker::{BaseNames, Linker};

@@ -1,15 +1,15 @@
 ghost use Rattle.std.specs.Prelude.{◌≡◌, ℕ, List, ◌<◌, length, Some, IfOk, IfSome};
 ghost use Rattle.std.specs.Option.{option_map};
 ghost use Rattle.dj_names.specs.declared.descriptor.Ty.{Ty};
-ghost use Rattle.dj_classes.specs.Tables.{class_number, methods_at, method_there, field_there};
-ghost use Rattle.dj_declared.specs.Members.{IsDescriptor};
-ghost use Rattle.dj_directory.specs.Calls.{IsCallTable};
+ghost use Rattle.dj_class_table.specs.Tables.{class_number, methods_at, method_there, field_there};
+ghost use Rattle.dj_declarations.specs.Members.{IsDescriptor};
+ghost use Rattle.dj_member_index.specs.Calls.{IsCallTable};
 ghost use Rattle.dj_model.specs.trusted.Types.{object_name};
 ghost use Rattle.dj_model.specs.trusted.Linking.{FoundMethod, chain, is_among, is_subclass, member_class, select, special_method};
-ghost use Rattle.dj_declared.specs.trusted.Files.{desc_in};
-ghost use Rattle.dj_linking.specs.Numbers.{IsNamed, SaysMethod};
-ghost use Rattle.dj_linking.specs.Numbered.{AreTexts};
-ghost use Rattle.dj_linking.specs.Linked.{Linked, prefix_of, class_name, resolved_method, resolved_field};
+ghost use Rattle.dj_declarations.specs.trusted.Files.{desc_in};
+ghost use Rattle.dj_resolution.specs.Numbers.{IsNamed, SaysMethod};
+ghost use Rattle.dj_resolution.specs.Numbered.{AreTexts};
+ghost use Rattle.dj_resolution.specs.Linked.{Linked, prefix_of, class_name, resolved_method, resolved_field};
 
 use crate::above::interfaces_above;
 use crate::ancestors::is_above;
@@ -25,8 +25,8 @@ use crate::ranked::Ranks;
 use crate::select::selected_method;
 use crate::shared::Shared;
 use crate::special::{instance_method_above, is_own_or_superclass, is_superclass};
-use dj_classes::{ClassTable, Place, TableError};
-use dj_directory::{CallTable, Directory};
+use dj_class_table::{ClassTable, Place, TableError};
+use dj_member_index::{CallTable, Directory};
 use std::alloc::{AllocError, Global};
 use std::marker::Model;
 
@@ -55,12 +55,12 @@ pub struct Linker {
 }
 
 impl Model for Linker {
-    ghost use Rattle.dj_linking.specs.Linked.{Linked, prefix_of};
+    ghost use Rattle.dj_resolution.specs.Linked.{Linked, prefix_of};
 
     ghost Value = { Linked };
 
-    ghost use Rattle.dj_linking.specs.Shared.{AreLists};
-    ghost use Rattle.dj_linking.specs.Numbers.{lists_of};
+    ghost use Rattle.dj_resolution.specs.Shared.{AreLists};
+    ghost use Rattle.dj_resolution.specs.Numbers.{lists_of};
 
     ghost view = { λ linker. record { program = linker.table; prefix = prefix_of linker.base } };
 

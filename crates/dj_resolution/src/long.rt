@@ -2,7 +2,7 @@
 ghost use Rattle.std.specs.Prelude.{◌<◌, length};
 
 use crate::chains::Chains;
-use dj_classes::ClassTable;
+use dj_class_table::ClassTable;
 
 // More classes than these, one above the other or in a list, are many.
 const FEW_CLASSES: usize = 16;

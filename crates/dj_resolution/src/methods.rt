@@ -1,9 +1,9 @@
 ghost use Rattle.std.specs.Prelude.{length, IfOk};
-ghost use Rattle.dj_linking.specs.Numbers.{AreAbove, AreBelow, lists_of};
-ghost use Rattle.dj_linking.specs.Chained.{AreMethodChains};
+ghost use Rattle.dj_resolution.specs.Numbers.{AreAbove, AreBelow, lists_of};
+ghost use Rattle.dj_resolution.specs.Chained.{AreMethodChains};
 
 use crate::chains::Chains;
-use dj_classes::ClassTable;
+use dj_class_table::ClassTable;
 use std::alloc::{AllocError, Global};
 
 /// For each class, by its number, the interfaces above it and its superclasses, where the classes come in this order.

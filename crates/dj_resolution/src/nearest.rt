@@ -2,13 +2,13 @@
 //! it is the one of the highest rank.
 ghost use Rattle.std.specs.Prelude.{◌≡◌, ◌<◌, length, Some, IfSome};
 ghost use Rattle.dj_model.specs.trusted.Linking.{most_classes};
-ghost use Rattle.dj_linking.specs.Nearest.{IsNear, IsNearest, nearer};
-ghost use Rattle.dj_linking.specs.Numbers.{lists_of, numbers_up};
-ghost use Rattle.dj_linking.specs.Ranked.{AreRanksOf, HasRow};
+ghost use Rattle.dj_resolution.specs.Nearest.{IsNear, IsNearest, nearer};
+ghost use Rattle.dj_resolution.specs.Numbers.{lists_of, numbers_up};
+ghost use Rattle.dj_resolution.specs.Ranked.{AreRanksOf, HasRow};
 
 use crate::ranked::Ranks;
-use dj_classes::ClassTable;
-use dj_directory::MemberRow;
+use dj_class_table::ClassTable;
+use dj_member_index::MemberRow;
 
 /// A class with its rank, and which of its methods it is.
 #[derive(Clone, Copy)]

@@ -1,6 +1,6 @@
 ghost use Rattle.std.specs.Prelude.{◌≡◌, [], ◌*◌, ◌<◌, ◌≤◌, ℕ, true, length, IfOk, OnOk};
-ghost use Rattle.dj_linking.specs.Bits.{AreBits, in_bits, words_for};
-ghost use Rattle.dj_linking.specs.Numbers.{has, with_new, with_all, AreBelow};
+ghost use Rattle.dj_resolution.specs.Bits.{AreBits, in_bits, words_for};
+ghost use Rattle.dj_resolution.specs.Numbers.{has, with_new, with_all, AreBelow};
 
 use crate::words::{has_bit, has_bits, put_bit};
 use std::alloc::{AllocError, Global};

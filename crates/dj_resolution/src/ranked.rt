@@ -1,13 +1,13 @@
 //! Classes by ranks: each has one above that of its superclass. So bits show at once which superclasses a class has.
 ghost use Rattle.std.specs.Prelude.{◌≡◌, ℕ, ◌+◌, ◌<◌, ◌^◌, true, false, length, Some, IfOk, IfSome, MatchOption, OnOk};
 ghost use Rattle.dj_model.specs.trusted.Linking.{most_classes};
-ghost use Rattle.dj_linking.specs.Numbers.{AreBelow, has, lists_of, most_above, numbers_up};
-ghost use Rattle.dj_linking.specs.Nearest.{IsNearestMarked};
-ghost use Rattle.dj_linking.specs.Ranked.{AreRanked, AreRanks, AreRanksOf, HasRow, IsRow, IsRowAbove, rank_in};
+ghost use Rattle.dj_resolution.specs.Numbers.{AreBelow, has, lists_of, most_above, numbers_up};
+ghost use Rattle.dj_resolution.specs.Nearest.{IsNearestMarked};
+ghost use Rattle.dj_resolution.specs.Ranked.{AreRanked, AreRanks, AreRanksOf, HasRow, IsRow, IsRowAbove, rank_in};
 
 use crate::empty::empty_rows;
 use crate::words::{has_bit, highest_common, put_bit};
-use dj_classes::ClassTable;
+use dj_class_table::ClassTable;
 use std::alloc::{AllocError, Global};
 
 /// Bits for each class take as many as there are pairs of classes. Where there are more classes there are none.

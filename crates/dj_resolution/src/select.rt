@@ -1,13 +1,13 @@
 ghost use Rattle.std.specs.Prelude.{◌≡◌, ◌<◌, Some, IfSome, length, if◌then◌else◌};
 ghost use Rattle.dj_model.specs.trusted.Program.{is_private};
 ghost use Rattle.dj_model.specs.trusted.Linking.{FoundMethod, is_plain, most_classes, with_body};
-ghost use Rattle.dj_declared.specs.Members.{IsDescriptor};
-ghost use Rattle.dj_declared.specs.trusted.Files.{desc_in};
-ghost use Rattle.dj_classes.specs.Tables.{methods_at, method_there};
-ghost use Rattle.dj_linking.specs.Numbers.{SaysMethod, first_some, method_found, numbers_up};
+ghost use Rattle.dj_declarations.specs.Members.{IsDescriptor};
+ghost use Rattle.dj_declarations.specs.trusted.Files.{desc_in};
+ghost use Rattle.dj_class_table.specs.Tables.{methods_at, method_there};
+ghost use Rattle.dj_resolution.specs.Numbers.{SaysMethod, first_some, method_found, numbers_up};
 
 use crate::find::{MOST_CLASSES, PRIVATE, plain_method_in};
-use dj_classes::{ClassTable, Place};
+use dj_class_table::{ClassTable, Place};
 
 /// The first method of a class, where it is there, and its superclasses that is neither private nor static.
 pub fn plain_method_from(

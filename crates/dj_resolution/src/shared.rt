@@ -1,23 +1,23 @@
 //! Members that many classes declare. Marks of these classes, made once, spare each look-up the way through all of them.
 ghost use Rattle.std.specs.Prelude.{◌≡◌, ℕ, List, ◌<◌, Contains, length, Some, IfOk, IfSome};
 ghost use Rattle.dj_model.specs.trusted.Linking.{is_plain};
-ghost use Rattle.dj_declared.specs.trusted.Files.{desc_in};
-ghost use Rattle.dj_declared.specs.Members.{field_place, method_place};
-ghost use Rattle.dj_classes.specs.Tables.{fields_at, methods_at};
-ghost use Rattle.dj_linking.specs.Chained.{AreMethodChains};
-ghost use Rattle.dj_linking.specs.Marked.{AreMarks};
-ghost use Rattle.dj_linking.specs.Numbered.{AreTexts};
-ghost use Rattle.dj_linking.specs.Numbers.{field_found, method_found};
-ghost use Rattle.dj_linking.specs.Ranked.{AreRanksOf};
-ghost use Rattle.dj_linking.specs.Shared.{AreRankMarks, AreShared, HaveFieldMarks, HavePlainMarks, HaveRankMarks, declares_method};
+ghost use Rattle.dj_declarations.specs.trusted.Files.{desc_in};
+ghost use Rattle.dj_declarations.specs.Members.{field_place, method_place};
+ghost use Rattle.dj_class_table.specs.Tables.{fields_at, methods_at};
+ghost use Rattle.dj_resolution.specs.Chained.{AreMethodChains};
+ghost use Rattle.dj_resolution.specs.Marked.{AreMarks};
+ghost use Rattle.dj_resolution.specs.Numbered.{AreTexts};
+ghost use Rattle.dj_resolution.specs.Numbers.{field_found, method_found};
+ghost use Rattle.dj_resolution.specs.Ranked.{AreRanksOf};
+ghost use Rattle.dj_resolution.specs.Shared.{AreRankMarks, AreShared, HaveFieldMarks, HavePlainMarks, HaveRankMarks, declares_method};
 
 use crate::chains::Chains;
 use crate::costly::are_costly;
 use crate::long::are_long;
 use crate::ranked::{MOST_ROWS, Ranks};
 use crate::sharing::{fields_of, methods_of, plain_methods_of};
-use dj_classes::ClassTable;
-use dj_directory::Directory;
+use dj_class_table::ClassTable;
+use dj_member_index::Directory;
 use std::alloc::{AllocError, Global};
 
 /// This many classes that declare a member are looked at one by one.

@@ -1,13 +1,13 @@
 //! The marks of members that many classes declare.
 ghost use Rattle.std.specs.Prelude.{◌≡◌, ◌<◌, [], length, IfOk, OnOk};
-ghost use Rattle.dj_linking.specs.Bits.{AreBits, words_for};
-ghost use Rattle.dj_linking.specs.Ranked.{AreRanksOf};
-ghost use Rattle.dj_linking.specs.Shared.{HaveFieldMarks, HavePlainMarks, HaveRankMarks, IsFieldMarked, IsFieldNumbered, IsMethodNumbered, IsPlainMarked, IsRankMarked};
+ghost use Rattle.dj_resolution.specs.Bits.{AreBits, words_for};
+ghost use Rattle.dj_resolution.specs.Ranked.{AreRanksOf};
+ghost use Rattle.dj_resolution.specs.Shared.{HaveFieldMarks, HavePlainMarks, HaveRankMarks, IsFieldMarked, IsFieldNumbered, IsMethodNumbered, IsPlainMarked, IsRankMarked};
 
 use crate::declarers::{mark_all, mark_plain, mark_ranks};
 use crate::ranked::Ranks;
 use crate::shared::{FEW_ROWS, MarkedMember};
-use dj_directory::{Directory, MemberRow};
+use dj_member_index::{Directory, MemberRow};
 use std::alloc::{AllocError, Global};
 
 // ---- rows

@@ -1,14 +1,14 @@
 ghost use Rattle.std.specs.Prelude.{◌≡◌, ◌<◌, Some, length};
 ghost use Rattle.dj_model.specs.trusted.Linking.{is_not_static, most_classes};
-ghost use Rattle.dj_declared.specs.Members.{IsDescriptor};
-ghost use Rattle.dj_declared.specs.trusted.Files.{desc_in};
-ghost use Rattle.dj_classes.specs.Tables.{super_number};
-ghost use Rattle.dj_linking.specs.Numbers.{SaysMethod, first_some, has, method_found, most_above, numbers_up};
-ghost use Rattle.dj_linking.specs.Ranked.{AreRanksOf};
+ghost use Rattle.dj_declarations.specs.Members.{IsDescriptor};
+ghost use Rattle.dj_declarations.specs.trusted.Files.{desc_in};
+ghost use Rattle.dj_class_table.specs.Tables.{super_number};
+ghost use Rattle.dj_resolution.specs.Numbers.{SaysMethod, first_some, has, method_found, most_above, numbers_up};
+ghost use Rattle.dj_resolution.specs.Ranked.{AreRanksOf};
 
 use crate::find::STATIC;
 use crate::ranked::Ranks;
-use dj_classes::{ClassTable, Place};
+use dj_class_table::{ClassTable, Place};
 
 // This many levels are above a class at most.
 const MOST_ABOVE: u64 = 4_294_967_295;

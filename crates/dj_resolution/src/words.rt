@@ -1,5 +1,5 @@
 ghost use Rattle.std.specs.Prelude.{◌≡◌, ℕ, ◌+◌, ◌-◌, ◌*◌, ◌<◌, ◌≤◌, ◌^◌, true, length, nat_eq, if◌then◌else◌};
-ghost use Rattle.dj_linking.specs.Bits.{IsHighest, IsHighestIn, in_bits, in_both};
+ghost use Rattle.dj_resolution.specs.Bits.{IsHighest, IsHighestIn, in_bits, in_both};
 
 /// Whether the number is among those of the bits.
 pub fn has_bit(words: &[u64], number: u32) -> bool

@@ -7,20 +7,20 @@ use Rattle.dj_class.specs.Members.{member_of}
 use Rattle.dj_report.specs.Lines.{Gains, Adds, IsLineAmong}
 use Rattle.dj_report.proofs.Adding.{IsAmong, adds_none_yet, adds_read, not_both}
 use Rattle.dj_model.specs.trusted.Program.{Program}
-use Rattle.dj_check.specs.declared.judged.JudgedText.{JudgedText}
-use Rattle.dj_check.specs.declared.marks.Mark.{Mark}
-use Rattle.dj_check.specs.Judged.{AreTexts}
-use Rattle.dj_check.specs.trusted.Malformed.{IsFaultyMethod, HasFaultyMethod, HasFaultyField, IsFaulty}
-use Rattle.dj_check.specs.Marks.{names_in, MarksOf, IsMarkLine}
-use Rattle.dj_check.specs.trusted.Methods.{MethodViolates}
-use Rattle.dj_check.specs.trusted.Rules.{IsOwnLine}
-use Rattle.dj_check.proofs.Anys.{IsAny, none_yet, none_more, found_at, none_at_all, seen_any, from_seen_any}
-use Rattle.dj_check.proofs.MarkLaws.{marks_seen}
-use Rattle.dj_link.proofs.FileLaws.{mark_lines}
-use Rattle.dj_judge.specs.declared.lent.Marks.{Marks}
-use Rattle.dj_judge.specs.declared.files.JudgedFiles.{JudgedFiles}
-use Rattle.dj_judge.specs.Late.{MethodLateViolates}
-use Rattle.dj_judge.specs.Reported.{IsReportedMethod, AreReportedMethods, AreJudgedMethods, HasOwnLines}
+use Rattle.dj_early_rules.specs.declared.judged.JudgedText.{JudgedText}
+use Rattle.dj_early_rules.specs.declared.marks.Mark.{Mark}
+use Rattle.dj_early_rules.specs.Judged.{AreTexts}
+use Rattle.dj_early_rules.specs.trusted.Malformed.{IsFaultyMethod, HasFaultyMethod, HasFaultyField, IsFaulty}
+use Rattle.dj_early_rules.specs.Marks.{names_in, MarksOf, IsMarkLine}
+use Rattle.dj_early_rules.specs.trusted.Methods.{MethodViolates}
+use Rattle.dj_early_rules.specs.trusted.Rules.{IsOwnLine}
+use Rattle.dj_early_rules.proofs.Anys.{IsAny, none_yet, none_more, found_at, none_at_all, seen_any, from_seen_any}
+use Rattle.dj_early_rules.proofs.MarkLaws.{marks_seen}
+use Rattle.dj_link_rules.proofs.FileLaws.{mark_lines}
+use Rattle.dj_rules.specs.declared.lent.Marks.{Marks}
+use Rattle.dj_rules.specs.declared.files.JudgedFiles.{JudgedFiles}
+use Rattle.dj_rules.specs.Late.{MethodLateViolates}
+use Rattle.dj_rules.specs.Reported.{IsReportedMethod, AreReportedMethods, AreJudgedMethods, HasOwnLines}
 
 -- by another program that is lent
 pub methods_by : (c : ClassFile) (Has Had : Program → Type 0) (texts : List JudgedText) (judged : Option Marks) → ((program : Program) → Has program → Had program) → AreJudgedMethods c Had texts judged → AreJudgedMethods c Has texts judged

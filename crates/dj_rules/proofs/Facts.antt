@@ -23,16 +23,16 @@ use Rattle.dj_report.specs.declared.report.Violation.{Violation}
 use Rattle.dj_report.specs.trusted.Lines.{file_line}
 use Rattle.dj_report.proofs.Sorted.{contains_none, contains_cases}
 use Rattle.dj_model.specs.trusted.Program.{Program}
-use Rattle.dj_declared.specs.trusted.Files.{desc_in, type_in}
-use Rattle.dj_rules.specs.trusted.Violations.{this_name}
-use Rattle.dj_check.specs.trusted.Code.{IsCodeOf}
-use Rattle.dj_check.specs.trusted.Floats.{MentionsFloat, HasFloat}
-use Rattle.dj_check.specs.trusted.Malformed.{IsGood}
-use Rattle.dj_check.specs.trusted.Methods.{CatchesError, HandlerViolates, MethodViolates}
-use Rattle.dj_check.specs.trusted.Rules.{IsDuplicateLine}
-use Rattle.dj_link.specs.trusted.Foreign.{IsForeignConstant}
-use Rattle.dj_link.specs.trusted.Lines.{HandlerLinkViolates, MethodLinkViolates}
-use Rattle.dj_judge.specs.trusted.Lines.{IsUnreported, MethodShapeViolates}
+use Rattle.dj_declarations.specs.trusted.Files.{desc_in, type_in}
+use Rattle.dj_file_rules.specs.trusted.Violations.{this_name}
+use Rattle.dj_early_rules.specs.trusted.Code.{IsCodeOf}
+use Rattle.dj_early_rules.specs.trusted.Floats.{MentionsFloat, HasFloat}
+use Rattle.dj_early_rules.specs.trusted.Malformed.{IsGood}
+use Rattle.dj_early_rules.specs.trusted.Methods.{CatchesError, HandlerViolates, MethodViolates}
+use Rattle.dj_early_rules.specs.trusted.Rules.{IsDuplicateLine}
+use Rattle.dj_link_rules.specs.trusted.Foreign.{IsForeignConstant}
+use Rattle.dj_link_rules.specs.trusted.Lines.{HandlerLinkViolates, MethodLinkViolates}
+use Rattle.dj_rules.specs.trusted.Lines.{IsUnreported, MethodShapeViolates}
 
 -- ---- rule 5
 

@@ -11,30 +11,30 @@ use Rattle.dj_report.specs.trusted.Lines.{file_line}
 use Rattle.dj_report.specs.Lines.{Adds, Gains, IsLineAmong}
 use Rattle.dj_report.proofs.Sorted.{contains_none}
 use Rattle.dj_report.proofs.Adding.{adds_same, adds_nothing, adds_both, adds_part, among_map}
-use Rattle.dj_hierarchy.specs.Views.{head_view}
+use Rattle.dj_hierarchy_rule.specs.Views.{head_view}
 use Rattle.dj_model.specs.trusted.Program.{Program}
-use Rattle.dj_rules.specs.Views.{path_file_view}
-use Rattle.dj_rules.specs.trusted.Violations.{IsClassLine}
-use Rattle.dj_check.specs.declared.judged.JudgedText.{JudgedText}
-use Rattle.dj_check.specs.declared.good.GoodFile.{GoodFile}
-use Rattle.dj_check.specs.declared.marks.Mark.{Mark}
-use Rattle.dj_check.specs.Judged.{AreTexts}
-use Rattle.dj_check.specs.trusted.Malformed.{IsFaulty, IsRefused, IsGood}
-use Rattle.dj_check.specs.trusted.Methods.{MethodViolates}
-use Rattle.dj_check.specs.trusted.Rules.{IsMemberLine, FieldViolates, IsNamingLine, IsOwnLine, IsLoneLine, IsAmongLoneLines, IsDuplicateLine, IsHierarchyLine, IsEarlyLine}
-use Rattle.dj_check.specs.Marks.{AreMarksOf, IsMarkLine}
-use Rattle.dj_check.specs.Doubles.{IsRepeatedLine}
-use Rattle.dj_check.specs.Kept.{IsOwnersLine}
-use Rattle.dj_check.proofs.FileLaws.{member_lines, refused_not_good}
-use Rattle.dj_check.proofs.DoubleLaws.{duplicate_lines}
-use Rattle.dj_check.proofs.HierarchyLaws.{hierarchy_lines}
-use Rattle.dj_link.specs.trusted.Lines.{MethodLinkViolates}
-use Rattle.dj_judge.specs.declared.files.JudgedFiles.{JudgedFiles}
-use Rattle.dj_judge.specs.declared.kept.Kept.{Kept}
-use Rattle.dj_judge.specs.trusted.Lines.{MethodShapeViolates, IsLinkedLine}
-use Rattle.dj_judge.specs.Late.{MethodLateViolates, IsFileLateLine}
-use Rattle.dj_judge.specs.Reported.{SaysPart, IsJudgedFile, IsReportedFile}
-use Rattle.dj_judge.specs.Kept.{AreKept}
+use Rattle.dj_file_rules.specs.Views.{path_file_view}
+use Rattle.dj_file_rules.specs.trusted.Violations.{IsClassLine}
+use Rattle.dj_early_rules.specs.declared.judged.JudgedText.{JudgedText}
+use Rattle.dj_early_rules.specs.declared.good.GoodFile.{GoodFile}
+use Rattle.dj_early_rules.specs.declared.marks.Mark.{Mark}
+use Rattle.dj_early_rules.specs.Judged.{AreTexts}
+use Rattle.dj_early_rules.specs.trusted.Malformed.{IsFaulty, IsRefused, IsGood}
+use Rattle.dj_early_rules.specs.trusted.Methods.{MethodViolates}
+use Rattle.dj_early_rules.specs.trusted.Rules.{IsMemberLine, FieldViolates, IsNamingLine, IsOwnLine, IsLoneLine, IsAmongLoneLines, IsDuplicateLine, IsHierarchyLine, IsEarlyLine}
+use Rattle.dj_early_rules.specs.Marks.{AreMarksOf, IsMarkLine}
+use Rattle.dj_early_rules.specs.Doubles.{IsRepeatedLine}
+use Rattle.dj_early_rules.specs.Kept.{IsOwnersLine}
+use Rattle.dj_early_rules.proofs.FileLaws.{member_lines, refused_not_good}
+use Rattle.dj_early_rules.proofs.DoubleLaws.{duplicate_lines}
+use Rattle.dj_early_rules.proofs.HierarchyLaws.{hierarchy_lines}
+use Rattle.dj_link_rules.specs.trusted.Lines.{MethodLinkViolates}
+use Rattle.dj_rules.specs.declared.files.JudgedFiles.{JudgedFiles}
+use Rattle.dj_rules.specs.declared.kept.Kept.{Kept}
+use Rattle.dj_rules.specs.trusted.Lines.{MethodShapeViolates, IsLinkedLine}
+use Rattle.dj_rules.specs.Late.{MethodLateViolates, IsFileLateLine}
+use Rattle.dj_rules.specs.Reported.{SaysPart, IsJudgedFile, IsReportedFile}
+use Rattle.dj_rules.specs.Kept.{AreKept}
 
 -- ---- from marks to lines
 

@@ -8,19 +8,19 @@ use Rattle.dj_class.proofs.ClassLaws.{one_class_file}
 use Rattle.dj_pool.proofs.Decides.{tests_decide}
 use Rattle.dj_report.specs.declared.report.PathFile.{PathFile}
 use Rattle.dj_report.proofs.Sorted.{contains_none}
-use Rattle.dj_hierarchy.specs.declared.head.ClassHead.{ClassHead}
-use Rattle.dj_check.specs.declared.doubles.NamedFile.{NamedFile}
-use Rattle.dj_check.specs.declared.good.GoodFile.{GoodFile}
-use Rattle.dj_check.specs.declared.hierarchy.Owner.{Owner}
-use Rattle.dj_judge.specs.declared.kept.Kept.{Kept}
-use Rattle.dj_check.specs.trusted.Malformed.{IsGood}
-use Rattle.dj_check.specs.Passes.{IsGoodPart}
-use Rattle.dj_judge.specs.Reported.{SaysPart}
-use Rattle.dj_check.specs.Doubles.{IsNamedAs}
-use Rattle.dj_check.specs.Kept.{OwnsAt, IsOwnedAt, AreOwned}
-use Rattle.dj_judge.specs.Kept.{heads_in, owners_in, named_as, Keeps, AreKept}
-use Rattle.dj_check.proofs.FileLaws.{refused_not_good}
-use Rattle.dj_check.proofs.DoubleLaws.{AreFirstNamed, none_named, one_more_named, all_named}
+use Rattle.dj_hierarchy_rule.specs.declared.head.ClassHead.{ClassHead}
+use Rattle.dj_early_rules.specs.declared.doubles.NamedFile.{NamedFile}
+use Rattle.dj_early_rules.specs.declared.good.GoodFile.{GoodFile}
+use Rattle.dj_early_rules.specs.declared.hierarchy.Owner.{Owner}
+use Rattle.dj_rules.specs.declared.kept.Kept.{Kept}
+use Rattle.dj_early_rules.specs.trusted.Malformed.{IsGood}
+use Rattle.dj_early_rules.specs.Passes.{IsGoodPart}
+use Rattle.dj_rules.specs.Reported.{SaysPart}
+use Rattle.dj_early_rules.specs.Doubles.{IsNamedAs}
+use Rattle.dj_early_rules.specs.Kept.{OwnsAt, IsOwnedAt, AreOwned}
+use Rattle.dj_rules.specs.Kept.{heads_in, owners_in, named_as, Keeps, AreKept}
+use Rattle.dj_early_rules.proofs.FileLaws.{refused_not_good}
+use Rattle.dj_early_rules.proofs.DoubleLaws.{AreFirstNamed, none_named, one_more_named, all_named}
 
 -- ---- places in a list that grew
 

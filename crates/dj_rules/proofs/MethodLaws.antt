@@ -6,25 +6,25 @@ use Rattle.dj_class.specs.trusted.Code.{CodeInfo}
 use Rattle.dj_report.specs.Lines.{Gains}
 use Rattle.dj_report.proofs.Sorted.{contains_none}
 use Rattle.dj_report.proofs.Adding.{adds_same, adds_nothing, adds_both, adds_members, adds_part}
-use Rattle.dj_rules.specs.trusted.Violations.{IsNative, IsFinalizer}
+use Rattle.dj_file_rules.specs.trusted.Violations.{IsNative, IsFinalizer}
 use Rattle.dj_model.specs.trusted.Program.{Program}
-use Rattle.dj_check.specs.declared.code.WholeCode.{WholeCode}
-use Rattle.dj_check.specs.declared.marks.Mark.{Mark}
-use Rattle.dj_check.specs.declared.judged.JudgedText.{JudgedText}
-use Rattle.dj_check.specs.trusted.Attributes.{codes_of}
-use Rattle.dj_check.specs.trusted.Code.{IsCodeOf}
-use Rattle.dj_check.specs.trusted.Floats.{NamesFloat}
-use Rattle.dj_check.specs.trusted.Malformed.{IsFaultyMethod}
-use Rattle.dj_check.specs.Marks.{place_of, names_in, MarksOf}
-use Rattle.dj_check.specs.trusted.Methods.{MethodViolates}
-use Rattle.dj_check.specs.Passes.{IsWholeMethod}
-use Rattle.dj_link.specs.declared.known.Known.{Known}
-use Rattle.dj_link.specs.trusted.Lines.{MethodLinkViolates}
-use Rattle.dj_link.specs.Marks.{IsUnreportedMethod}
-use Rattle.dj_judge.specs.declared.lent.Marks.{Marks}
-use Rattle.dj_judge.specs.trusted.Lines.{IsUnreported}
-use Rattle.dj_judge.specs.Late.{HasKnown, ShapeViolates, MethodLateViolates, AreReportedMarks}
-use Rattle.dj_judge.specs.Reported.{IsReportedMethod}
+use Rattle.dj_early_rules.specs.declared.code.WholeCode.{WholeCode}
+use Rattle.dj_early_rules.specs.declared.marks.Mark.{Mark}
+use Rattle.dj_early_rules.specs.declared.judged.JudgedText.{JudgedText}
+use Rattle.dj_early_rules.specs.trusted.Attributes.{codes_of}
+use Rattle.dj_early_rules.specs.trusted.Code.{IsCodeOf}
+use Rattle.dj_early_rules.specs.trusted.Floats.{NamesFloat}
+use Rattle.dj_early_rules.specs.trusted.Malformed.{IsFaultyMethod}
+use Rattle.dj_early_rules.specs.Marks.{place_of, names_in, MarksOf}
+use Rattle.dj_early_rules.specs.trusted.Methods.{MethodViolates}
+use Rattle.dj_early_rules.specs.Passes.{IsWholeMethod}
+use Rattle.dj_link_rules.specs.declared.known.Known.{Known}
+use Rattle.dj_link_rules.specs.trusted.Lines.{MethodLinkViolates}
+use Rattle.dj_link_rules.specs.Marks.{IsUnreportedMethod}
+use Rattle.dj_rules.specs.declared.lent.Marks.{Marks}
+use Rattle.dj_rules.specs.trusted.Lines.{IsUnreported}
+use Rattle.dj_rules.specs.Late.{HasKnown, ShapeViolates, MethodLateViolates, AreReportedMarks}
+use Rattle.dj_rules.specs.Reported.{IsReportedMethod}
 
 -- ---- whether there are marks
 

@@ -19,24 +19,24 @@ use Rattle.dj_model.specs.trusted.Members.{kinds_of}
 use Rattle.dj_model.specs.trusted.Kinds.{Signature, signature_of, call_signature, with_receiver}
 use Rattle.dj_model.specs.trusted.Shape.{IsShapeFault}
 use Rattle.dj_model.proofs.Shapes.{no_fault_with_shape, one_shape_fault}
-use Rattle.dj_declared.specs.trusted.Files.{desc_in, name_in}
-use Rattle.dj_declared.specs.Members.{IsDescriptor}
-use Rattle.dj_declared.proofs.DescTests.{desc_in_is, is_descriptor}
-use Rattle.dj_check.specs.declared.code.WholeCode.{WholeCode}
-use Rattle.dj_check.specs.declared.marks.MarkPlace.{MarkPlace}
-use Rattle.dj_check.specs.declared.marks.Mark.{Mark}
-use Rattle.dj_check.specs.trusted.Attributes.{codes_of}
-use Rattle.dj_check.specs.trusted.Floats.{IsFloating, HasFloating, MentionsFloat, HasFloat, NamesFloat}
-use Rattle.dj_check.specs.Marks.{mark_at, place_of, MarksOf}
-use Rattle.dj_check.specs.Passes.{IsWholeMethod}
-use Rattle.dj_check.proofs.DoubleLaws.{from_some}
-use Rattle.dj_check.proofs.MethodLaws.{short_code, one_labelled}
+use Rattle.dj_declarations.specs.trusted.Files.{desc_in, name_in}
+use Rattle.dj_declarations.specs.Members.{IsDescriptor}
+use Rattle.dj_declarations.proofs.DescTests.{desc_in_is, is_descriptor}
+use Rattle.dj_early_rules.specs.declared.code.WholeCode.{WholeCode}
+use Rattle.dj_early_rules.specs.declared.marks.MarkPlace.{MarkPlace}
+use Rattle.dj_early_rules.specs.declared.marks.Mark.{Mark}
+use Rattle.dj_early_rules.specs.trusted.Attributes.{codes_of}
+use Rattle.dj_early_rules.specs.trusted.Floats.{IsFloating, HasFloating, MentionsFloat, HasFloat, NamesFloat}
+use Rattle.dj_early_rules.specs.Marks.{mark_at, place_of, MarksOf}
+use Rattle.dj_early_rules.specs.Passes.{IsWholeMethod}
+use Rattle.dj_early_rules.proofs.DoubleLaws.{from_some}
+use Rattle.dj_early_rules.proofs.MethodLaws.{short_code, one_labelled}
 use Rattle.dj_program.specs.trusted.Codes.{CodeParts, code_in, IsMethodCode}
 use Rattle.dj_program.proofs.Once.{one_parts}
-use Rattle.dj_shape.specs.declared.judge.ShapeFault.{ShapeFault}
-use Rattle.dj_shape.specs.trusted.Rule.{signature_at, LacksShape}
-use Rattle.dj_shape.specs.Rule.{IsShapeAnswer}
-use Rattle.dj_judge.specs.Late.{IsFaultOf, FaultViolates, ShapeViolates}
+use Rattle.dj_shape_rule.specs.declared.judge.ShapeFault.{ShapeFault}
+use Rattle.dj_shape_rule.specs.trusted.Rule.{signature_at, LacksShape}
+use Rattle.dj_shape_rule.specs.Rule.{IsShapeAnswer}
+use Rattle.dj_rules.specs.Late.{IsFaultOf, FaultViolates, ShapeViolates}
 
 -- ---- a descriptor without floats and doubles has kinds
 

@@ -2,13 +2,13 @@
 use Rattle.std.specs.Prelude.{◌≡◌, ℕ, List, [], ◌∷◌, ◌++◌, Option, Some, None}
 use Rattle.std.specs.Borrow.{Bor}
 use Rattle.dj_report.specs.declared.report.PathFile.{PathFile}
-use Rattle.dj_hierarchy.specs.declared.head.ClassHead.{ClassHead}
-use Rattle.dj_check.specs.declared.doubles.NamedFile.{NamedFile}
-use Rattle.dj_check.specs.declared.good.GoodFile.{GoodFile}
-use Rattle.dj_check.specs.declared.hierarchy.Owner.{Owner}
-use Rattle.dj_check.specs.Doubles.{AreNamed}
-use Rattle.dj_check.specs.Kept.{AreOwned}
-use Rattle.dj_judge.specs.declared.kept.Kept.{Kept}
+use Rattle.dj_hierarchy_rule.specs.declared.head.ClassHead.{ClassHead}
+use Rattle.dj_early_rules.specs.declared.doubles.NamedFile.{NamedFile}
+use Rattle.dj_early_rules.specs.declared.good.GoodFile.{GoodFile}
+use Rattle.dj_early_rules.specs.declared.hierarchy.Owner.{Owner}
+use Rattle.dj_early_rules.specs.Doubles.{AreNamed}
+use Rattle.dj_early_rules.specs.Kept.{AreOwned}
+use Rattle.dj_rules.specs.declared.kept.Kept.{Kept}
 
 abbrev pub name_in : Option GoodFile → Option (Bor (List ℕ))
 name_in None = None

@@ -6,19 +6,19 @@ use Rattle.dj_pool.specs.trusted.Pool.{Constant}
 use Rattle.dj_class.specs.trusted.ClassFile.{MemberInfo, ClassFile}
 use Rattle.dj_report.specs.declared.report.Violation.{Violation}
 use Rattle.dj_report.specs.Lines.{Gains}
-use Rattle.dj_rules.specs.trusted.Violations.{this_name}
+use Rattle.dj_file_rules.specs.trusted.Violations.{this_name}
 use Rattle.dj_model.specs.trusted.Program.{Program}
-use Rattle.dj_check.specs.Marks.{MarksOf}
-use Rattle.dj_check.specs.trusted.Methods.{MethodViolates}
-use Rattle.dj_link.specs.declared.known.Known.{Known}
-use Rattle.dj_link.specs.Constants.{IsDirectoryOf}
-use Rattle.dj_link.specs.Known.{IsKnown, AreUnmakeable}
-use Rattle.dj_link.specs.trusted.Lines.{MethodLinkViolates, IsFileLinkLine}
-use Rattle.dj_shape.specs.declared.judge.ShapeFault.{ShapeFault}
-use Rattle.dj_shape.specs.trusted.Rule.{LacksShape}
-use Rattle.dj_judge.specs.declared.lent.Lent.{Lent}
-use Rattle.dj_judge.specs.declared.lent.Marks.{Marks}
-use Rattle.dj_judge.specs.trusted.Lines.{MethodShapeViolates, IsFileShapeLine}
+use Rattle.dj_early_rules.specs.Marks.{MarksOf}
+use Rattle.dj_early_rules.specs.trusted.Methods.{MethodViolates}
+use Rattle.dj_link_rules.specs.declared.known.Known.{Known}
+use Rattle.dj_link_rules.specs.Constants.{IsDirectoryOf}
+use Rattle.dj_link_rules.specs.Known.{IsKnown, AreUnmakeable}
+use Rattle.dj_link_rules.specs.trusted.Lines.{MethodLinkViolates, IsFileLinkLine}
+use Rattle.dj_shape_rule.specs.declared.judge.ShapeFault.{ShapeFault}
+use Rattle.dj_shape_rule.specs.trusted.Rule.{LacksShape}
+use Rattle.dj_rules.specs.declared.lent.Lent.{Lent}
+use Rattle.dj_rules.specs.declared.lent.Marks.{Marks}
+use Rattle.dj_rules.specs.trusted.Lines.{MethodShapeViolates, IsFileShapeLine}
 
 -- ---- what is borrowed
 

@@ -4,18 +4,18 @@ use Rattle.dj_class.specs.trusted.ClassFile.{MemberInfo, ClassFile}
 use Rattle.dj_report.specs.declared.report.PathFile.{PathFile}
 use Rattle.dj_report.specs.trusted.Lines.{file_line}
 use Rattle.dj_report.specs.Lines.{Gains, Adds}
-use Rattle.dj_rules.specs.Views.{path_file_view}
+use Rattle.dj_file_rules.specs.Views.{path_file_view}
 use Rattle.dj_model.specs.trusted.Program.{Program}
-use Rattle.dj_check.specs.declared.judged.JudgedText.{JudgedText}
-use Rattle.dj_check.specs.declared.good.GoodFile.{GoodFile}
-use Rattle.dj_check.specs.trusted.Malformed.{IsFaulty, IsFaultyMethod, HasFaultyMethod, IsRefused, IsGood}
-use Rattle.dj_check.specs.trusted.Methods.{MethodViolates}
-use Rattle.dj_check.specs.Marks.{names_in, MarksOf, AreMarksOf}
-use Rattle.dj_check.specs.Passes.{IsGoodPart}
-use Rattle.dj_check.specs.trusted.Rules.{IsMemberLine, IsOwnLine, IsLoneLine}
-use Rattle.dj_judge.specs.declared.lent.Marks.{Marks}
-use Rattle.dj_judge.specs.declared.files.JudgedFiles.{JudgedFiles}
-use Rattle.dj_judge.specs.Late.{MethodLateViolates, IsFileLateLine}
+use Rattle.dj_early_rules.specs.declared.judged.JudgedText.{JudgedText}
+use Rattle.dj_early_rules.specs.declared.good.GoodFile.{GoodFile}
+use Rattle.dj_early_rules.specs.trusted.Malformed.{IsFaulty, IsFaultyMethod, HasFaultyMethod, IsRefused, IsGood}
+use Rattle.dj_early_rules.specs.trusted.Methods.{MethodViolates}
+use Rattle.dj_early_rules.specs.Marks.{names_in, MarksOf, AreMarksOf}
+use Rattle.dj_early_rules.specs.Passes.{IsGoodPart}
+use Rattle.dj_early_rules.specs.trusted.Rules.{IsMemberLine, IsOwnLine, IsLoneLine}
+use Rattle.dj_rules.specs.declared.lent.Marks.{Marks}
+use Rattle.dj_rules.specs.declared.files.JudgedFiles.{JudgedFiles}
+use Rattle.dj_rules.specs.Late.{MethodLateViolates, IsFileLateLine}
 
 -- ---- methods
 

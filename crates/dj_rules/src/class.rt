@@ -2,23 +2,23 @@ ghost use Rattle.std.specs.Prelude.{[], Some, IfOk, OnOk};
 ghost use Rattle.dj_class.specs.trusted.ClassFile.{IsValid};
 ghost use Rattle.dj_class.specs.Views.{class_of};
 ghost use Rattle.dj_report.specs.Lines.{Adds, Gains, IsLineAmong};
-ghost use Rattle.dj_check.specs.Judged.{AreTexts};
-ghost use Rattle.dj_check.specs.Marks.{AreMarksOf, IsMarkLine};
-ghost use Rattle.dj_check.specs.trusted.Methods.{MethodViolates};
-ghost use Rattle.dj_check.specs.trusted.Rules.{IsOwnLine};
-ghost use Rattle.dj_judge.specs.Late.{HasLent, AreLent, IsReady};
-ghost use Rattle.dj_judge.specs.Reported.{AreJudgedMethods, IsJudgedClass};
+ghost use Rattle.dj_early_rules.specs.Judged.{AreTexts};
+ghost use Rattle.dj_early_rules.specs.Marks.{AreMarksOf, IsMarkLine};
+ghost use Rattle.dj_early_rules.specs.trusted.Methods.{MethodViolates};
+ghost use Rattle.dj_early_rules.specs.trusted.Rules.{IsOwnLine};
+ghost use Rattle.dj_rules.specs.Late.{HasLent, AreLent, IsReady};
+ghost use Rattle.dj_rules.specs.Reported.{AreJudgedMethods, IsJudgedClass};
 
 use crate::files::JudgedFiles;
 use crate::lent::{Lent, Marks};
 use crate::methods::judge_methods;
-use dj_check::{
+use dj_class::ClassView;
+use dj_early_rules::{
     GoodFile, JudgedText, add_field_marks, add_mark_lines, add_naming_lines, class_name, good_file,
     has_faulty_field, judge_texts,
 };
-use dj_class::ClassView;
-use dj_link::{Known, classes_above, judge_constants};
-use dj_rules::add_class_lines;
+use dj_file_rules::add_class_lines;
+use dj_link_rules::{Known, classes_above, judge_constants};
 use std::alloc::{AllocError, Global};
 
 // The marks of the methods of a class file where classes are borrowed. What its constants name, and what is above it, is looked up once.

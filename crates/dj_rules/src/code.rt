@@ -2,20 +2,20 @@ ghost use Rattle.std.specs.Prelude.{◌≢◌, ◌↔◌, ◌⊎◌, [], IfSome,
 ghost use Rattle.dj_class.specs.trusted.ClassFile.{IsMethod, IsValid};
 ghost use Rattle.dj_class.specs.Members.{member_of};
 ghost use Rattle.dj_class.specs.Views.{class_of};
-ghost use Rattle.dj_rules.specs.trusted.Violations.{IsFinalizer};
-ghost use Rattle.dj_check.specs.Judged.{AreTexts};
-ghost use Rattle.dj_check.specs.Marks.{names_in};
-ghost use Rattle.dj_check.specs.Passes.{IsWholeMethod};
-ghost use Rattle.dj_shape.specs.Pools.{ArePoolKinds};
-ghost use Rattle.dj_judge.specs.Late.{HasKnown, IsKnownOf, AreReportedMarks};
+ghost use Rattle.dj_file_rules.specs.trusted.Violations.{IsFinalizer};
+ghost use Rattle.dj_early_rules.specs.Judged.{AreTexts};
+ghost use Rattle.dj_early_rules.specs.Marks.{names_in};
+ghost use Rattle.dj_early_rules.specs.Passes.{IsWholeMethod};
+ghost use Rattle.dj_shape_rule.specs.Pools.{ArePoolKinds};
+ghost use Rattle.dj_rules.specs.Late.{HasKnown, IsKnownOf, AreReportedMarks};
 
 use crate::lent::Marks;
 use crate::shape_marks::add_shape_mark;
-use dj_check::{JudgedText, Mark, WholeCode, add_own_marks, names_of};
 use dj_class::{ClassView, MemberView};
-use dj_link::{Known, add_whole_marks};
+use dj_early_rules::{JudgedText, Mark, WholeCode, add_own_marks, names_of};
+use dj_link_rules::{Known, add_whole_marks};
 use dj_pool::Pool;
-use dj_shape::PoolKinds;
+use dj_shape_rule::PoolKinds;
 use std::alloc::{AllocError, Global};
 
 // Whether the method is one that a garbage collector would call.

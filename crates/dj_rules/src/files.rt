@@ -1,26 +1,26 @@
 ghost use Rattle.std.specs.Prelude.{◌≡◌, ◌<◌, ◌^◌, [], length, map, All, Some, IfOk, OnOk};
-ghost use Rattle.dj_linking.specs.Linked.{Linked};
-ghost use Rattle.dj_link.specs.Constants.{IsDirectoryOf};
+ghost use Rattle.dj_resolution.specs.Linked.{Linked};
+ghost use Rattle.dj_link_rules.specs.Constants.{IsDirectoryOf};
 ghost use Rattle.dj_model.specs.trusted.Program.{Program};
 ghost use Rattle.dj_report.specs.Lines.{Adds};
-ghost use Rattle.dj_rules.specs.Views.{path_file_view};
-ghost use Rattle.dj_check.specs.trusted.Rules.{IsAmongLoneLines, IsEarlyLine};
-ghost use Rattle.dj_check.specs.Rules.{AreEarlyViolations};
-ghost use Rattle.dj_judge.specs.Judged.{HasLinker};
-ghost use Rattle.dj_judge.specs.trusted.Lines.{IsLinkedLine};
-ghost use Rattle.dj_judge.specs.Late.{HasLent, IsReady};
-ghost use Rattle.dj_judge.specs.Reported.{IsReportedFile};
-ghost use Rattle.dj_judge.specs.Kept.{AreKept};
+ghost use Rattle.dj_file_rules.specs.Views.{path_file_view};
+ghost use Rattle.dj_early_rules.specs.trusted.Rules.{IsAmongLoneLines, IsEarlyLine};
+ghost use Rattle.dj_early_rules.specs.Rules.{AreEarlyViolations};
+ghost use Rattle.dj_rules.specs.Judged.{HasLinker};
+ghost use Rattle.dj_rules.specs.trusted.Lines.{IsLinkedLine};
+ghost use Rattle.dj_rules.specs.Late.{HasLent, IsReady};
+ghost use Rattle.dj_rules.specs.Reported.{IsReportedFile};
+ghost use Rattle.dj_rules.specs.Kept.{AreKept};
 
 use crate::kept::{Kept, keep_file};
 use crate::lent::Lent;
 use crate::views::judge_file;
-use dj_check::{GoodFile, add_duplicate_lines, add_hierarchy_lines};
-use dj_directory::Directory;
-use dj_link::unmakeable_classes;
-use dj_linking::Linker;
+use dj_early_rules::{GoodFile, add_duplicate_lines, add_hierarchy_lines};
+use dj_file_rules::RulesError;
+use dj_link_rules::unmakeable_classes;
+use dj_member_index::Directory;
 use dj_report::{PathFile, Violation, Violations, add_in_order, in_order};
-use dj_rules::RulesError;
+use dj_resolution::Linker;
 use std::alloc::{AllocError, Global};
 
 /// Lines of the report, in any order, with repeats.

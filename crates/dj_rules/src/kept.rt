@@ -1,8 +1,8 @@
 ghost use Rattle.std.specs.Prelude.{Some, OnOk};
-ghost use Rattle.dj_judge.specs.Kept.{Keeps};
+ghost use Rattle.dj_rules.specs.Kept.{Keeps};
 
-use dj_check::{GoodFile, NamedFile, Owner};
-use dj_hierarchy::ClassHead;
+use dj_early_rules::{GoodFile, NamedFile, Owner};
+use dj_hierarchy_rule::ClassHead;
 use std::alloc::AllocError;
 
 /// What is kept of files.

@@ -1,6 +1,6 @@
-use dj_check::Mark;
-use dj_directory::Directory;
-use dj_linking::Linker;
+use dj_early_rules::Mark;
+use dj_member_index::Directory;
+use dj_resolution::Linker;
 
 /// The classes of a set, borrowed to judge its files by the rules 17 to 19.
 #[derive(Clone, Copy)]

@@ -10,5 +10,5 @@ mod methods;
 mod shape_marks;
 mod views;
 
-pub use dj_rules::RulesError;
+pub use dj_file_rules::RulesError;
 pub use files::{JudgedFiles, judge_files, rules};

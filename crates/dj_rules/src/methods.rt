@@ -2,17 +2,17 @@ ghost use Rattle.std.specs.Prelude.{◌≡◌, ◌++◌, IfSome, IfOk, OnOk};
 ghost use Rattle.dj_class.specs.trusted.ClassFile.{IsMethod, IsValid};
 ghost use Rattle.dj_class.specs.Members.{member_of};
 ghost use Rattle.dj_class.specs.Views.{class_of};
-ghost use Rattle.dj_check.specs.Judged.{AreTexts};
-ghost use Rattle.dj_shape.specs.Pools.{ArePoolKinds};
-ghost use Rattle.dj_judge.specs.Late.{HasKnown, IsKnownOf};
-ghost use Rattle.dj_judge.specs.Reported.{IsJudgedMethod, AreJudgedMethods};
+ghost use Rattle.dj_early_rules.specs.Judged.{AreTexts};
+ghost use Rattle.dj_shape_rule.specs.Pools.{ArePoolKinds};
+ghost use Rattle.dj_rules.specs.Late.{HasKnown, IsKnownOf};
+ghost use Rattle.dj_rules.specs.Reported.{IsJudgedMethod, AreJudgedMethods};
 
 use crate::code::judge_code;
 use crate::lent::Marks;
-use dj_check::{JudgedText, MethodBody, add_bodiless_marks, code_of_method};
 use dj_class::{ClassView, MemberView};
-use dj_link::Known;
-use dj_shape::PoolKinds;
+use dj_early_rules::{JudgedText, MethodBody, add_bodiless_marks, code_of_method};
+use dj_link_rules::Known;
+use dj_shape_rule::PoolKinds;
 use std::alloc::{AllocError, Global};
 
 // Appends the marks of one method.

@@ -4,20 +4,20 @@ ghost use Rattle.dj_class.specs.trusted.ClassFile.{IsMethod, IsValid};
 ghost use Rattle.dj_class.specs.Members.{member_of};
 ghost use Rattle.dj_class.specs.Views.{class_of};
 ghost use Rattle.dj_report.specs.Lines.{Gains};
-ghost use Rattle.dj_check.specs.trusted.Floats.{NamesFloat};
-ghost use Rattle.dj_check.specs.Marks.{MarksOf};
-ghost use Rattle.dj_check.specs.Passes.{IsWholeMethod};
+ghost use Rattle.dj_early_rules.specs.trusted.Floats.{NamesFloat};
+ghost use Rattle.dj_early_rules.specs.Marks.{MarksOf};
+ghost use Rattle.dj_early_rules.specs.Passes.{IsWholeMethod};
 ghost use Rattle.dj_program.specs.trusted.Codes.{IsMethodCode};
 ghost use Rattle.dj_program.specs.Views.{parts_of};
-ghost use Rattle.dj_shape.specs.Pools.{ArePoolKinds};
-ghost use Rattle.dj_judge.specs.Late.{IsFaultOf, FaultViolates, ShapeViolates};
+ghost use Rattle.dj_shape_rule.specs.Pools.{ArePoolKinds};
+ghost use Rattle.dj_rules.specs.Late.{IsFaultOf, FaultViolates, ShapeViolates};
 
-use dj_check::{Mark, MarkPlace, WholeCode, add_mark_if};
 use dj_class::{ClassView, MemberView};
-use dj_link::is_static;
+use dj_early_rules::{Mark, MarkPlace, WholeCode, add_mark_if};
+use dj_link_rules::is_static;
 use dj_pool::Pool;
 use dj_program::{MethodCode, method_code};
-use dj_shape::{PoolKinds, ShapeFault, pool_kinds, shape};
+use dj_shape_rule::{PoolKinds, ShapeFault, pool_kinds, shape};
 use std::alloc::{AllocError, Global};
 
 // The number of the rule SHAPE.

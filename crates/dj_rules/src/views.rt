@@ -1,17 +1,17 @@
 ghost use Rattle.std.specs.Prelude.{◌<◌, ◌^◌, length, IfOk};
 ghost use Rattle.dj_class.specs.trusted.ClassFile.{IsClassFile};
 ghost use Rattle.dj_class.specs.Views.{class_of};
-ghost use Rattle.dj_rules.specs.Reads.{IsViewOf};
-ghost use Rattle.dj_judge.specs.Late.{HasLent, IsReady};
-ghost use Rattle.dj_judge.specs.Reported.{IsJudgedFile};
+ghost use Rattle.dj_file_rules.specs.Reads.{IsViewOf};
+ghost use Rattle.dj_rules.specs.Late.{HasLent, IsReady};
+ghost use Rattle.dj_rules.specs.Reported.{IsJudgedFile};
 
 use crate::class::judge_class;
 use crate::files::JudgedFiles;
 use crate::lent::Lent;
-use dj_check::GoodFile;
 use dj_class::ClassView;
+use dj_early_rules::GoodFile;
+use dj_file_rules::{FileView, view_file};
 use dj_report::{PathFile, add_file_line};
-use dj_rules::{FileView, view_file};
 use std::alloc::{AllocError, Global};
 
 // The number of the rule MALFORMED.

@@ -2,7 +2,7 @@
 use Rattle.std.proofs.Common.{◌≡◌, ℕ, ◌≤◌, List, [], ◌∷◌, length, sym, ap, subst, arith}
 use Rattle.std.specs.Global.{Vec}
 use Rattle.dj_edge.specs.InMemory.{String, files_in, PathsDiffer}
-use Rattle.dj_sandbox.specs.trusted.Limits.{most_files, most_file_bytes, AreWithin}
+use Rattle.dj_class_set.specs.trusted.Limits.{most_files, most_file_bytes, AreWithin}
 
 module _ (files : List (String × Vec ℕ)) (file : String × Vec ℕ) (is : files ≡ file ∷ []) where
   pub alone_few : length files ≤ most_files

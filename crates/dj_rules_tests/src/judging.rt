@@ -1,8 +1,8 @@
 ghost use Rattle.std.specs.Prelude.{◌<◌, ◌^◌, ◌↔◌, length, All, IsTrue};
 
-use dj_judge::rules;
+use dj_file_rules::RulesError;
 use dj_report::{PathFile, Violation};
-use dj_rules::RulesError;
+use dj_rules::rules;
 use dj_test_files::{A, BREAKS, FileText, NATIVE, PathText, UNDER_ITSELF, build, lend};
 use std::alloc::Global;
 

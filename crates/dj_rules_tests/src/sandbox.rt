@@ -1,14 +1,14 @@
 ghost use Rattle.std.specs.Prelude.{◌≡◌, ◌<◌, ◌≤◌, ◌^◌, length, IfOk};
 ghost use Rattle.dj_straight.specs.Methods.{program_view};
-ghost use Rattle.dj_sandbox.specs.trusted.Limits.{most_file_bytes};
-ghost use Rattle.dj_sandbox.specs.Shaped.{AreShort};
+ghost use Rattle.dj_class_set.specs.trusted.Limits.{most_file_bytes};
+ghost use Rattle.dj_class_set.specs.Shaped.{AreShort};
 
 use crate::judging::{ViolationRow, is_row};
-use dj_names::{Costs, Kind, Name, Outcome, Thresholds};
-use dj_report::{PathFile, Report, Violation};
-use dj_sandbox::{
+use dj_class_set::{
     ClassSet, SandboxError, check, entry_name, entry_of, has_entry, run_violations, verify,
 };
+use dj_names::{Costs, Kind, Name, Outcome, Thresholds};
+use dj_report::{PathFile, Report, Violation};
 use dj_straight::{Action, StraightClass, StraightMethod};
 use dj_test_files::{A, class_file};
 use std::alloc::{AllocError, Global};

@@ -1,6 +1,6 @@
+use dj_file_rules::judge_files;
 use dj_names::{Kind, Name, Outcome, Thresholds, Value};
 use dj_report::PathFile;
-use dj_rules::judge_files;
 use dj_straight::{
     Action, IntOperation, StraightEnding, StraightMethod, StraightSet, read_instrs, run_method,
     shape_fault, straight_set,

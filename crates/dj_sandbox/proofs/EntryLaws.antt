@@ -14,20 +14,20 @@ use Rattle.dj_model.specs.trusted.Linking.{FoundMethod, most_classes, chain_of, 
 use Rattle.dj_model.specs.Standing.{IsEntry}
 use Rattle.dj_model.proofs.MappedNames.{either}
 use Rattle.dj_model.proofs.SoundLinks.{method_contained}
-use Rattle.dj_classes.specs.Tables.{name_of}
-use Rattle.dj_classes.proofs.Orders.{names_from_same}
-use Rattle.dj_declared.specs.trusted.Files.{desc_in}
-use Rattle.dj_types.specs.Typed.{Typed, texts_of, types_of, type_at, place_of_text, text_number}
-use Rattle.dj_types.specs.Members.{all_methods, found_method_number, number_of_method, resolved_method}
-use Rattle.dj_types.specs.declared.types.MethodId.{MethodId}
-use Rattle.dj_types.proofs.Numbers.{place_within}
+use Rattle.dj_class_table.specs.Tables.{name_of}
+use Rattle.dj_class_table.proofs.Orders.{names_from_same}
+use Rattle.dj_declarations.specs.trusted.Files.{desc_in}
+use Rattle.dj_numbering.specs.Typed.{Typed, texts_of, types_of, type_at, place_of_text, text_number}
+use Rattle.dj_numbering.specs.Members.{all_methods, found_method_number, number_of_method, resolved_method}
+use Rattle.dj_numbering.specs.declared.types.MethodId.{MethodId}
+use Rattle.dj_numbering.proofs.Numbers.{place_within}
 use Rattle.dj_image.specs.Imaged.{Imaged, program_of, typed_of}
-use Rattle.dj_activations.specs.Activations.{declared_or_none, declared_at}
-use Rattle.dj_invoking.specs.Choosing.{IsMethodOrNone}
-use Rattle.dj_invoking.proofs.Found.{resolved_own, reported_method}
-use Rattle.dj_sandbox.specs.trusted.RawRules.{entry_desc, entry_of}
-use Rattle.dj_sandbox.proofs.RawLaws.{entry_desc_is}
-use Rattle.dj_running.specs.Loading.{IsEntryAt}
+use Rattle.dj_current_method.specs.Activations.{declared_or_none, declared_at}
+use Rattle.dj_invocation.specs.Choosing.{IsMethodOrNone}
+use Rattle.dj_invocation.proofs.Found.{resolved_own, reported_method}
+use Rattle.dj_class_set.specs.trusted.RawRules.{entry_desc, entry_of}
+use Rattle.dj_class_set.proofs.RawLaws.{entry_desc_is}
+use Rattle.dj_sandbox.specs.Loading.{IsEntryAt}
 
 -- the number of a class or an array
 pub number_of_type : (typed : Typed) (text : Name) (k : ℕ) → text_number typed text ≡ Some k → k < length (types_of typed)

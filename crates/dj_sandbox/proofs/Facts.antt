@@ -5,9 +5,9 @@ use Rattle.dj_edge.specs.declared.host.HostAnswer.{HostAnswer}
 use Rattle.dj_names.specs.declared.run.Charge.TheVariants as charges
 use Rattle.dj_names.specs.declared.run.Costs.{Costs}
 use Rattle.dj_names.specs.declared.run.Outcome.TheVariants as outcomes
-use Rattle.dj_sandbox.specs.trusted.RawRules.{AreRawViolations}
-use Rattle.dj_running.specs.trusted.Runs.{AreRawRuns}
-use Rattle.dj_running.specs.Runs.{AddsRawRuns, is_stopped}
+use Rattle.dj_class_set.specs.trusted.RawRules.{AreRawViolations}
+use Rattle.dj_sandbox.specs.trusted.Runs.{AreRawRuns}
+use Rattle.dj_sandbox.specs.Runs.{AddsRawRuns, is_stopped}
 
 -- no run where a rule is violated, and one where none is
 no_run : (files : List File) (class input : List ℕ) (steps : ℕ) (answers : List HostAnswer) → AreRawViolations files class [] → AreRawRuns files class input steps answers [] → ⊥

@@ -21,7 +21,7 @@ use Rattle.dj_model.specs.trusted.Effects.{used_class}
 use Rattle.dj_model.specs.trusted.Initialisation.{most_frames, mark_all, not_initialised, Initialised, Ready, Waits, Fails, then_ready, with_text, with_constant, with_constants, constants_of, initialiser_frames, with_frames, initialise_all, initialise}
 use Rattle.dj_model.specs.trusted.Step.{StepAnswer, Went, Ended, IllFormed, handler_of, at_handler, unwound, throw_new, new_exception, new_stop, stop_from, throw_stop_or, returned, settle_way, settle, part_of, with_part, frame_with, settled, prepared, done, act, step_of, step}
 use Rattle.dj_model.specs.Standing.{IsUnanswered, IsStarved, IsStarvedAt}
-use Rattle.dj_running.proofs.GivenEffects.{part_given, effect_given, Follows, both_ways, perform_alike, effect_follows}
+use Rattle.dj_sandbox.proofs.GivenEffects.{part_given, effect_given, Follows, both_ways, perform_alike, effect_follows}
 
 -- ---- other answers
 

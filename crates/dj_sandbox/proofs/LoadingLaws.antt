@@ -8,28 +8,28 @@ use Rattle.dj_edge.specs.trusted.Held.{File}
 use Rattle.dj_edge.proofs.Lists.{All-unmap}
 use Rattle.dj_names.specs.trusted.Types.{Name}
 use Rattle.dj_names.specs.trusted.Library.{Library, raw_library, final_class, lang, string_methods}
-use Rattle.dj_natives.specs.declared.library.LibClass.{LibClass}
-use Rattle.dj_natives.specs.Views.{library_class_view, library_view}
+use Rattle.dj_library_types.specs.declared.library.LibClass.{LibClass}
+use Rattle.dj_library_types.specs.Views.{library_class_view, library_view}
 use Rattle.dj_class.specs.trusted.ClassFile.{ClassFile, IsClassFile, IsMalformed, IsValid}
 use Rattle.dj_class.specs.declared.class.ClassView.{ClassView}
 use Rattle.dj_class.specs.Views.{class_of}
 use Rattle.dj_report.specs.declared.report.PathFile.{PathFile}
-use Rattle.dj_rules.specs.Views.{path_file_view}
+use Rattle.dj_file_rules.specs.Views.{path_file_view}
 use Rattle.dj_report.specs.trusted.Lines.{file_line}
-use Rattle.dj_check.specs.trusted.Malformed.{HasFaultyMethod}
+use Rattle.dj_early_rules.specs.trusted.Malformed.{HasFaultyMethod}
 use Rattle.dj_model.specs.trusted.Program.{Class}
 use Rattle.dj_model.specs.trusted.Libraries.{library_class}
-use Rattle.dj_declared.specs.trusted.Files.{declared_method, declared_field, declared_class}
-use Rattle.dj_linking.specs.declared.linker.BaseNames.TheVariants as bases
+use Rattle.dj_declarations.specs.trusted.Files.{declared_method, declared_field, declared_class}
+use Rattle.dj_resolution.specs.declared.linker.BaseNames.TheVariants as bases
 use Rattle.dj_loader.specs.declared.error.LoadError.{LoadError}
 use Rattle.dj_loader.specs.declared.error.LoadError.TheVariants as errors
 use Rattle.dj_loader.specs.Loads.{all_classes, methods_of, fields_of, HasStringIn, AreFewMembers, IsLoadable, RefusesLoad}
 use Rattle.dj_loader.proofs.Lists.{member_none}
-use Rattle.dj_sandbox.specs.trusted.Checked.{AreGoodFiles, HoldsHierarchy}
-use Rattle.dj_sandbox.specs.trusted.RawRules.{AreRawViolations}
-use Rattle.dj_sandbox.specs.Late.{AreReadFiles}
-use Rattle.dj_sandbox.proofs.LateLaws.{read_more, good_files}
-use Rattle.dj_sandbox.proofs.LibraryDescriptors.{HasDescriptors, described, both}
+use Rattle.dj_class_set.specs.trusted.Checked.{AreGoodFiles, HoldsHierarchy}
+use Rattle.dj_class_set.specs.trusted.RawRules.{AreRawViolations}
+use Rattle.dj_class_set.specs.Late.{AreReadFiles}
+use Rattle.dj_class_set.proofs.LateLaws.{read_more, good_files}
+use Rattle.dj_class_set.proofs.LibraryDescriptors.{HasDescriptors, described, both}
 use Rattle.dj_sound.proofs.RawAccepted.{are_raw_accepted}
 
 -- ---- one more file is read

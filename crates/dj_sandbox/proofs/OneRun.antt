@@ -13,11 +13,11 @@ use Rattle.dj_model.specs.trusted.Runs as model_runs
 use Rattle.dj_program.specs.Laws.{AreWhole}
 use Rattle.dj_program.specs.trusted.Programs.{IsProgramIn}
 use Rattle.dj_program.proofs.Once.{one_is}
-use Rattle.dj_sandbox.specs.trusted.Checked.{AreGoodFiles}
-use Rattle.dj_sandbox.specs.trusted.RawRules.{entry_of}
-use Rattle.dj_sandbox.specs.trusted.Judging.{raw_terms}
-use Rattle.dj_sandbox.proofs.GoodFiles.{same_good}
-use Rattle.dj_running.specs.trusted.Runs.{IsRawRun, AreRawRuns}
+use Rattle.dj_class_set.specs.trusted.Checked.{AreGoodFiles}
+use Rattle.dj_class_set.specs.trusted.RawRules.{entry_of}
+use Rattle.dj_class_set.specs.trusted.Judging.{raw_terms}
+use Rattle.dj_class_set.proofs.GoodFiles.{same_good}
+use Rattle.dj_sandbox.specs.trusted.Runs.{IsRawRun, AreRawRuns}
 
 wholes : (files : List File) (classes : List ClassFile) → AreGoodFiles files classes → AreWhole classes
 wholes [] [] good = tt

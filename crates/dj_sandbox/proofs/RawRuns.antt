@@ -9,13 +9,13 @@ use Rattle.dj_model.specs.trusted.Program.{Program}
 use Rattle.dj_report.specs.declared.report.Report.{Report}
 use Rattle.dj_report.specs.declared.report.Report.TheVariants as reports
 use Rattle.dj_program.specs.trusted.Programs.{IsProgramIn}
-use Rattle.dj_sandbox.specs.trusted.Checked.{AreGoodFiles}
-use Rattle.dj_sandbox.specs.trusted.RawRules.{entry_of, AreRawViolations}
-use Rattle.dj_sandbox.specs.trusted.Judging.{raw_terms, RunsRaw}
+use Rattle.dj_class_set.specs.trusted.Checked.{AreGoodFiles}
+use Rattle.dj_class_set.specs.trusted.RawRules.{entry_of, AreRawViolations}
+use Rattle.dj_class_set.specs.trusted.Judging.{raw_terms, RunsRaw}
 use Rattle.dj_sound.proofs.RawAccepted.{are_raw_accepted}
-use Rattle.dj_running.specs.Laws.{HasRawRun}
-use Rattle.dj_running.proofs.TakenAnswers.{run_takes}
-use Rattle.dj_running.proofs.SomePrograms.{some_program, some_class_files}
+use Rattle.dj_sandbox.specs.Laws.{HasRawRun}
+use Rattle.dj_sandbox.proofs.TakenAnswers.{run_takes}
+use Rattle.dj_sandbox.proofs.SomePrograms.{some_program, some_class_files}
 
 runs_so : (files : List File) (class : Name) (input : List ℕ) (steps : ℕ) → AreRawViolations files class [] → (classes : List ClassFile) → AreGoodFiles files classes
     → (program : Program) → IsProgramIn raw_library classes program → (answers : List HostAnswer) × (report : Report) × RunsRaw files class input steps answers (Some report)

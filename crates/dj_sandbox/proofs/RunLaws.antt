@@ -8,7 +8,7 @@ use Rattle.dj_names.specs.trusted.Library.{raw_library}
 use Rattle.dj_class.specs.declared.class.ClassView.{ClassView}
 use Rattle.dj_class.specs.Views.{class_of}
 use Rattle.dj_program.specs.trusted.Programs.{IsProgramIn}
-use Rattle.dj_sandbox.specs.trusted.Checked.{AreGoodFiles}
+use Rattle.dj_class_set.specs.trusted.Checked.{AreGoodFiles}
 use Rattle.dj_model.specs.trusted.Types.{Prefix}
 use Rattle.dj_model.specs.Sound.{IsSound}
 use Rattle.dj_model.specs.Standing.{IsEntry}
@@ -24,17 +24,17 @@ use Rattle.dj_loader.proofs.Lists.{member_none}
 use Rattle.dj_image.specs.Imaged.{Imaged, program_of}
 use Rattle.dj_machine.specs.declared.engine.Ending.{Ending}
 use Rattle.dj_machine.specs.Engines.{RunsPlainly, report_for, terms_for}
-use Rattle.dj_sandbox.specs.trusted.Limits.{most_heap_bytes}
-use Rattle.dj_sandbox.specs.trusted.RawRules.{entry_of, AreRawViolations}
-use Rattle.dj_sandbox.specs.trusted.Judging.{raw_terms, RunsRaw}
-use Rattle.dj_sandbox.specs.trusted.Statuses.{IsAmong}
-use Rattle.dj_sandbox.specs.Statuses.{raw_statuses}
+use Rattle.dj_class_set.specs.trusted.Limits.{most_heap_bytes}
+use Rattle.dj_class_set.specs.trusted.RawRules.{entry_of, AreRawViolations}
+use Rattle.dj_class_set.specs.trusted.Judging.{raw_terms, RunsRaw}
+use Rattle.dj_class_set.specs.trusted.Statuses.{IsAmong}
+use Rattle.dj_class_set.specs.Statuses.{raw_statuses}
 use Rattle.dj_sound.specs.Accepted.{IsRawAccepted}
 use Rattle.dj_sound.proofs.RawAccepted.{are_raw_accepted}
-use Rattle.dj_running.specs.Loading.{IsImageOf}
-use Rattle.dj_running.proofs.Unstopped.{never_stopped}
-use Rattle.dj_running.specs.trusted.Runs.{AreRawRuns}
-use Rattle.dj_running.specs.Runs.{no_limits, run_of, is_stopped, SaysEnding, AddsRawRuns}
+use Rattle.dj_sandbox.specs.Loading.{IsImageOf}
+use Rattle.dj_sandbox.proofs.Unstopped.{never_stopped}
+use Rattle.dj_sandbox.specs.trusted.Runs.{AreRawRuns}
+use Rattle.dj_sandbox.specs.Runs.{no_limits, run_of, is_stopped, SaysEnding, AddsRawRuns}
 
 -- ---- the image
 

@@ -14,17 +14,17 @@ use Rattle.dj_model.specs.trusted.Program.{Program, Class, Method, Body, Abstrac
 use Rattle.dj_model.specs.trusted.Libraries.{joined, library_program}
 use Rattle.dj_report.specs.declared.report.Violation.{Violation}
 use Rattle.dj_report.specs.trusted.Lines.{file_line}
-use Rattle.dj_check.specs.trusted.Attributes.{codes_of, maps_of}
-use Rattle.dj_check.specs.trusted.Malformed.{IsFaulty, IsFaultyMethod, IsFaultyBody, IsRefused, IsGood}
-use Rattle.dj_check.specs.trusted.Code.{HasFrames}
-use Rattle.dj_declared.specs.trusted.Files.{is_bodiless, declared_method, declared_class}
+use Rattle.dj_early_rules.specs.trusted.Attributes.{codes_of, maps_of}
+use Rattle.dj_early_rules.specs.trusted.Malformed.{IsFaulty, IsFaultyMethod, IsFaultyBody, IsRefused, IsGood}
+use Rattle.dj_early_rules.specs.trusted.Code.{HasFrames}
+use Rattle.dj_declarations.specs.trusted.Files.{is_bodiless, declared_method, declared_class}
 use Rattle.dj_program.specs.trusted.Codes.{CodeParts, code_in, IsMethodCode}
 use Rattle.dj_program.specs.trusted.Programs.{AreSideBySide, IsBodyIn, IsMethodIn, field_in_file, IsClassIn, IsProgramIn}
 use Rattle.dj_loader.proofs.Lists.{member_first, member_later, member_none}
 use Rattle.dj_loader.proofs.Coded.{bodiless_reported}
-use Rattle.dj_sandbox.specs.trusted.Checked.{AreGoodFiles}
-use Rattle.dj_sandbox.specs.trusted.RawRules.{AreRawViolations}
-use Rattle.dj_sandbox.proofs.Classical.{NotNot, unit, bind, so, decide}
+use Rattle.dj_class_set.specs.trusted.Checked.{AreGoodFiles}
+use Rattle.dj_class_set.specs.trusted.RawRules.{AreRawViolations}
+use Rattle.dj_class_set.proofs.Classical.{NotNot, unit, bind, so, decide}
 
 -- ---- code
 

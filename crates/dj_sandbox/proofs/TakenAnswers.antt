@@ -13,8 +13,8 @@ use Rattle.dj_model.specs.Sound.{IsSound}
 use Rattle.dj_model.specs.Standing.{AreStanding, AnswerStands, IsStarvedAt, IsEntry}
 use Rattle.dj_model.specs.trusted.Runs.{input_array, input_heap, start_state, begun, begin, Ran, Going, Finished, NoStep, one_more, then_steps, steps, from_start, Report, report_of, plain_run}
 use Rattle.dj_model.proofs.SoundRuns.{step_stands, begin_stands}
-use Rattle.dj_running.proofs.GivenEffects.{both_ways}
-use Rattle.dj_running.proofs.GivenSteps.{state_given, initialised_given, answer_given, Moves, MovesAfter, initialise_alike, step_moves, IsAsking, starved_none, starved_waits}
+use Rattle.dj_sandbox.proofs.GivenEffects.{both_ways}
+use Rattle.dj_sandbox.proofs.GivenSteps.{state_given, initialised_given, answer_given, Moves, MovesAfter, initialise_alike, step_moves, IsAsking, starved_none, starved_waits}
 
 -- ---- the steps of a run
 

@@ -24,9 +24,9 @@ use Rattle.dj_model.specs.trusted.Step.{StepAnswer, Went, Ended, IllFormed, stop
 use Rattle.dj_model.specs.trusted.Runs.{input_array, input_heap, start_state, begun, begin, Ran, Going, Finished, NoStep, one_more, then_steps, steps, from_start, Report, report_of, plain_run}
 use Rattle.dj_model.proofs.Flows.{either_way}
 use Rattle.dj_model.proofs.Fits.{PlainOutcome, PlainFlow}
-use Rattle.dj_running.specs.Laws.{uncounted, NeverStopped}
-use Rattle.dj_running.specs.Runs.{is_stopped}
-use Rattle.dj_running.proofs.UnstoppedEffects.{IsUnchargedIfSome, effect_plain}
+use Rattle.dj_sandbox.specs.Laws.{uncounted, NeverStopped}
+use Rattle.dj_sandbox.specs.Runs.{is_stopped}
+use Rattle.dj_sandbox.proofs.UnstoppedEffects.{IsUnchargedIfSome, effect_plain}
 
 -- no charge passed its threshold
 abbrev IsUnpassed : State → Type 0

@@ -27,7 +27,7 @@ use Rattle.dj_model.specs.trusted.Members.{get_static, put_static, Holder, NullH
 use Rattle.dj_model.specs.trusted.Effects.{values_effect, flow_of, heap_effect, new_object, effect}
 use Rattle.dj_model.proofs.Flows.{either_way}
 use Rattle.dj_model.proofs.Fits.{PlainFlow}
-use Rattle.dj_running.specs.Laws.{uncounted}
+use Rattle.dj_sandbox.specs.Laws.{uncounted}
 
 -- the run goes on, or ends otherwise than by a charge, and the account is as before
 abbrev pub IsUncharged : Part → Effect → Type 0

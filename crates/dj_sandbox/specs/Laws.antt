@@ -8,9 +8,9 @@ use Rattle.dj_model.specs.trusted.Program.{Program}
 use Rattle.dj_model.specs.trusted.State.{Terms, Uncounted}
 use Rattle.dj_model.specs.trusted.Runs.{plain_run}
 use Rattle.dj_report.specs.declared.report.Report.{Report}
-use Rattle.dj_sandbox.specs.trusted.RawRules.{AreRawViolations}
-use Rattle.dj_sandbox.specs.trusted.Judging.{RunsRaw}
-use Rattle.dj_running.specs.Runs.{is_stopped}
+use Rattle.dj_class_set.specs.trusted.RawRules.{AreRawViolations}
+use Rattle.dj_class_set.specs.trusted.Judging.{RunsRaw}
+use Rattle.dj_sandbox.specs.Runs.{is_stopped}
 
 -- under some answers of the host, all of which it takes, the run ends or makes all of its steps
 abbrev pub HasRawRun : Type 0

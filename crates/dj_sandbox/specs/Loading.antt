@@ -5,11 +5,11 @@ use Rattle.dj_names.specs.trusted.Types.{Name}
 use Rattle.dj_names.specs.trusted.Library.{raw_library}
 use Rattle.dj_class.specs.trusted.ClassFile.{ClassFile}
 use Rattle.dj_program.specs.trusted.Programs.{IsProgramIn}
-use Rattle.dj_types.specs.Members.{all_methods}
+use Rattle.dj_numbering.specs.Members.{all_methods}
 use Rattle.dj_image.specs.Imaged.{Imaged, program_of}
-use Rattle.dj_activations.specs.Activations.{declared_at}
-use Rattle.dj_sandbox.specs.trusted.Checked.{AreGoodFiles}
-use Rattle.dj_sandbox.specs.trusted.RawRules.{entry_of}
+use Rattle.dj_current_method.specs.Activations.{declared_at}
+use Rattle.dj_class_set.specs.trusted.Checked.{AreGoodFiles}
+use Rattle.dj_class_set.specs.trusted.RawRules.{entry_of}
 
 -- its program is that of the class files of the files and of the raw library
 abbrev pub IsImageOf : List File → Imaged → Type 0

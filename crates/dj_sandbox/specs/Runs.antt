@@ -10,7 +10,7 @@ use Rattle.dj_names.specs.trusted.Types.{Name}
 use Rattle.dj_report.specs.declared.report.Report.{Report}
 use Rattle.dj_report.specs.declared.report.Report.TheVariants as reports
 use Rattle.dj_machine.specs.declared.engine.Ending.{Ending}
-use Rattle.dj_running.specs.trusted.Runs.{AreRawRuns}
+use Rattle.dj_sandbox.specs.trusted.Runs.{AreRawRuns}
 
 -- these runs come after the earlier ones; where there was no memory, none does
 abbrev pub AddsRawRuns : {E : Type 0} → List File → Name → List ℕ → ℕ → List HostAnswer → List (Costs × ℕ) → List (Costs × ℕ) → Result Report E → Type 0

@@ -1,4 +1,4 @@
-ghost use Rattle.dj_running.specs.Laws.{HasRawRun, NeverStopped};
+ghost use Rattle.dj_sandbox.specs.Laws.{HasRawRun, NeverStopped};
 
 /// Under some answers of the host, all of which it takes, a run of files in which no rule is violated ends or makes all of its steps.
 pub fn has_raw_run()

@@ -3,19 +3,19 @@ ghost use Rattle.std.specs.Prelude.{◌≡◌, ◌<◌, ◌≤◌, ◌^◌, [], 
 ghost use Rattle.dj_names.specs.trusted.Library.{raw_library};
 ghost use Rattle.dj_class.specs.trusted.ClassFile.{IsClassFile, IsMalformed, IsValid};
 ghost use Rattle.dj_class.specs.Views.{class_of};
-ghost use Rattle.dj_rules.specs.Views.{path_file_view};
-ghost use Rattle.dj_check.specs.trusted.Malformed.{HasFaultyMethod};
+ghost use Rattle.dj_file_rules.specs.Views.{path_file_view};
+ghost use Rattle.dj_early_rules.specs.trusted.Malformed.{HasFaultyMethod};
 ghost use Rattle.dj_loader.specs.Loads.{IsLoadable, all_classes};
 ghost use Rattle.dj_program.specs.trusted.Programs.{IsProgramIn};
 ghost use Rattle.dj_image.specs.Imaged.{program_of};
-ghost use Rattle.dj_sandbox.specs.Late.{AreReadFiles};
-ghost use Rattle.dj_sandbox.specs.trusted.Limits.{most_files};
+ghost use Rattle.dj_class_set.specs.Late.{AreReadFiles};
+ghost use Rattle.dj_class_set.specs.trusted.Limits.{most_files};
 
 use dj_class::ClassView;
+use dj_file_rules::{FileView, view_file};
 use dj_library::raw;
 use dj_loader::{BaseNames, Image, LoadError, load};
 use dj_report::PathFile;
-use dj_rules::{FileView, view_file};
 use std::alloc::{AllocError, Global};
 
 // Reads a class file.

@@ -7,11 +7,11 @@ ghost use Rattle.dj_image.specs.Imaged.{program_of};
 ghost use Rattle.dj_host.specs.trusted.Hosted.{given_since};
 ghost use Rattle.dj_machine.specs.trusted.Engines.{AddsRun};
 ghost use Rattle.dj_machine.specs.Engines.{RunsPlainly};
-ghost use Rattle.dj_sandbox.specs.trusted.Limits.{most_heap_bytes};
-ghost use Rattle.dj_sandbox.specs.trusted.RawRules.{entry_of};
-ghost use Rattle.dj_sandbox.specs.trusted.Statuses.{IsAmong};
-ghost use Rattle.dj_sandbox.specs.Statuses.{raw_statuses};
-ghost use Rattle.dj_running.specs.Runs.{no_limits, is_stopped, SaysEnding};
+ghost use Rattle.dj_class_set.specs.trusted.Limits.{most_heap_bytes};
+ghost use Rattle.dj_class_set.specs.trusted.RawRules.{entry_of};
+ghost use Rattle.dj_class_set.specs.trusted.Statuses.{IsAmong};
+ghost use Rattle.dj_class_set.specs.Statuses.{raw_statuses};
+ghost use Rattle.dj_sandbox.specs.Runs.{no_limits, is_stopped, SaysEnding};
 
 use crate::entry::entry_in;
 use dj_edge::Host;

@@ -3,23 +3,23 @@ ghost use Rattle.std.specs.Prelude.{◌≡◌, ◌<◌, ◌≤◌, ◌^◌, ◌+
 ghost use Rattle.dj_names.specs.trusted.Types.{Name};
 ghost use Rattle.dj_report.specs.trusted.Stages.{IsDecided};
 ghost use Rattle.dj_report.specs.trusted.Text.{report_status};
-ghost use Rattle.dj_rules.specs.Views.{path_file_view};
+ghost use Rattle.dj_file_rules.specs.Views.{path_file_view};
 ghost use Rattle.dj_host.specs.trusted.Hosted.{given_since};
-ghost use Rattle.dj_sandbox.specs.trusted.Judging.{RunsRaw, raw_stages};
-ghost use Rattle.dj_sandbox.specs.trusted.Limits.{most_files};
-ghost use Rattle.dj_sandbox.specs.trusted.RawRules.{AreRawViolations};
-ghost use Rattle.dj_sandbox.specs.trusted.Statuses.{IsAmong};
-ghost use Rattle.dj_sandbox.specs.Statuses.{raw_statuses};
-ghost use Rattle.dj_running.specs.Loading.{IsImageOf};
-ghost use Rattle.dj_running.specs.Runs.{AddsRawRuns};
+ghost use Rattle.dj_class_set.specs.trusted.Judging.{RunsRaw, raw_stages};
+ghost use Rattle.dj_class_set.specs.trusted.Limits.{most_files};
+ghost use Rattle.dj_class_set.specs.trusted.RawRules.{AreRawViolations};
+ghost use Rattle.dj_class_set.specs.trusted.Statuses.{IsAmong};
+ghost use Rattle.dj_class_set.specs.Statuses.{raw_statuses};
+ghost use Rattle.dj_sandbox.specs.Loading.{IsImageOf};
+ghost use Rattle.dj_sandbox.specs.Runs.{AddsRawRuns};
 
 use crate::loading::{raw_image, views_of};
 use crate::raw_run::{report_of, run_image};
+use dj_class_set::{ClassSet, SandboxError, raw_violations};
 use dj_edge::Host;
 use dj_image::Image;
 use dj_machine::Engine;
 use dj_report::{PathFile, Report};
-use dj_sandbox::{ClassSet, SandboxError, raw_violations};
 use std::alloc::{AllocError, Global};
 
 // The image of files in which no rule is violated.

@@ -11,12 +11,12 @@ use Rattle.dj_names.specs.trusted.Types.{Name, class_type}
 use Rattle.dj_names.specs.trusted.Descriptors.{type_text}
 use Rattle.dj_model.specs.trusted.Program.{Program, Class}
 use Rattle.dj_model.specs.trusted.Linking.{member_class}
-use Rattle.dj_calls.specs.Known.{IsClassType}
-use Rattle.dj_natives.specs.Numbered.{SaysStop, is_number}
-use Rattle.dj_classes.specs.Tables.{name_of, name_at}
-use Rattle.dj_types.specs.Typed.{Typed, AreArrays, is_array_of, texts_of, types_of, type_at}
-use Rattle.dj_types.proofs.Starts.{some_there}
-use Rattle.dj_types.proofs.Reported.{IsArray, array_there, type_there, type_of_class, known_at}
+use Rattle.dj_natives.specs.Known.{IsClassType}
+use Rattle.dj_library_types.specs.Numbered.{SaysStop, is_number}
+use Rattle.dj_class_table.specs.Tables.{name_of, name_at}
+use Rattle.dj_numbering.specs.Typed.{Typed, AreArrays, is_array_of, texts_of, types_of, type_at}
+use Rattle.dj_numbering.proofs.Starts.{some_there}
+use Rattle.dj_numbering.proofs.Reported.{IsArray, array_there, type_there, type_of_class, known_at}
 use Rattle.dj_image.specs.Imaged.{Imaged, program_of, typed_of}
 use Rattle.dj_image.specs.Numbering.{AreSettled}
 use Rattle.dj_unwinding.specs.Unwinding.{IsClassNumber, class_name_at}

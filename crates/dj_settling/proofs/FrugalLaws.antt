@@ -11,7 +11,7 @@ use Rattle.dj_model.specs.trusted.Runs.{empty_heap}
 use Rattle.dj_model.specs.trusted.Step.{Went}
 use Rattle.dj_heap.specs.Heaps.{LimitedHeap, object_in}
 use Rattle.dj_stack.specs.Frames.{StackFrame}
-use Rattle.dj_types.specs.Typed.{types_of, type_at}
+use Rattle.dj_numbering.specs.Typed.{types_of, type_at}
 use Rattle.dj_image.specs.Imaged.{Imaged, program_of, typed_of}
 use Rattle.dj_unwinding.specs.Returns.{IsReturned}
 use Rattle.dj_unwinding.specs.Short.{HasNumberBelow}

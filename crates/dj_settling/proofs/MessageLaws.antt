@@ -13,11 +13,11 @@ use Rattle.dj_heap.specs.Lengths.{object_length}
 use Rattle.dj_heap.specs.Calls.{made_as}
 use Rattle.dj_heap.specs.declared.object.Made.TheVariants as made
 use Rattle.dj_model.specs.trusted.Step.{text_in, message_of}
-use Rattle.dj_natives.specs.Numbered.{type_at}
-use Rattle.dj_calls.specs.Calls.{typed_heap}
-use Rattle.dj_calls.specs.Seen.{field_held, units_held, is_text_held, field_at, units_at, is_text_at}
-use Rattle.dj_calls.proofs.SeenFacts.{field_alike, object_alike}
-use Rattle.dj_calls.proofs.HeapLaws.{instance_is}
+use Rattle.dj_library_types.specs.Numbered.{type_at}
+use Rattle.dj_natives.specs.Calls.{typed_heap}
+use Rattle.dj_natives.specs.Seen.{field_held, units_held, is_text_held, field_at, units_at, is_text_at}
+use Rattle.dj_natives.proofs.SeenFacts.{field_alike, object_alike}
+use Rattle.dj_natives.proofs.HeapLaws.{instance_is}
 use Rattle.dj_settling.specs.Settling.{text_held, message_at}
 
 -- ---- in the model

@@ -11,7 +11,7 @@ use Rattle.dj_names.specs.trusted.Library.{stop_class}
 use Rattle.dj_model.specs.trusted.Types.{Prefix, is_stop}
 use Rattle.dj_model.specs.trusted.Performing.{class_at_number, class_in}
 use Rattle.dj_model.proofs.MappedHeaps.{class_of_mapped}
-use Rattle.dj_natives.specs.Numbered as numbered
+use Rattle.dj_library_types.specs.Numbered as numbered
 use Rattle.dj_names.specs.declared.run.Value.{Value}
 use Rattle.dj_names.specs.declared.run.Charge.{Charge}
 use Rattle.dj_names.specs.declared.native.NativeId.{NativeId}
@@ -21,11 +21,11 @@ use Rattle.dj_model.specs.trusted.State.{Flow, Catch, Stop}
 use Rattle.dj_model.specs.trusted.Natives.{reference}
 use Rattle.dj_heap.specs.Heaps.{LimitedHeap, object_in}
 use Rattle.dj_stack.specs.Frames.{StackFrame}
-use Rattle.dj_calls.specs.Calls.{stop_reported, typed_heap}
-use Rattle.dj_calls.specs.Known.{AreKnown}
-use Rattle.dj_calls.proofs.Performed.{known_at}
-use Rattle.dj_calls.proofs.SeenFacts.{object_alike}
-use Rattle.dj_types.specs.Typed.{types_of}
+use Rattle.dj_natives.specs.Calls.{stop_reported, typed_heap}
+use Rattle.dj_natives.specs.Known.{AreKnown}
+use Rattle.dj_natives.proofs.Performed.{known_at}
+use Rattle.dj_natives.proofs.SeenFacts.{object_alike}
+use Rattle.dj_numbering.specs.Typed.{types_of}
 use Rattle.dj_image.specs.Imaged.{Imaged, program_of, typed_of}
 use Rattle.dj_settling.specs.declared.settled.Settled.{Settled}
 use Rattle.dj_settling.specs.Settling.{IsRewritten, IsStop, IsThrown, KeepsStop, Settles, StopsBy, throwing, throwing_stop, top_settled}

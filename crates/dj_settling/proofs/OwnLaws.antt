@@ -7,11 +7,11 @@ use Rattle.dj_names.specs.trusted.Values.{raised_class}
 use Rattle.dj_names.specs.trusted.Types.{Name}
 use Rattle.dj_model.specs.trusted.Types.{Prefix}
 use Rattle.dj_model.specs.trusted.Program.{Program}
-use Rattle.dj_classes.specs.Tables.{class_number}
-use Rattle.dj_declared.specs.Files.{bare_class}
-use Rattle.dj_linking.specs.Linked.{Linked, prefix_of}
-use Rattle.dj_linking.specs.declared.linker.BaseNames.{BaseNames}
-use Rattle.dj_linking.specs.declared.linker.BaseNames.TheVariants as bases
+use Rattle.dj_class_table.specs.Tables.{class_number}
+use Rattle.dj_declarations.specs.Files.{bare_class}
+use Rattle.dj_resolution.specs.Linked.{Linked, prefix_of}
+use Rattle.dj_resolution.specs.declared.linker.BaseNames.{BaseNames}
+use Rattle.dj_resolution.specs.declared.linker.BaseNames.TheVariants as bases
 use Rattle.dj_image.specs.Imaged.{Imaged, program_of}
 use Rattle.dj_image.proofs.BareTyped.{number_bare}
 use Rattle.dj_settling.specs.Settling.{HasClass, HasOwn, HasStop}

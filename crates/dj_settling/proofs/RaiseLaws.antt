@@ -17,13 +17,13 @@ use Rattle.dj_model.specs.trusted.State.{Terms, State}
 use Rattle.dj_model.specs.trusted.Step.{throw_new}
 use Rattle.dj_heap.specs.Heaps.{LimitedHeap}
 use Rattle.dj_stack.specs.Frames.{StackFrame}
-use Rattle.dj_classes.specs.Tables.{name_of, class_number}
-use Rattle.dj_classes.proofs.Numbered.{name_at-number, class_number-within}
-use Rattle.dj_declared.specs.Files.{bare_class}
-use Rattle.dj_linking.specs.Linked.{Linked, prefix_of}
-use Rattle.dj_linking.specs.declared.linker.BaseNames.{BaseNames}
-use Rattle.dj_types.specs.Typed.{place_of_text, text_number}
-use Rattle.dj_types.proofs.Reported.{type_of_class}
+use Rattle.dj_class_table.specs.Tables.{name_of, class_number}
+use Rattle.dj_class_table.proofs.Numbered.{name_at-number, class_number-within}
+use Rattle.dj_declarations.specs.Files.{bare_class}
+use Rattle.dj_resolution.specs.Linked.{Linked, prefix_of}
+use Rattle.dj_resolution.specs.declared.linker.BaseNames.{BaseNames}
+use Rattle.dj_numbering.specs.Typed.{place_of_text, text_number}
+use Rattle.dj_numbering.proofs.Reported.{type_of_class}
 use Rattle.dj_image.specs.Imaged.{Imaged, program_of, typed_of}
 use Rattle.std.specs.declared.alloc.AllocError.{AllocError}
 use Rattle.dj_settling.specs.declared.settled.Settled.{Settled}

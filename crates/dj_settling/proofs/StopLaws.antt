@@ -16,12 +16,12 @@ use Rattle.dj_names.specs.trusted.Library.{stop_class}
 use Rattle.dj_model.specs.trusted.Types.{Prefix, is_stop}
 use Rattle.dj_model.specs.trusted.Step.{stop_from, throw_new, throw_stop_or}
 use Rattle.dj_model.proofs.MappedHeaps.{class_of_mapped}
-use Rattle.dj_natives.specs.Numbered as numbered
-use Rattle.dj_natives.specs.Numbered.{SaysStop}
+use Rattle.dj_library_types.specs.Numbered as numbered
+use Rattle.dj_library_types.specs.Numbered.{SaysStop}
 use Rattle.dj_heap.specs.Heaps.{LimitedHeap, object_in}
 use Rattle.dj_stack.specs.Frames.{StackFrame}
-use Rattle.dj_calls.specs.Known.{AreKnown, IsKnown}
-use Rattle.dj_types.specs.Typed.{types_of, stop_at, stop_under}
+use Rattle.dj_natives.specs.Known.{AreKnown, IsKnown}
+use Rattle.dj_numbering.specs.Typed.{types_of, stop_at, stop_under}
 use Rattle.dj_image.specs.Imaged.{Imaged, program_of, typed_of}
 use Rattle.dj_image.specs.Numbering.{AreSettled}
 use Rattle.dj_image.proofs.Numbering.{stop_alone}

@@ -19,19 +19,19 @@ use Rattle.dj_model.specs.trusted.Arrays.{passes_limit}
 use Rattle.dj_model.specs.trusted.Performing.{class_in, class_at_number}
 use Rattle.dj_model.specs.trusted.Step.{StepAnswer, Ended, stopped_by, message_of, throw}
 use Rattle.dj_model.proofs.MappedHeaps.{class_of_mapped, new_mapped, number_alike}
-use Rattle.dj_natives.specs.Numbered as numbered
+use Rattle.dj_library_types.specs.Numbered as numbered
 use Rattle.dj_heap.specs.Heaps.{LimitedHeap, object_in, Makes, Refuses}
 use Rattle.dj_heap.specs.declared.errors.HeapError.TheVariants as errors
 use Rattle.dj_stack.specs.Frames.{StackFrame}
-use Rattle.dj_calls.specs.Calls.{typed_heap}
-use Rattle.dj_calls.specs.Known.{AreKnown}
-use Rattle.dj_calls.proofs.SeenFacts.{object_alike}
-use Rattle.dj_calls.proofs.HeapLaws.{made_there}
-use Rattle.dj_calls.proofs.Performed.{known_made}
-use Rattle.dj_types.specs.Typed.{types_of, type_at}
+use Rattle.dj_natives.specs.Calls.{typed_heap}
+use Rattle.dj_natives.specs.Known.{AreKnown}
+use Rattle.dj_natives.proofs.SeenFacts.{object_alike}
+use Rattle.dj_natives.proofs.HeapLaws.{made_there}
+use Rattle.dj_natives.proofs.Performed.{known_made}
+use Rattle.dj_numbering.specs.Typed.{types_of, type_at}
 use Rattle.dj_image.specs.Imaged.{Imaged, program_of, typed_of}
 use Rattle.dj_image.specs.Numbering.{AreSettled}
-use Rattle.dj_activations.specs.Activations.{AreActivations}
+use Rattle.dj_current_method.specs.Activations.{AreActivations}
 use Rattle.dj_unwinding.specs.Unwinding.{IsClassNumber, IsUnwound, unwound_reported, frames_unwound, class_name_at}
 use Rattle.dj_unwinding.specs.declared.unwinding.Unwound.{Unwound}
 use Rattle.dj_unwinding.specs.declared.unwinding.Unwound.TheVariants as unwinds

@@ -11,14 +11,14 @@ use Rattle.dj_model.specs.trusted.Types.{Declared, Prefix}
 use Rattle.dj_model.specs.trusted.Program.{Program}
 use Rattle.dj_model.specs.trusted.State.{Terms, State, Frame, Flow, Way, Next, To, Raise, Back, Goes, Catch, Stop, Call, End}
 use Rattle.dj_model.specs.trusted.Step.{settle, result_outcome}
-use Rattle.dj_natives.specs.Numbered as numbered
+use Rattle.dj_library_types.specs.Numbered as numbered
 use Rattle.dj_heap.specs.Heaps.{LimitedHeap}
 use Rattle.dj_stack.specs.Frames.{StackFrame, SameButNumber, SameButOperands, top_number, top_operands}
-use Rattle.dj_calls.specs.Known.{AreKnown}
-use Rattle.dj_types.specs.Typed.{types_of}
+use Rattle.dj_natives.specs.Known.{AreKnown}
+use Rattle.dj_numbering.specs.Typed.{types_of}
 use Rattle.dj_image.specs.Imaged.{Imaged, program_of, typed_of}
-use Rattle.dj_activations.specs.Activations.{declared_at, frame_seen, frames_seen, AreActivations}
-use Rattle.dj_activations.proofs.Standing.{same_stand}
+use Rattle.dj_current_method.specs.Activations.{declared_at, frame_seen, frames_seen, AreActivations}
+use Rattle.dj_current_method.proofs.Standing.{same_stand}
 use Rattle.dj_unwinding.specs.Returns.{IsReturned}
 use Rattle.dj_unwinding.specs.declared.returning.Returned.TheVariants as returns
 use Rattle.std.specs.Prelude.{Result, Ok, Err, IfOk}

@@ -23,15 +23,15 @@ use Rattle.dj_heap.specs.Heaps.{LimitedHeap, object_in, Makes}
 use Rattle.dj_stack.specs.Frames.{StackFrame, top_operands, top_room}
 use Rattle.dj_effects.specs.declared.way.Way.{Way}
 use Rattle.dj_effects.specs.declared.way.Way.TheVariants as ways
-use Rattle.dj_calls.specs.declared.answer.NativeAnswer.{NativeAnswer}
-use Rattle.dj_calls.specs.declared.answer.NativeAnswer.TheVariants as natively
-use Rattle.dj_calls.specs.Calls.{typed_heap}
-use Rattle.dj_calls.specs.Known.{AreKnown}
-use Rattle.dj_calls.specs.Seen.{field_at}
-use Rattle.dj_classes.specs.Tables.{class_number}
-use Rattle.dj_types.specs.Typed.{types_of, type_at}
+use Rattle.dj_natives.specs.declared.answer.NativeAnswer.{NativeAnswer}
+use Rattle.dj_natives.specs.declared.answer.NativeAnswer.TheVariants as natively
+use Rattle.dj_natives.specs.Calls.{typed_heap}
+use Rattle.dj_natives.specs.Known.{AreKnown}
+use Rattle.dj_natives.specs.Seen.{field_at}
+use Rattle.dj_class_table.specs.Tables.{class_number}
+use Rattle.dj_numbering.specs.Typed.{types_of, type_at}
 use Rattle.dj_image.specs.Imaged.{Imaged, program_of, typed_of}
-use Rattle.dj_activations.specs.Activations.{frames_seen, AreActivations}
+use Rattle.dj_current_method.specs.Activations.{frames_seen, AreActivations}
 use Rattle.dj_unwinding.specs.Returns.{HasRoomBelow}
 use Rattle.dj_unwinding.specs.Unwinding.{IsClassNumber, class_name_at}
 use Rattle.dj_unwinding.specs.declared.unwinding.Unwound.{Unwound}

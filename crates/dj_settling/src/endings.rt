@@ -1,6 +1,6 @@
 ghost use Rattle.std.specs.Prelude.{◌≡◌, ◌<◌, IfOk, IfSome, IsSome, length};
 ghost use Rattle.dj_heap.specs.Heaps.{object_in};
-ghost use Rattle.dj_types.specs.Typed.{types_of};
+ghost use Rattle.dj_numbering.specs.Typed.{types_of};
 ghost use Rattle.dj_image.specs.Imaged.{program_of, typed_of};
 ghost use Rattle.dj_unwinding.specs.Unwinding.{class_name_at};
 ghost use Rattle.dj_settling.specs.Settling.{left_outcome, stopping, uncaught_outcome};
@@ -8,8 +8,8 @@ ghost use Rattle.dj_settling.specs.Settling.{left_outcome, stopping, uncaught_ou
 use crate::messages::message_of;
 use dj_heap::Heap;
 use dj_image::Image;
+use dj_library_types::Classes;
 use dj_names::{Charge, Name, Outcome};
-use dj_natives::Classes;
 use std::alloc::{AllocError, Global};
 
 // How the run ends where an exception of this class leaves the initialiser of a class, or the last frame.

@@ -4,10 +4,10 @@ ghost use Rattle.dj_model.specs.trusted.State as states;
 ghost use Rattle.dj_model.specs.Sound.{IsSound};
 ghost use Rattle.dj_stack.specs.Frames.{SameButNumber, top_number};
 ghost use Rattle.dj_effects.specs.Does.{way_view};
-ghost use Rattle.dj_calls.specs.Known.{AreKnown};
-ghost use Rattle.dj_types.specs.Typed.{types_of};
+ghost use Rattle.dj_natives.specs.Known.{AreKnown};
+ghost use Rattle.dj_numbering.specs.Typed.{types_of};
 ghost use Rattle.dj_image.specs.Imaged.{program_of, typed_of};
-ghost use Rattle.dj_activations.specs.Activations.{AreActivations};
+ghost use Rattle.dj_current_method.specs.Activations.{AreActivations};
 ghost use Rattle.dj_settling.specs.Frugal.{IsFrugal};
 ghost use Rattle.dj_settling.specs.Settling.{HasOwn, HasRoomFor, Settles, top_settled};
 

@@ -1,6 +1,6 @@
 ghost use Rattle.std.specs.Prelude.{◌≡◌, true, IfOk, IsSome};
 ghost use Rattle.dj_heap.specs.Heaps.{object_in};
-ghost use Rattle.dj_calls.specs.Seen.{IsTextThere, IsThere, field_at, is_text_at, units_at};
+ghost use Rattle.dj_natives.specs.Seen.{IsTextThere, IsThere, field_at, is_text_at, units_at};
 ghost use Rattle.dj_settling.specs.Settling.{message_at};
 
 use dj_heap::{Heap, Made};

@@ -3,11 +3,11 @@ ghost use Rattle.dj_names.specs.declared.run.Charge as charges;
 ghost use Rattle.dj_model.specs.trusted.State.{Flow, Goes, Next};
 ghost use Rattle.dj_model.specs.Sound.{IsSound};
 ghost use Rattle.dj_stack.specs.Frames.{top_operands, top_room};
-ghost use Rattle.dj_calls.specs.Calls.{flow_reported, given, stop_reported};
-ghost use Rattle.dj_calls.specs.Known.{AreKnown};
-ghost use Rattle.dj_types.specs.Typed.{types_of};
+ghost use Rattle.dj_natives.specs.Calls.{flow_reported, given, stop_reported};
+ghost use Rattle.dj_natives.specs.Known.{AreKnown};
+ghost use Rattle.dj_numbering.specs.Typed.{types_of};
 ghost use Rattle.dj_image.specs.Imaged.{program_of, typed_of};
-ghost use Rattle.dj_activations.specs.Activations.{AreActivations};
+ghost use Rattle.dj_current_method.specs.Activations.{AreActivations};
 ghost use Rattle.dj_settling.specs.Settling.{HasOwn, IsExpected, IsStop, KeepsStop, Settles, StopsBy, native_settled, top_settled};
 
 use crate::going::{advance, go_next};
@@ -15,10 +15,10 @@ use crate::raising::raise;
 use crate::settled::Settled;
 use crate::stopping::throw_stop;
 use crate::throwing::throw;
-use dj_calls::{NativeAnswer, reference};
 use dj_heap::Heap;
 use dj_image::Image;
 use dj_names::{Charge, NativeId, Outcome, Value};
+use dj_natives::{NativeAnswer, reference};
 use dj_stack::Frames;
 use std::alloc::{AllocError, Global};
 

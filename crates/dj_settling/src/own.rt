@@ -1,7 +1,7 @@
 ghost use Rattle.std.specs.Prelude.{◌≡◌, ◌++◌, true, is_some};
 ghost use Rattle.dj_names.specs.trusted.Values.{raised_class};
 ghost use Rattle.dj_names.specs.declared.run.Raised.{Raised};
-ghost use Rattle.dj_classes.specs.Tables.{class_number};
+ghost use Rattle.dj_class_table.specs.Tables.{class_number};
 ghost use Rattle.dj_image.specs.Imaged.{program_of};
 ghost use Rattle.dj_settling.specs.Settling.{HasClass, HasOwn, HasStop};
 

@@ -2,10 +2,10 @@ ghost use Rattle.std.specs.Prelude.{◌≡◌, ◌++◌, IfOk};
 ghost use Rattle.dj_names.specs.trusted.Values.{raised_class};
 ghost use Rattle.dj_model.specs.trusted.Types.{raised_type};
 ghost use Rattle.dj_model.specs.Sound.{IsSound};
-ghost use Rattle.dj_calls.specs.Known.{AreKnown};
-ghost use Rattle.dj_types.specs.Typed.{types_of};
+ghost use Rattle.dj_natives.specs.Known.{AreKnown};
+ghost use Rattle.dj_numbering.specs.Typed.{types_of};
 ghost use Rattle.dj_image.specs.Imaged.{program_of, typed_of};
-ghost use Rattle.dj_activations.specs.Activations.{AreActivations};
+ghost use Rattle.dj_current_method.specs.Activations.{AreActivations};
 ghost use Rattle.dj_settling.specs.Settling.{HasOwn, IsClassOf, Settles, raising};
 
 use crate::settled::Settled;
@@ -13,8 +13,8 @@ use crate::throwing::throw_new;
 use dj_heap::Heap;
 use dj_image::Image;
 use dj_names::{Charge, Raised};
+use dj_numbering::raised_name;
 use dj_stack::Frames;
-use dj_types::raised_name;
 use std::alloc::{AllocError, Global};
 
 /// An exception of an instruction's own, without message and cause, is made and thrown.

@@ -1,10 +1,10 @@
 ghost use Rattle.std.specs.Prelude.{◌<◌, length, Option, IfErr, IfOk};
 ghost use Rattle.dj_names.specs.declared.run.Charge.{Charge};
 ghost use Rattle.dj_model.specs.trusted.State.{Goes, Back};
-ghost use Rattle.dj_calls.specs.Known.{AreKnown};
-ghost use Rattle.dj_types.specs.Typed.{types_of};
+ghost use Rattle.dj_natives.specs.Known.{AreKnown};
+ghost use Rattle.dj_numbering.specs.Typed.{types_of};
 ghost use Rattle.dj_image.specs.Imaged.{program_of, typed_of};
-ghost use Rattle.dj_activations.specs.Activations.{AreActivations};
+ghost use Rattle.dj_current_method.specs.Activations.{AreActivations};
 ghost use Rattle.dj_unwinding.specs.Returns.{HasRoomBelow};
 ghost use Rattle.dj_settling.specs.Frugal.{IsFrugalReturn};
 ghost use Rattle.dj_settling.specs.Settling.{Settles, top_settled};

@@ -1,9 +1,9 @@
 ghost use Rattle.std.specs.Prelude.{◌≡◌, Some, None, IfOk};
 ghost use Rattle.dj_model.specs.Sound.{IsSound};
-ghost use Rattle.dj_calls.specs.Known.{AreKnown};
-ghost use Rattle.dj_types.specs.Typed.{types_of, stop_at};
+ghost use Rattle.dj_natives.specs.Known.{AreKnown};
+ghost use Rattle.dj_numbering.specs.Typed.{types_of, stop_at};
 ghost use Rattle.dj_image.specs.Imaged.{program_of, typed_of};
-ghost use Rattle.dj_activations.specs.Activations.{AreActivations};
+ghost use Rattle.dj_current_method.specs.Activations.{AreActivations};
 ghost use Rattle.dj_settling.specs.Settling.{HasOwn, IsRewritten, IsStop, Settles, stop_found, stop_number_from, throwing_stop};
 
 use crate::settled::Settled;

@@ -1,10 +1,10 @@
 ghost use Rattle.std.specs.Prelude.{◌≡◌, ◌<◌, IfErr, IfOk, IfSome, IsSome, length, replicate};
 ghost use Rattle.dj_names.specs.trusted.Heaps.{Instance};
 ghost use Rattle.dj_model.specs.Sound.{IsSound};
-ghost use Rattle.dj_calls.specs.Known.{AreKnown};
-ghost use Rattle.dj_types.specs.Typed.{types_of};
+ghost use Rattle.dj_natives.specs.Known.{AreKnown};
+ghost use Rattle.dj_numbering.specs.Typed.{types_of};
 ghost use Rattle.dj_image.specs.Imaged.{program_of, typed_of};
-ghost use Rattle.dj_activations.specs.Activations.{AreActivations};
+ghost use Rattle.dj_current_method.specs.Activations.{AreActivations};
 ghost use Rattle.dj_unwinding.specs.Unwinding.{IsClassNumber};
 ghost use Rattle.dj_heap.specs.Heaps.{object_in};
 ghost use Rattle.dj_settling.specs.Frugal.{IsFrugalThrow};

@@ -18,13 +18,13 @@ use Rattle.dj_model.specs.trusted.Numbers.{is_wide}
 use Rattle.dj_model.specs.trusted.Values.{in_slots}
 use Rattle.dj_model.specs.trusted.Linking.{FoundMethod}
 use Rattle.dj_model.specs.SmallRuns.{class_with, method_with}
-use Rattle.dj_types.specs.declared.types.MemberOf.{MemberOf}
-use Rattle.dj_types.specs.Members.{all_methods}
-use Rattle.dj_shape.specs.declared.judge.ShapeFault.{ShapeFault}
+use Rattle.dj_numbering.specs.declared.types.MemberOf.{MemberOf}
+use Rattle.dj_numbering.specs.Members.{all_methods}
+use Rattle.dj_shape_rule.specs.declared.judge.ShapeFault.{ShapeFault}
 use Rattle.dj_image.specs.Sources.{class_of_source}
 use Rattle.dj_image.specs.Imaged.{Imaged, program_of}
-use Rattle.dj_image_rules.specs.Rules.{HasKinds, IsPathOf, IsShapeLine}
-use Rattle.dj_image_rules.specs.Reported.{IsLineOf}
+use Rattle.dj_shape.specs.Rules.{HasKinds, IsPathOf, IsShapeLine}
+use Rattle.dj_shape.specs.Reported.{IsLineOf}
 
 -- ---- the path of a class
 

@@ -15,23 +15,23 @@ use Rattle.dj_model.specs.trusted.Kinds.{Signature, signature_of}
 use Rattle.dj_model.specs.trusted.Shape.{IsShapeFault}
 use Rattle.dj_model.specs.Shape.{HasShape}
 use Rattle.dj_model.specs.trusted.Linking.{FoundMethod}
-use Rattle.dj_declared.specs.trusted.Files.{name_in}
-use Rattle.dj_declared.specs.Members.{IsDescriptor}
-use Rattle.dj_classes.specs.Tables.{name_of, name_at}
+use Rattle.dj_declarations.specs.trusted.Files.{name_in}
+use Rattle.dj_declarations.specs.Members.{IsDescriptor}
+use Rattle.dj_class_table.specs.Tables.{name_of, name_at}
 use Rattle.dj_program.specs.trusted.Codes.{code_in}
 use Rattle.dj_program.specs.Views.{parts_of}
-use Rattle.dj_types.specs.declared.types.MemberOf.{MemberOf}
-use Rattle.dj_types.specs.Typed.{types_of, texts_of}
-use Rattle.dj_types.specs.Members.{IsMethodThere}
-use Rattle.dj_shape.specs.declared.judge.ShapeFault.{ShapeFault}
-use Rattle.dj_shape.specs.Pools.{ArePoolKinds}
-use Rattle.dj_shape.specs.trusted.Rule.{signature_at}
-use Rattle.dj_shape.specs.Rule.{IsShapeAnswer}
+use Rattle.dj_numbering.specs.declared.types.MemberOf.{MemberOf}
+use Rattle.dj_numbering.specs.Typed.{types_of, texts_of}
+use Rattle.dj_numbering.specs.Members.{IsMethodThere}
+use Rattle.dj_shape_rule.specs.declared.judge.ShapeFault.{ShapeFault}
+use Rattle.dj_shape_rule.specs.Pools.{ArePoolKinds}
+use Rattle.dj_shape_rule.specs.trusted.Rule.{signature_at}
+use Rattle.dj_shape_rule.specs.Rule.{IsShapeAnswer}
 use Rattle.dj_image.specs.Imaged.{Imaged, program_of, typed_of}
 use Rattle.dj_image.specs.Shaped.{AreShapeParts}
 use Rattle.dj_image.specs.declared.shaped.ShapeParts.{ShapeParts}
-use Rattle.dj_image_rules.specs.Rules.{HasKinds, IsSpelled, IsPathOf, IsShapeLine, HasShapeAt}
-use Rattle.dj_image_rules.specs.Reported.{IsLineOf, IsLineIn}
+use Rattle.dj_shape.specs.Rules.{HasKinds, IsSpelled, IsPathOf, IsShapeLine, HasShapeAt}
+use Rattle.dj_shape.specs.Reported.{IsLineOf, IsLineIn}
 
 -- ---- names of classes
 

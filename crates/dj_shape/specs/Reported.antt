@@ -1,11 +1,11 @@
 -- Used by the code alone: a line, by what is kept of a method.
 use Rattle.std.specs.Prelude.{◌≡◌, List, ◌++◌, ℕ, Some}
 use Rattle.dj_report.specs.declared.report.Violation.{Violation}
-use Rattle.dj_types.specs.declared.types.MemberOf.{MemberOf}
-use Rattle.dj_shape.specs.declared.judge.ShapeFault.{ShapeFault}
-use Rattle.dj_classes.specs.Tables.{name_at}
+use Rattle.dj_numbering.specs.declared.types.MemberOf.{MemberOf}
+use Rattle.dj_shape_rule.specs.declared.judge.ShapeFault.{ShapeFault}
+use Rattle.dj_class_table.specs.Tables.{name_at}
 use Rattle.dj_image.specs.Imaged.{Imaged, program_of}
-use Rattle.dj_image_rules.specs.Rules.{IsPathOf}
+use Rattle.dj_shape.specs.Rules.{IsPathOf}
 
 pub record IsLineOf (class : List ℕ) (member : MemberOf) (fault : ShapeFault) (v : Violation) : Type 0 where
   pub path : IsPathOf v.path class

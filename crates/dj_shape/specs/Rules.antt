@@ -1,22 +1,17 @@
--- The rules 17 to 19 over an image.
-use Rattle.std.specs.Prelude.{◌≡◌, ℕ, List, ◌++◌, codes, map, Option, Some, None, IsTrue, is_some, slice_get}
+-- The rule 19 over an image.
+use Rattle.std.specs.Prelude.{◌≡◌, ℕ, List, ◌++◌, codes, Option, Some, None, IsTrue, is_some, slice_get}
 use Rattle.std.specs.Char.Utf16.{utf16_lossy_chars}
 use Rattle.std.specs.Str.{encode_utf8_all}
 use Rattle.dj_names.specs.trusted.Descriptors.{Describes}
 use Rattle.dj_names.specs.trusted.ModifiedUtf8.{SpellsUnits}
 use Rattle.dj_report.specs.declared.report.Violation.{Violation}
-use Rattle.dj_model.specs.trusted.Program.{Program, Code, Runs, is_static}
+use Rattle.dj_model.specs.trusted.Program.{Code, Runs, is_static}
 use Rattle.dj_model.specs.trusted.Kinds.{Signature, signature_of}
 use Rattle.dj_model.specs.trusted.Shape.{IsShapeFault}
 use Rattle.dj_model.specs.Shape.{HasShape}
 use Rattle.dj_model.specs.trusted.Linking.{FoundMethod}
-use Rattle.dj_declared.specs.Files.{bare_class}
-use Rattle.dj_types.specs.Members.{all_methods}
+use Rattle.dj_numbering.specs.Members.{all_methods}
 use Rattle.dj_image.specs.Imaged.{Imaged, program_of}
-
--- the classes of an image without code and constants, which the rules 17 and 18 don't read
-abbrev pub declared_of : Imaged → Program
-declared_of imaged = map bare_class (program_of imaged)
 
 abbrev pub IsMethodOf : Imaged → ℕ → FoundMethod → Type 0
 IsMethodOf imaged method found = slice_get (all_methods (program_of imaged)) method ≡ Some found

@@ -1,12 +1,12 @@
 ghost use Rattle.std.specs.Prelude.{◌≡◌, ◌++◌, ℕ, List, IfOk};
 ghost use Rattle.dj_names.specs.trusted.ModifiedUtf8.{SpellsUnits};
-ghost use Rattle.dj_image_rules.specs.Reported.{IsLineOf};
+ghost use Rattle.dj_shape.specs.Reported.{IsLineOf};
 
 use crate::paths::{class_path, joined};
 use dj_image::MemberOf;
 use dj_names::Name;
 use dj_report::Violation;
-use dj_shape::ShapeFault;
+use dj_shape_rule::ShapeFault;
 use std::alloc::{AllocError, Global};
 
 // The number of SHAPE.

@@ -2,7 +2,7 @@ ghost use Rattle.std.specs.Prelude.{◌≡◌, ◌++◌, ℕ, List, codes, IfOk}
 ghost use Rattle.std.specs.Char.Utf16.{utf16_lossy_chars};
 ghost use Rattle.std.specs.Str.{encode_utf8_all};
 ghost use Rattle.dj_names.specs.trusted.ModifiedUtf8.{SpellsUnits};
-ghost use Rattle.dj_image_rules.specs.Rules.{IsPathOf};
+ghost use Rattle.dj_shape.specs.Rules.{IsPathOf};
 
 use dj_names::{Name, TextError, units_of};
 use std::alloc::{AllocError, Global};

@@ -3,25 +3,25 @@ ghost use Rattle.dj_names.specs.trusted.ModifiedUtf8.{SpellsUnits};
 ghost use Rattle.dj_pool.specs.trusted.Pool.{Constant};
 ghost use Rattle.dj_model.specs.trusted.Kinds.{Signature};
 ghost use Rattle.dj_model.specs.trusted.Program.{is_static};
-ghost use Rattle.dj_declared.specs.trusted.Files.{name_in};
-ghost use Rattle.dj_declared.specs.Members.{IsDescriptor};
+ghost use Rattle.dj_declarations.specs.trusted.Files.{name_in};
+ghost use Rattle.dj_declarations.specs.Members.{IsDescriptor};
 ghost use Rattle.dj_program.specs.trusted.Codes.{code_in};
 ghost use Rattle.dj_program.specs.Views.{parts_of};
-ghost use Rattle.dj_shape.specs.Pools.{ArePoolKinds};
-ghost use Rattle.dj_shape.specs.trusted.Rule.{signature_at};
-ghost use Rattle.dj_shape.specs.Rule.{IsShapeAnswer};
-ghost use Rattle.dj_classes.specs.Tables.{name_at};
-ghost use Rattle.dj_types.specs.Members.{all_methods};
+ghost use Rattle.dj_shape_rule.specs.Pools.{ArePoolKinds};
+ghost use Rattle.dj_shape_rule.specs.trusted.Rule.{signature_at};
+ghost use Rattle.dj_shape_rule.specs.Rule.{IsShapeAnswer};
+ghost use Rattle.dj_class_table.specs.Tables.{name_at};
+ghost use Rattle.dj_numbering.specs.Members.{all_methods};
 ghost use Rattle.dj_image.specs.Imaged.{program_of};
 ghost use Rattle.dj_image.specs.Shaped.{AreShapeParts};
-ghost use Rattle.dj_image_rules.specs.Rules.{HasKinds, IsSpelled, IsShapeReported};
-ghost use Rattle.dj_image_rules.specs.Reported.{IsLineIn};
+ghost use Rattle.dj_shape.specs.Rules.{HasKinds, IsSpelled, IsShapeReported};
+ghost use Rattle.dj_shape.specs.Reported.{IsLineIn};
 
 use crate::lines::shape_line;
 use dj_image::{Image, MemberOf, MethodId, ShapeParts};
-use dj_link::is_static;
+use dj_link_rules::is_static;
 use dj_report::Violation;
-use dj_shape::{ShapeError, ShapeFault};
+use dj_shape_rule::{ShapeError, ShapeFault};
 use std::alloc::{AllocError, Global};
 
 // The first fault of code.
@@ -37,7 +37,7 @@ fn fault_of(
     let Ok(_) = u32::try_from(parts.code.code.code.as_slice().len()) else {
         return Err(AllocError);
     };
-    Ok(dj_shape::shape(alloc, parts.kinds, is_static(flags), parts.desc, parts.code)?)
+    Ok(dj_shape_rule::shape(alloc, parts.kinds, is_static(flags), parts.desc, parts.code)?)
 }
 
 // The name of a class.

@@ -9,7 +9,7 @@ use Rattle.dj_model.specs.trusted.Program.{Code}
 use Rattle.dj_model.specs.trusted.Numbers.{is_wide}
 use Rattle.dj_model.specs.trusted.Members.{with_kind}
 use Rattle.dj_model.specs.trusted.Kinds.{Entry, Of, NoEntry, made_by, entry_of, entries_of, with_entry, entry_slots, stack_of, with_stack, with_locals, full_entries}
-use Rattle.dj_shape.specs.Reading.{made_as, ChangesTo}
+use Rattle.dj_shape_rule.specs.Reading.{made_as, ChangesTo}
 
 pub made_at : (made : List Bool) (n : ℕ) → made_by (slice_get (map made_as made) n) ≡ (if get_or made n false then Of (Some kinds.Ref) else NoEntry)
 made_at [] n = refl

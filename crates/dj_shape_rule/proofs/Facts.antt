@@ -16,10 +16,10 @@ use Rattle.dj_model.specs.trusted.Opcodes.{instruction_of, simple}
 use Rattle.dj_model.specs.trusted.Program.{Code}
 use Rattle.dj_model.specs.trusted.Shape.{after}
 use Rattle.dj_model.specs.trusted.Values.{moved}
-use Rattle.dj_declared.specs.trusted.Files.{desc_in}
+use Rattle.dj_declarations.specs.trusted.Files.{desc_in}
 use Rattle.dj_program.specs.trusted.Naming.{named_by, instruction_in}
-use Rattle.dj_shape.specs.Keeping.{text_kind, text_call, all_kinds, all_calls}
-use Rattle.dj_shape.specs.declared.pool.ConstantKind.TheVariants as constants
+use Rattle.dj_shape_rule.specs.Keeping.{text_kind, text_call, all_kinds, all_calls}
+use Rattle.dj_shape_rule.specs.declared.pool.ConstantKind.TheVariants as constants
 
 -- ---- operands
 

@@ -19,12 +19,12 @@ use Rattle.dj_model.specs.trusted.Kinds.{Kinds}
 use Rattle.dj_model.proofs.MappedNames.{either}
 use Rattle.dj_model.proofs.Flows.{either_way}
 use Rattle.dj_program.specs.trusted.Naming.{instruction_in, named_at}
-use Rattle.dj_shape.specs.Reported.{ReportedFrames, reported_at}
-use Rattle.dj_shape.specs.Flows.{FlowsToFrame}
-use Rattle.dj_shape.specs.Forms.{StoresAt, form_ends, FormFlows}
-use Rattle.dj_shape.specs.Passing.{IsRun, JumpsFlow}
-use Rattle.dj_shape.specs.Works.{got, put, work_of}
-use Rattle.dj_shape.proofs.Parts.{at_contains, contains_at}
+use Rattle.dj_shape_rule.specs.Reported.{ReportedFrames, reported_at}
+use Rattle.dj_shape_rule.specs.Flows.{FlowsToFrame}
+use Rattle.dj_shape_rule.specs.Forms.{StoresAt, form_ends, FormFlows}
+use Rattle.dj_shape_rule.specs.Passing.{IsRun, JumpsFlow}
+use Rattle.dj_shape_rule.specs.Works.{got, put, work_of}
+use Rattle.dj_shape_rule.proofs.Parts.{at_contains, contains_at}
 
 -- ---- rows of opcodes
 

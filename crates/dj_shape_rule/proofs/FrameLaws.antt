@@ -9,8 +9,8 @@ use Rattle.dj_model.specs.trusted.Linking.{or_else}
 use Rattle.dj_model.specs.trusted.Program.{Code}
 use Rattle.dj_model.specs.trusted.Initialisation.{padded}
 use Rattle.dj_model.specs.trusted.Kinds.{Kinds, Entries, depth, entry_slots, stack_of, form_entries, fitting, with_fitting, with_frame, frames_after, Placed, Map, Read, Faulty, and_then, placed_at}
-use Rattle.dj_shape.specs.Reported.{Reported, ReportedFrames, reported_at, reported_kinds, IsReportedAs, AreReported, IsKept}
-use Rattle.dj_shape.specs.Reading.{ChangesTo, fits_of, SaysSome, with_all}
+use Rattle.dj_shape_rule.specs.Reported.{Reported, ReportedFrames, reported_at, reported_kinds, IsReportedAs, AreReported, IsKept}
+use Rattle.dj_shape_rule.specs.Reading.{ChangesTo, fits_of, SaysSome, with_all}
 
 -- ---- one frame
 

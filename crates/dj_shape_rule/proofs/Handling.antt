@@ -7,13 +7,13 @@ use Rattle.dj_names.specs.declared.descriptor.Kind.{Kind}
 use Rattle.dj_labels.specs.declared.labelled.Protected.{Protected}
 use Rattle.dj_model.specs.trusted.Initialisation.{padded}
 use Rattle.dj_model.specs.trusted.Values.{local_at}
-use Rattle.dj_shape.specs.declared.needs.Need.{Need}
-use Rattle.dj_shape.specs.declared.needs.Changed.{Changed}
-use Rattle.dj_shape.specs.declared.handlers.Handlers.{Handlers}
-use Rattle.dj_shape.specs.Needs.{need_at, raised, MissesOne, AreSame}
-use Rattle.dj_shape.specs.Reported.{Reported, ReportedFrames, reported_at}
-use Rattle.dj_shape.specs.Handlers.{Says, Handled, AreRising, Begun, MeetAll, AsksNothing, Asks, Lacks, Begins, IsKnownBut, Enters}
-use Rattle.dj_shape.proofs.Slots.{at_padded}
+use Rattle.dj_shape_rule.specs.declared.needs.Need.{Need}
+use Rattle.dj_shape_rule.specs.declared.needs.Changed.{Changed}
+use Rattle.dj_shape_rule.specs.declared.handlers.Handlers.{Handlers}
+use Rattle.dj_shape_rule.specs.Needs.{need_at, raised, MissesOne, AreSame}
+use Rattle.dj_shape_rule.specs.Reported.{Reported, ReportedFrames, reported_at}
+use Rattle.dj_shape_rule.specs.Handlers.{Says, Handled, AreRising, Begun, MeetAll, AsksNothing, Asks, Lacks, Begins, IsKnownBut, Enters}
+use Rattle.dj_shape_rule.proofs.Slots.{at_padded}
 
 pub rising_from : (rows : List Protected) → IsNonDecreasingBy (λ (row : Protected). row.start) rows → AreRising rows
 rising_from rows up j k a b less at_j at_k =

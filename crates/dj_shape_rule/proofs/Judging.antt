@@ -18,20 +18,20 @@ use Rattle.dj_model.specs.trusted.Values.{in_slots}
 use Rattle.dj_model.specs.trusted.Kinds.{Signature, with_receiver, Kinds, Entry, Entries, entry_slots, entry_of, made_by, entries_of, with_entry, with_locals, with_stack, full_entries, form_entries, with_frame, with_fitting, fitting, stack_of, frames_after, frames_in, map_of, parameter_entries, Map, Read, Faulty, Placed}
 use Rattle.dj_model.specs.trusted.Shape.{first_kinds, ParametersFit, IsFrameOrFault}
 use Rattle.dj_model.specs.Shape.{AllHold}
-use Rattle.dj_shape.specs.Standing.{Standing, HasRoomOf, standing_in}
+use Rattle.dj_shape_rule.specs.Standing.{Standing, HasRoomOf, standing_in}
 use Rattle.dj_ops.specs.declared.instruction.Instr.{Instr}
 use Rattle.dj_pool.specs.trusted.Pool.{Constant}
 use Rattle.dj_program.specs.declared.code.MethodCode.{MethodCode}
 use Rattle.dj_program.specs.trusted.Naming.{instruction_in}
 use Rattle.dj_program.specs.trusted.Codes.{code_in, range_in}
 use Rattle.dj_program.specs.Views.{parts_of}
-use Rattle.dj_shape.specs.Kept.{KeptKinds}
-use Rattle.dj_shape.specs.Pools.{ArePoolKinds}
-use Rattle.dj_shape.specs.Reported.{ReportedFrames, AreReported}
-use Rattle.dj_shape.specs.Reading.{made_as, frame_code, signature_with}
-use Rattle.dj_shape.specs.Passing.{Case, IsFirst}
-use Rattle.dj_shape.specs.Judging.{IsFaultOf, IsJudged, fault_reported}
-use Rattle.dj_shape.specs.Rule.{IsShapeAnswer}
+use Rattle.dj_shape_rule.specs.Kept.{KeptKinds}
+use Rattle.dj_shape_rule.specs.Pools.{ArePoolKinds}
+use Rattle.dj_shape_rule.specs.Reported.{ReportedFrames, AreReported}
+use Rattle.dj_shape_rule.specs.Reading.{made_as, frame_code, signature_with}
+use Rattle.dj_shape_rule.specs.Passing.{Case, IsFirst}
+use Rattle.dj_shape_rule.specs.Judging.{IsFaultOf, IsJudged, fault_reported}
+use Rattle.dj_shape_rule.specs.Rule.{IsShapeAnswer}
 
 -- ---- what frames depend on in the code: whether its instructions make objects, and its room
 

@@ -19,10 +19,10 @@ use Rattle.dj_pool.specs.Views.{constant_of}
 use Rattle.dj_model.specs.trusted.Kinds.{Signature}
 use Rattle.dj_model.specs.trusted.Members.{with_kind}
 use Rattle.dj_model.specs.trusted.Types.{no_parameters}
-use Rattle.dj_declared.specs.trusted.Files.{desc_in}
-use Rattle.dj_shape.specs.Keeping.{text_kind, text_call, kind_by, call_by}
-use Rattle.dj_shape.specs.declared.pool.ConstantKind.{ConstantKind}
-use Rattle.dj_shape.specs.declared.pool.ConstantKind.TheVariants as constants
+use Rattle.dj_declarations.specs.trusted.Files.{desc_in}
+use Rattle.dj_shape_rule.specs.Keeping.{text_kind, text_call, kind_by, call_by}
+use Rattle.dj_shape_rule.specs.declared.pool.ConstantKind.{ConstantKind}
+use Rattle.dj_shape_rule.specs.declared.pool.ConstantKind.TheVariants as constants
 
 -- ---- descriptors
 

@@ -15,15 +15,15 @@ use Rattle.dj_pool.specs.trusted.Pool.{Constant, Utf8, Integer, Float, Long, Dou
 use Rattle.dj_model.specs.trusted.Types.{Member}
 use Rattle.dj_model.specs.trusted.Instructions.{Named, AField, AMethod, AnInterfaceMethod}
 use Rattle.dj_model.specs.trusted.Kinds.{Signature, call_signature}
-use Rattle.dj_declared.specs.trusted.Files.{desc_in, name_in}
-use Rattle.dj_declared.specs.Members.{IsDescriptor}
+use Rattle.dj_declarations.specs.trusted.Files.{desc_in, name_in}
+use Rattle.dj_declarations.specs.Members.{IsDescriptor}
 use Rattle.dj_program.specs.trusted.Naming.{member_from, member_in, named_or_another, named_by, named_at}
-use Rattle.dj_shape.specs.Kept.{KeptKinds}
-use Rattle.dj_shape.specs.Keeping.{text_kind, field_kept, method_kept, interface_method_kept, desc_index_at, kind_by, call_by, all_kinds, all_calls}
-use Rattle.dj_shape.specs.Pools.{call_at, SaysKind, ArePoolKinds}
-use Rattle.dj_shape.specs.declared.pool.ConstantKind.{ConstantKind}
-use Rattle.dj_shape.specs.declared.pool.ConstantKind.TheVariants as constants
-use Rattle.dj_shape.proofs.Keeping.{desc_in_is, field_reported}
+use Rattle.dj_shape_rule.specs.Kept.{KeptKinds}
+use Rattle.dj_shape_rule.specs.Keeping.{text_kind, field_kept, method_kept, interface_method_kept, desc_index_at, kind_by, call_by, all_kinds, all_calls}
+use Rattle.dj_shape_rule.specs.Pools.{call_at, SaysKind, ArePoolKinds}
+use Rattle.dj_shape_rule.specs.declared.pool.ConstantKind.{ConstantKind}
+use Rattle.dj_shape_rule.specs.declared.pool.ConstantKind.TheVariants as constants
+use Rattle.dj_shape_rule.proofs.Keeping.{desc_in_is, field_reported}
 
 -- ---- each constant
 

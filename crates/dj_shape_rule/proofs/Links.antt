@@ -1,9 +1,9 @@
 -- Slots of local variables, each above those before it.
 use Rattle.std.proofs.Common.{◌≡◌, ℕ, zero, suc, ◌+◌, ◌-◌, ◌<◌, ◌≤◌, ◌⊎◌, List, [], ◌∷◌, ◌++◌, length, length-append, append_assoc, Option, Some, None, slice_get, refl, sym, ap, subst, ◌∙◌, inl, inr, arith}
 use Rattle.dj_names.specs.declared.descriptor.Kind.{Kind}
-use Rattle.dj_shape.specs.declared.arena.Slot.{Slot}
-use Rattle.dj_shape.specs.declared.arena.LocalsPlace.{LocalsPlace}
-use Rattle.dj_shape.specs.Arena.{slot_at, with_slot, slots_within, slots_at, AreLinked, IsIn, IsAt, Extends}
+use Rattle.dj_shape_rule.specs.declared.arena.Slot.{Slot}
+use Rattle.dj_shape_rule.specs.declared.arena.LocalsPlace.{LocalsPlace}
+use Rattle.dj_shape_rule.specs.Arena.{slot_at, with_slot, slots_within, slots_at, AreLinked, IsIn, IsAt, Extends}
 
 -- ---- lists with one more, or more
 

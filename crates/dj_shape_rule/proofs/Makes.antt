@@ -15,12 +15,12 @@ use Rattle.dj_model.specs.trusted.Opcodes.{Row, row_does, simple, constant_rows,
 use Rattle.dj_model.proofs.MappedNames.{either}
 use Rattle.dj_model.proofs.Flows.{either_way}
 use Rattle.dj_program.specs.trusted.Naming.{instruction_in, named_at}
-use Rattle.dj_shape.specs.Kept.{KeptKinds}
-use Rattle.dj_shape.specs.Pools.{ArePoolKinds, SaysKind}
-use Rattle.dj_shape.specs.Makes.{is_class, form_makes}
-use Rattle.dj_shape.specs.declared.pool.ConstantKind.{ConstantKind}
-use Rattle.dj_shape.specs.declared.pool.ConstantKind.TheVariants as constants
-use Rattle.dj_shape.proofs.Forms.{AllDo, row_such, operand_such}
+use Rattle.dj_shape_rule.specs.Kept.{KeptKinds}
+use Rattle.dj_shape_rule.specs.Pools.{ArePoolKinds, SaysKind}
+use Rattle.dj_shape_rule.specs.Makes.{is_class, form_makes}
+use Rattle.dj_shape_rule.specs.declared.pool.ConstantKind.{ConstantKind}
+use Rattle.dj_shape_rule.specs.declared.pool.ConstantKind.TheVariants as constants
+use Rattle.dj_shape_rule.proofs.Forms.{AllDo, row_such, operand_such}
 
 abbrev MakesNone : Instruction → Type 0
 MakesNone i = makes_uninitialised i ≡ false

@@ -4,12 +4,12 @@ use Rattle.std.proofs.lemmas.Bool.{cases_lt}
 use Rattle.std.proofs.lemmas.List.{get_or_past}
 use Rattle.dj_names.specs.declared.descriptor.Kind.{Kind}
 use Rattle.dj_model.specs.trusted.Values.{local_at}
-use Rattle.dj_shape.specs.declared.needs.Need.{Need}
-use Rattle.dj_shape.specs.declared.needs.Changed.{Changed}
-use Rattle.dj_shape.specs.declared.needs.Changed.TheVariants as changes
-use Rattle.dj_shape.specs.Needs.{no_need, need_at, raised, AreRaised, AreSame, IsChanged, Meets}
-use Rattle.dj_shape.specs.Handlers.{MeetAll, MeetOthers}
-use Rattle.dj_shape.proofs.Slots.{at_last, at_past, one_shorter}
+use Rattle.dj_shape_rule.specs.declared.needs.Need.{Need}
+use Rattle.dj_shape_rule.specs.declared.needs.Changed.{Changed}
+use Rattle.dj_shape_rule.specs.declared.needs.Changed.TheVariants as changes
+use Rattle.dj_shape_rule.specs.Needs.{no_need, need_at, raised, AreRaised, AreSame, IsChanged, Meets}
+use Rattle.dj_shape_rule.specs.Handlers.{MeetAll, MeetOthers}
+use Rattle.dj_shape_rule.proofs.Slots.{at_last, at_past, one_shorter}
 
 pub need_push : (needs : List Need) (slot : ℕ) → need_at (needs ++ no_need ∷ []) slot ≡ need_at needs slot
 need_push [] zero = refl

@@ -15,11 +15,11 @@ use Rattle.dj_model.specs.trusted.Values.{local_at}
 use Rattle.dj_model.specs.trusted.Initialisation.{padded}
 use Rattle.dj_model.specs.trusted.Kinds.{Kinds, Placed, placed_at}
 use Rattle.dj_model.specs.trusted.Shape.{flows_to, flows_to_frame, locals_flow_to, is_handler_frame, covers}
-use Rattle.dj_shape.specs.Reported.{Reported, ReportedFrames, reported_at, reported_kinds, IsReportedAs, AreReported}
-use Rattle.dj_shape.specs.Flows.{FlowsTo, FlowsToFrame}
-use Rattle.dj_shape.specs.Handlers.{Says, Handled}
-use Rattle.dj_shape.specs.Passing.{HasHandlerFrame, JumpsFlow}
-use Rattle.dj_shape.proofs.Slots.{from_flows, to_flows, from_flow, to_flow, reported_padded, unpadded_flow, same_stacks, stack_itself, reverse_injects}
+use Rattle.dj_shape_rule.specs.Reported.{Reported, ReportedFrames, reported_at, reported_kinds, IsReportedAs, AreReported}
+use Rattle.dj_shape_rule.specs.Flows.{FlowsTo, FlowsToFrame}
+use Rattle.dj_shape_rule.specs.Handlers.{Says, Handled}
+use Rattle.dj_shape_rule.specs.Passing.{HasHandlerFrame, JumpsFlow}
+use Rattle.dj_shape_rule.proofs.Slots.{from_flows, to_flows, from_flow, to_flow, reported_padded, unpadded_flow, same_stacks, stack_itself, reverse_injects}
 
 -- ---- each of a list
 

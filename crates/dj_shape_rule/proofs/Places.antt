@@ -12,16 +12,16 @@ use Rattle.dj_ops.specs.declared.frames.Form.TheVariants as forms
 use Rattle.dj_model.specs.trusted.Linking.{or_else}
 use Rattle.dj_model.specs.trusted.Program.{Code}
 use Rattle.dj_model.specs.trusted.Kinds.{Entries, entry_slots, entries_of, form_entries, with_locals, with_stack}
-use Rattle.dj_shape.specs.declared.arena.Slot.{Slot}
-use Rattle.dj_shape.specs.declared.arena.LocalsPlace.{LocalsPlace}
-use Rattle.dj_shape.specs.declared.frames.KeptFrame.{KeptFrame}
-use Rattle.dj_shape.specs.Arena.{slots_at, AreLinked, IsIn, IsAt, Extends}
-use Rattle.dj_shape.specs.Placing.{kept_at, AreMarked, ArePlaced, HasOneMore, HasSame}
-use Rattle.dj_shape.specs.Reported.{Reported, ReportedFrames, reported_at, reported_in, Grows, IsKept}
-use Rattle.dj_shape.specs.declared.reading.Reader.{Reader}
-use Rattle.dj_shape.specs.Reading.{ChangesTo, ArePlaces, IsReading, kept_entries}
-use Rattle.dj_shape.proofs.Entries.{slots_more}
-use Rattle.dj_shape.proofs.Links.{split_last, grown_slots, at_grown, in_grown, no_place, extends_more}
+use Rattle.dj_shape_rule.specs.declared.arena.Slot.{Slot}
+use Rattle.dj_shape_rule.specs.declared.arena.LocalsPlace.{LocalsPlace}
+use Rattle.dj_shape_rule.specs.declared.frames.KeptFrame.{KeptFrame}
+use Rattle.dj_shape_rule.specs.Arena.{slots_at, AreLinked, IsIn, IsAt, Extends}
+use Rattle.dj_shape_rule.specs.Placing.{kept_at, AreMarked, ArePlaced, HasOneMore, HasSame}
+use Rattle.dj_shape_rule.specs.Reported.{Reported, ReportedFrames, reported_at, reported_in, Grows, IsKept}
+use Rattle.dj_shape_rule.specs.declared.reading.Reader.{Reader}
+use Rattle.dj_shape_rule.specs.Reading.{ChangesTo, ArePlaces, IsReading, kept_entries}
+use Rattle.dj_shape_rule.proofs.Entries.{slots_more}
+use Rattle.dj_shape_rule.proofs.Links.{split_last, grown_slots, at_grown, in_grown, no_place, extends_more}
 
 -- ---- the first of a list
 

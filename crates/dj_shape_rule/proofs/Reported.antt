@@ -9,11 +9,11 @@ use Rattle.dj_model.specs.trusted.Kinds.{Signature, call_signature}
 use Rattle.dj_model.specs.trusted.Opcodes.{instruction_of, member}
 use Rattle.dj_model.proofs.MappedNames.{either}
 use Rattle.dj_program.specs.trusted.Naming.{named_at, instruction_in}
-use Rattle.dj_shape.specs.Kept.{KeptKinds}
-use Rattle.dj_shape.specs.Pools.{SaysKind, ArePoolKinds}
-use Rattle.dj_shape.specs.Works.{field_work, method_work, interface_method_work, member_work, work_of}
-use Rattle.dj_shape.specs.declared.pool.ConstantKind.{ConstantKind}
-use Rattle.dj_shape.specs.declared.pool.ConstantKind.TheVariants.{Int, Long, Text, Class, Field, Method, InterfaceMethod, Other}
+use Rattle.dj_shape_rule.specs.Kept.{KeptKinds}
+use Rattle.dj_shape_rule.specs.Pools.{SaysKind, ArePoolKinds}
+use Rattle.dj_shape_rule.specs.Works.{field_work, method_work, interface_method_work, member_work, work_of}
+use Rattle.dj_shape_rule.specs.declared.pool.ConstantKind.{ConstantKind}
+use Rattle.dj_shape_rule.specs.declared.pool.ConstantKind.TheVariants.{Int, Long, Text, Class, Field, Method, InterfaceMethod, Other}
 
 field_done : (op : ℕ) (m : Member) → field_work op (field_kind m.desc) ≡ work_of (member op (AField m))
 field_done op m = elim (either (nat_eq op 178)) [

@@ -4,8 +4,8 @@ use Rattle.dj_names.specs.declared.descriptor.Kind.TheVariants.{Int, Long, Ref}
 use Rattle.dj_names.specs.trusted.NameReading.{reads_class_name}
 use Rattle.dj_names.specs.trusted.DescReading.{dims_read, name_read, class_read, of_read, type_read, params_read, field_read, return_read, method_read, desc_read}
 use Rattle.dj_pool.specs.trusted.Pool.{Constant, Utf8}
-use Rattle.dj_declared.specs.trusted.Files.{desc_in}
-use Rattle.dj_shape.specs.trusted.Rule.{signature_at}
+use Rattle.dj_declarations.specs.trusted.Files.{desc_in}
+use Rattle.dj_shape_rule.specs.trusted.Rule.{signature_at}
 
 abbrev pool : List Constant
 pool = Utf8 (codes "(IJ)V") ∷ Utf8 (codes "()[B") ∷ Utf8 (codes "(Z[F)La;") ∷ Utf8 (codes "(F)V") ∷ Utf8 (codes "()D") ∷ Utf8 (codes "J") ∷ []

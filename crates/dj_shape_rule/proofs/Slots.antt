@@ -10,7 +10,7 @@ use Rattle.dj_model.specs.trusted.Values.{local_at}
 use Rattle.dj_model.specs.trusted.Initialisation.{padded}
 use Rattle.dj_model.specs.trusted.Kinds.{Kinds}
 use Rattle.dj_model.specs.trusted.Shape.{is_kind, locals_flow, flows_into}
-use Rattle.dj_shape.specs.Flows.{LocalsFlow}
+use Rattle.dj_shape_rule.specs.Flows.{LocalsFlow}
 
 -- ---- padding
 

@@ -11,18 +11,18 @@ use Rattle.dj_model.specs.trusted.Values.{local_at}
 use Rattle.dj_model.specs.trusted.Program.{Code}
 use Rattle.dj_model.specs.trusted.Kinds.{Kinds, Signature, depth, placed_at}
 use Rattle.dj_model.specs.trusted.Shape.{after, first_kinds, state_before, HoldsAt}
-use Rattle.dj_shape.specs.declared.needs.Changed.{Changed}
-use Rattle.dj_shape.specs.declared.handlers.Handlers.{Handlers}
-use Rattle.dj_shape.specs.declared.pass.Method.{Method}
-use Rattle.dj_shape.specs.declared.pass.Pass.{Pass}
-use Rattle.dj_shape.specs.Standing.{Standing, HasRoomOf, SameRoom, standing_in}
-use Rattle.dj_shape.specs.Reported.{Reported, reported_at, reported_kinds, IsReportedAs}
-use Rattle.dj_shape.specs.Flows.{Flows, FlowsTo}
-use Rattle.dj_shape.specs.Needs.{need_at, IsChanged}
-use Rattle.dj_shape.specs.Handlers.{Handled, MeetAll, MeetOthers, Enters, IsKnownBut, Stands}
-use Rattle.dj_shape.specs.Passing.{IsRun, HasHandlerFrame, IsFirstUnhandled, Case, IsCase, Before, arriving, kept, Flowing, Leaving, MeetsFrame, Answers}
-use Rattle.dj_shape.proofs.Parts.{contains_at, at_contains}
-use Rattle.dj_shape.proofs.Steps.{state_is, no_state, holds, has_begins, has_handles, has_handled, has_flowing, arrives}
+use Rattle.dj_shape_rule.specs.declared.needs.Changed.{Changed}
+use Rattle.dj_shape_rule.specs.declared.handlers.Handlers.{Handlers}
+use Rattle.dj_shape_rule.specs.declared.pass.Method.{Method}
+use Rattle.dj_shape_rule.specs.declared.pass.Pass.{Pass}
+use Rattle.dj_shape_rule.specs.Standing.{Standing, HasRoomOf, SameRoom, standing_in}
+use Rattle.dj_shape_rule.specs.Reported.{Reported, reported_at, reported_kinds, IsReportedAs}
+use Rattle.dj_shape_rule.specs.Flows.{Flows, FlowsTo}
+use Rattle.dj_shape_rule.specs.Needs.{need_at, IsChanged}
+use Rattle.dj_shape_rule.specs.Handlers.{Handled, MeetAll, MeetOthers, Enters, IsKnownBut, Stands}
+use Rattle.dj_shape_rule.specs.Passing.{IsRun, HasHandlerFrame, IsFirstUnhandled, Case, IsCase, Before, arriving, kept, Flowing, Leaving, MeetsFrame, Answers}
+use Rattle.dj_shape_rule.proofs.Parts.{contains_at, at_contains}
+use Rattle.dj_shape_rule.proofs.Steps.{state_is, no_state, holds, has_begins, has_handles, has_handled, has_flowing, arrives}
 
 is_kept : (going : Bool) (k : Kinds) (x : Kinds) → Some x ≡ kept going k → x ≡ k
 is_kept true k x e = cc

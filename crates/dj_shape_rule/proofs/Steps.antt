@@ -13,12 +13,12 @@ use Rattle.dj_model.specs.trusted.Instructions.{Instruction, ends, targets}
 use Rattle.dj_model.specs.trusted.Linking.{or_else}
 use Rattle.dj_model.specs.trusted.Kinds.{Kinds, placed_at}
 use Rattle.dj_model.specs.trusted.Shape.{after, first_kinds, flows_to, is_handler_frame, locals_flow_to, covers, goes_on_with, state_before, HoldsAt}
-use Rattle.dj_shape.specs.declared.pass.Method.{Method}
-use Rattle.dj_shape.specs.Reported.{reported_at}
-use Rattle.dj_shape.specs.Flows.{FlowsTo}
-use Rattle.dj_shape.specs.Handlers.{Handled}
-use Rattle.dj_shape.specs.Passing.{HasHandlerFrame, Case, IsCase, arriving, kept, Flowing}
-use Rattle.dj_shape.proofs.Parts.{to_goes, from_goes, to_jumps, from_jumps, to_handles, from_handles, to_handled, from_handled, or_not, from_or_not, or_so, from_or}
+use Rattle.dj_shape_rule.specs.declared.pass.Method.{Method}
+use Rattle.dj_shape_rule.specs.Reported.{reported_at}
+use Rattle.dj_shape_rule.specs.Flows.{FlowsTo}
+use Rattle.dj_shape_rule.specs.Handlers.{Handled}
+use Rattle.dj_shape_rule.specs.Passing.{HasHandlerFrame, Case, IsCase, arriving, kept, Flowing}
+use Rattle.dj_shape_rule.proofs.Parts.{to_goes, from_goes, to_jumps, from_jumps, to_handles, from_handles, to_handled, from_handled, or_not, from_or_not, or_so, from_or}
 
 -- ---- the state before an instruction
 

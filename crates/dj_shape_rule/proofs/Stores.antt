@@ -9,11 +9,11 @@ use Rattle.dj_model.specs.trusted.Values.{local_at, stored, with_second, without
 use Rattle.dj_model.specs.trusted.Kinds.{Kinds, depth}
 use Rattle.dj_model.specs.trusted.Shape.{is_kind, taken, leaving, with_result, gives, store_kind, same_result, result_list}
 use Rattle.dj_model.proofs.MappedNames.{either}
-use Rattle.dj_shape.specs.Needs.{IsChanged}
-use Rattle.dj_shape.specs.Forms.{StoresAt, around}
-use Rattle.dj_shape.specs.Passing.{ChangesOnly}
-use Rattle.dj_shape.specs.Works.{Work, Gives, Loads, Stores, Increments, Moves, Returns, Calls, Fails, work_of, performed, is_counted, arguments_of}
-use Rattle.dj_shape.proofs.Works.{after_work}
+use Rattle.dj_shape_rule.specs.Needs.{IsChanged}
+use Rattle.dj_shape_rule.specs.Forms.{StoresAt, around}
+use Rattle.dj_shape_rule.specs.Passing.{ChangesOnly}
+use Rattle.dj_shape_rule.specs.Works.{Work, Gives, Loads, Stores, Increments, Moves, Returns, Calls, Fails, work_of, performed, is_counted, arguments_of}
+use Rattle.dj_shape_rule.proofs.Works.{after_work}
 
 -- ---- a store
 

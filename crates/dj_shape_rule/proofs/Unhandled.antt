@@ -2,8 +2,8 @@
 use Rattle.std.proofs.Common.{◌≡◌, ℕ, zero, suc, ◌<◌, ◌⊎◌, min, List, [], ◌∷◌, ◌++◌, length, Option, Some, None, slice_get, refl, sym, ap, subst, inl, inr, arith}
 use Rattle.std.proofs.lemmas.Bool.{cases_lt}
 use Rattle.dj_labels.specs.declared.labelled.Protected.{Protected}
-use Rattle.dj_shape.specs.Reported.{ReportedFrames}
-use Rattle.dj_shape.specs.Passing.{HasHandlerFrame, IsUnhandled, IsFirstUnhandled, least_of}
+use Rattle.dj_shape_rule.specs.Reported.{ReportedFrames}
+use Rattle.dj_shape_rule.specs.Passing.{HasHandlerFrame, IsUnhandled, IsFirstUnhandled, least_of}
 
 kept_at : (rows : List Protected) (row : Protected) (k : ℕ) (r : Protected) → slice_get rows k ≡ Some r → slice_get (rows ++ row ∷ []) k ≡ Some r
 kept_at [] row k r at = absurd cc

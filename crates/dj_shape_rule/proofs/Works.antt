@@ -21,11 +21,11 @@ use Rattle.dj_model.specs.trusted.Kinds.{Signature, signature_with, signature_re
 use Rattle.dj_model.specs.trusted.Shape as shapes
 use Rattle.dj_model.specs.trusted.Shape.{after, taken, leaving, gives, store_kind, is_kind, same_result, result_list, get_kind, put_kind, counts, is_static_mode, call_kinds}
 use Rattle.dj_model.proofs.MappedNames.{either}
-use Rattle.dj_shape.specs.declared.effect.SlotWidth.{SlotWidth}
-use Rattle.dj_shape.specs.declared.effect.SlotWidth.TheVariants as slots
-use Rattle.dj_shape.specs.declared.effect.KindMovement.TheVariants as moves
-use Rattle.dj_shape.specs.Standing.{Standing, HasRoomOf, GivesResult, Leaves, Takes, room}
-use Rattle.dj_shape.specs.Works.{Work, Gives, Loads, Stores, Increments, Moves, Returns, Calls, Fails, got, put, call_work, is_counted, arguments_of, called, performed, work_of, cut_of, put_under, move_view}
+use Rattle.dj_shape_rule.specs.declared.effect.SlotWidth.{SlotWidth}
+use Rattle.dj_shape_rule.specs.declared.effect.SlotWidth.TheVariants as slots
+use Rattle.dj_shape_rule.specs.declared.effect.KindMovement.TheVariants as moves
+use Rattle.dj_shape_rule.specs.Standing.{Standing, HasRoomOf, GivesResult, Leaves, Takes, room}
+use Rattle.dj_shape_rule.specs.Works.{Work, Gives, Loads, Stores, Increments, Moves, Returns, Calls, Fails, got, put, call_work, is_counted, arguments_of, called, performed, work_of, cut_of, put_under, move_view}
 
 -- ---- operands
 

@@ -1,8 +1,8 @@
 -- Used by the code alone: slots of local variables, each above those before it.
 use Rattle.std.specs.Prelude.{◌≡◌, ℕ, zero, suc, ◌<◌, ◌≤◌, List, [], ◌∷◌, ◌++◌, length, Option, Some, None, slice_get}
 use Rattle.dj_names.specs.declared.descriptor.Kind.{Kind}
-use Rattle.dj_shape.specs.declared.arena.Slot.{Slot}
-use Rattle.dj_shape.specs.declared.arena.LocalsPlace.{LocalsPlace}
+use Rattle.dj_shape_rule.specs.declared.arena.Slot.{Slot}
+use Rattle.dj_shape_rule.specs.declared.arena.LocalsPlace.{LocalsPlace}
 
 -- the slot at which local variables end
 abbrev pub slot_at : List Slot → ℕ → Option Slot

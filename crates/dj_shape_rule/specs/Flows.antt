@@ -3,7 +3,7 @@ use Rattle.std.specs.Prelude.{◌≡◌, ℕ, ⊤, List, reverse, Option, Some, 
 use Rattle.dj_names.specs.declared.descriptor.Kind.{Kind}
 use Rattle.dj_model.specs.trusted.Values.{local_at}
 use Rattle.dj_model.specs.trusted.Kinds.{Kinds}
-use Rattle.dj_shape.specs.Reported.{Reported}
+use Rattle.dj_shape_rule.specs.Reported.{Reported}
 
 -- each local variable for which the second list has a kind has it in the first
 abbrev pub LocalsFlow : List (Option Kind) → List (Option Kind) → Type 0

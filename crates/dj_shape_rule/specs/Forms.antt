@@ -5,11 +5,11 @@ use Rattle.dj_ops.specs.declared.instruction.Instr.TheVariants as instrs
 use Rattle.dj_model.specs.trusted.Instructions.{Nothing, ends}
 use Rattle.dj_model.specs.trusted.Opcodes.{simple, operand_does, jump_rows}
 use Rattle.dj_model.specs.trusted.Kinds.{Kinds}
-use Rattle.dj_shape.specs.declared.needs.Changed.{Changed}
-use Rattle.dj_shape.specs.declared.needs.Changed.TheVariants as changes
-use Rattle.dj_shape.specs.Reported.{ReportedFrames, reported_at}
-use Rattle.dj_shape.specs.Flows.{FlowsToFrame}
-use Rattle.dj_shape.specs.Works.{Work, Stores}
+use Rattle.dj_shape_rule.specs.declared.needs.Changed.{Changed}
+use Rattle.dj_shape_rule.specs.declared.needs.Changed.TheVariants as changes
+use Rattle.dj_shape_rule.specs.Reported.{ReportedFrames, reported_at}
+use Rattle.dj_shape_rule.specs.Flows.{FlowsToFrame}
+use Rattle.dj_shape_rule.specs.Works.{Work, Stores}
 
 -- the slot in which it stores, where it does
 abbrev pub StoresAt : Option ℕ → Work → Type 0

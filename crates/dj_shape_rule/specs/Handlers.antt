@@ -3,12 +3,12 @@ use Rattle.std.specs.Prelude.{◌≡◌, ℕ, ◌+◌, ◌<◌, ◌≤◌, ◌�
 use Rattle.dj_names.specs.declared.descriptor.Kind.{Kind}
 use Rattle.dj_labels.specs.declared.labelled.Protected.{Protected}
 use Rattle.dj_model.specs.trusted.Values.{local_at}
-use Rattle.dj_shape.specs.declared.needs.Need.{Need}
-use Rattle.dj_shape.specs.declared.needs.Changed.{Changed}
-use Rattle.dj_shape.specs.declared.handlers.Handlers.{Handlers}
-use Rattle.dj_shape.specs.Flows.{LocalsFlow}
-use Rattle.dj_shape.specs.Needs.{need_at, Meets, IsChanged, AreSame, AreRaised}
-use Rattle.dj_shape.specs.Reported.{Reported, ReportedFrames, reported_at}
+use Rattle.dj_shape_rule.specs.declared.needs.Need.{Need}
+use Rattle.dj_shape_rule.specs.declared.needs.Changed.{Changed}
+use Rattle.dj_shape_rule.specs.declared.handlers.Handlers.{Handlers}
+use Rattle.dj_shape_rule.specs.Flows.{LocalsFlow}
+use Rattle.dj_shape_rule.specs.Needs.{need_at, Meets, IsChanged, AreSame, AreRaised}
+use Rattle.dj_shape_rule.specs.Reported.{Reported, ReportedFrames, reported_at}
 
 -- the frame of the handler of a range has this kind for the local variable
 pub record Says (frames : ReportedFrames) (row : Protected) (slot : ℕ) (kind : Kind) : Type 0 where

@@ -8,12 +8,12 @@ use Rattle.dj_model.specs.trusted.Program.{Code}
 use Rattle.dj_model.specs.trusted.Kinds.{Signature}
 use Rattle.dj_model.specs.trusted.Shape.{first_kinds, IsShapeFault}
 use Rattle.dj_model.specs.Shape.{HasShape}
-use Rattle.dj_shape.specs.declared.judge.ShapeFault.{ShapeFault}
-use Rattle.dj_shape.specs.Kept.{KeptKinds}
-use Rattle.dj_shape.specs.Pools.{ArePoolKinds}
-use Rattle.dj_shape.specs.Standing.{Standing, HasRoomOf}
-use Rattle.dj_shape.specs.Reported.{ReportedFrames, AreReported}
-use Rattle.dj_shape.specs.Passing.{Case}
+use Rattle.dj_shape_rule.specs.declared.judge.ShapeFault.{ShapeFault}
+use Rattle.dj_shape_rule.specs.Kept.{KeptKinds}
+use Rattle.dj_shape_rule.specs.Pools.{ArePoolKinds}
+use Rattle.dj_shape_rule.specs.Standing.{Standing, HasRoomOf}
+use Rattle.dj_shape_rule.specs.Reported.{ReportedFrames, AreReported}
+use Rattle.dj_shape_rule.specs.Passing.{Case}
 
 -- the code of the case is this code, whose frames were read, and before its first instruction these kinds stand
 pub record IsJudged (kinds : KeptKinds) (returned : Option Kind) (code : MethodCode) (frames : ReportedFrames) (state : Standing) (c : Case) : Type 0 where

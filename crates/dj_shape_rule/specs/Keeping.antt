@@ -6,8 +6,8 @@ use Rattle.dj_names.specs.declared.descriptor.Kind.TheVariants as kinds
 use Rattle.dj_names.specs.trusted.DescReading.{desc_read}
 use Rattle.dj_pool.specs.trusted.Pool.{Constant, Utf8, Integer, Long, Class, Text, Field, Method, InterfaceMethod, constant_at, names_of, desc_at}
 use Rattle.dj_model.specs.trusted.Kinds.{Signature, call_signature}
-use Rattle.dj_shape.specs.declared.pool.ConstantKind.{ConstantKind}
-use Rattle.dj_shape.specs.declared.pool.ConstantKind.TheVariants as constants
+use Rattle.dj_shape_rule.specs.declared.pool.ConstantKind.{ConstantKind}
+use Rattle.dj_shape_rule.specs.declared.pool.ConstantKind.TheVariants as constants
 
 -- the kind of a field with this descriptor, by the descriptor's first byte
 abbrev pub text_kind : List ℕ → Option Kind

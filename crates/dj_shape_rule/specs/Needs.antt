@@ -3,9 +3,9 @@ use Rattle.std.specs.Prelude.{◌≡◌, ℕ, ◌<◌, ◌≤◌, ⊤, List, get
 use Rattle.dj_names.specs.declared.descriptor.Kind.{Kind}
 use Rattle.dj_names.specs.declared.descriptor.Kind.TheVariants as kinds
 use Rattle.dj_model.specs.trusted.Values.{local_at}
-use Rattle.dj_shape.specs.declared.needs.Need.{Need}
-use Rattle.dj_shape.specs.declared.needs.Changed.{Changed}
-use Rattle.dj_shape.specs.declared.needs.Changed.TheVariants as changes
+use Rattle.dj_shape_rule.specs.declared.needs.Need.{Need}
+use Rattle.dj_shape_rule.specs.declared.needs.Changed.{Changed}
+use Rattle.dj_shape_rule.specs.declared.needs.Changed.TheVariants as changes
 
 abbrev pub no_need : Need
 no_need = record { until = 0; kind = kinds.Int }

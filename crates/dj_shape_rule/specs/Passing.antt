@@ -10,16 +10,16 @@ use Rattle.dj_model.specs.trusted.Instructions.{Instruction, Other, ends, target
 use Rattle.dj_model.specs.trusted.Values.{local_at}
 use Rattle.dj_model.specs.trusted.Kinds.{Kinds, Signature, Placed}
 use Rattle.dj_model.specs.trusted.Shape.{after, first_kinds, goes_on_with, state_before, HoldsAt, IsFirstFault}
-use Rattle.dj_shape.specs.declared.needs.Changed.{Changed}
-use Rattle.dj_shape.specs.declared.needs.Changed.TheVariants as changes
-use Rattle.dj_shape.specs.declared.pass.Method.{Method}
-use Rattle.dj_shape.specs.declared.pass.Pass.{Pass}
-use Rattle.dj_shape.specs.Pools.{ArePoolKinds}
-use Rattle.dj_shape.specs.Standing.{HasRoomOf, standing_in}
-use Rattle.dj_shape.specs.Reported.{Reported, ReportedFrames, reported_at, AreReported}
-use Rattle.dj_shape.specs.Flows.{Flows, FlowsTo, FlowsToFrame}
-use Rattle.dj_shape.specs.Needs.{IsChanged}
-use Rattle.dj_shape.specs.Handlers.{IsKnownBut}
+use Rattle.dj_shape_rule.specs.declared.needs.Changed.{Changed}
+use Rattle.dj_shape_rule.specs.declared.needs.Changed.TheVariants as changes
+use Rattle.dj_shape_rule.specs.declared.pass.Method.{Method}
+use Rattle.dj_shape_rule.specs.declared.pass.Pass.{Pass}
+use Rattle.dj_shape_rule.specs.Pools.{ArePoolKinds}
+use Rattle.dj_shape_rule.specs.Standing.{HasRoomOf, standing_in}
+use Rattle.dj_shape_rule.specs.Reported.{Reported, ReportedFrames, reported_at, AreReported}
+use Rattle.dj_shape_rule.specs.Flows.{Flows, FlowsTo, FlowsToFrame}
+use Rattle.dj_shape_rule.specs.Needs.{IsChanged}
+use Rattle.dj_shape_rule.specs.Handlers.{IsKnownBut}
 
 -- ---- what an instruction's form says, whatever its index names
 

@@ -3,9 +3,9 @@ use Rattle.std.specs.Prelude.{◌≡◌, ℕ, Bool, true, false, List, get_or, O
 use Rattle.std.specs.Ordering.{nat_cmp}
 use Rattle.std.specs.BTreeMap.{BTreeMap, get}
 use Rattle.dj_model.specs.trusted.Linking.{or_else}
-use Rattle.dj_shape.specs.declared.arena.Slot.{Slot}
-use Rattle.dj_shape.specs.declared.frames.KeptFrame.{KeptFrame}
-use Rattle.dj_shape.specs.Arena.{IsIn}
+use Rattle.dj_shape_rule.specs.declared.arena.Slot.{Slot}
+use Rattle.dj_shape_rule.specs.declared.frames.KeptFrame.{KeptFrame}
+use Rattle.dj_shape_rule.specs.Arena.{IsIn}
 
 abbrev pub kept_at : BTreeMap ℕ KeptFrame → ℕ → Option KeptFrame
 kept_at reported number = get nat_cmp reported number

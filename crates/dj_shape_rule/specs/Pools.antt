@@ -5,12 +5,12 @@ use Rattle.dj_pool.specs.trusted.Pool.{Constant}
 use Rattle.dj_model.specs.trusted.Types.{Member}
 use Rattle.dj_model.specs.trusted.Instructions.{Named, Nothing, AnInt, ALong, AText, AClass, AField, AMethod, AnInterfaceMethod, Another}
 use Rattle.dj_model.specs.trusted.Kinds.{Signature, call_signature}
-use Rattle.dj_declared.specs.trusted.Files.{desc_in, name_in}
-use Rattle.dj_declared.specs.Members.{IsDescriptor}
+use Rattle.dj_declarations.specs.trusted.Files.{desc_in, name_in}
+use Rattle.dj_declarations.specs.Members.{IsDescriptor}
 use Rattle.dj_program.specs.trusted.Naming.{named_at}
-use Rattle.dj_shape.specs.Kept.{KeptKinds}
-use Rattle.dj_shape.specs.declared.pool.ConstantKind.{ConstantKind}
-use Rattle.dj_shape.specs.declared.pool.ConstantKind.TheVariants as constants
+use Rattle.dj_shape_rule.specs.Kept.{KeptKinds}
+use Rattle.dj_shape_rule.specs.declared.pool.ConstantKind.{ConstantKind}
+use Rattle.dj_shape_rule.specs.declared.pool.ConstantKind.TheVariants as constants
 
 -- the kinds of a call of the method whose descriptor is kept at this index
 abbrev pub call_at : List (Option Signature) → ℕ → Option Signature

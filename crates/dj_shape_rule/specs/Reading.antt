@@ -10,12 +10,12 @@ use Rattle.dj_ops.specs.declared.frames.Frame.{Frame}
 use Rattle.dj_model.specs.trusted.Instructions.{Instruction, Nop, New}
 use Rattle.dj_model.specs.trusted.Program.{Code}
 use Rattle.dj_model.specs.trusted.Kinds.{Signature, Entry, Of, NoEntry, Entries, stack_of, fitting, entry_slots, frames_after, Map, Read, Faulty, and_then, Placed, Kinds, depth}
-use Rattle.dj_shape.specs.declared.arena.Slot.{Slot}
-use Rattle.dj_shape.specs.declared.arena.LocalsPlace.{LocalsPlace}
-use Rattle.dj_shape.specs.declared.frames.KeptFrame.{KeptFrame}
-use Rattle.dj_shape.specs.declared.reading.Reader.{Reader}
-use Rattle.dj_shape.specs.Arena.{IsAt, IsIn}
-use Rattle.dj_shape.specs.Reported.{Reported, ReportedFrames, AreReported, reported_in, reported_kinds}
+use Rattle.dj_shape_rule.specs.declared.arena.Slot.{Slot}
+use Rattle.dj_shape_rule.specs.declared.arena.LocalsPlace.{LocalsPlace}
+use Rattle.dj_shape_rule.specs.declared.frames.KeptFrame.{KeptFrame}
+use Rattle.dj_shape_rule.specs.declared.reading.Reader.{Reader}
+use Rattle.dj_shape_rule.specs.Arena.{IsAt, IsIn}
+use Rattle.dj_shape_rule.specs.Reported.{Reported, ReportedFrames, AreReported, reported_in, reported_kinds}
 
 -- an instruction, as far as reading frames needs to know it: whether it makes an object
 abbrev pub made_as : Bool → Instruction

@@ -7,11 +7,11 @@ use Rattle.dj_names.specs.declared.descriptor.Kind.{Kind}
 use Rattle.dj_model.specs.trusted.Initialisation.{padded}
 use Rattle.dj_model.specs.trusted.Linking.{or_else}
 use Rattle.dj_model.specs.trusted.Kinds.{Kinds, Placed, depth, placed_at}
-use Rattle.dj_shape.specs.declared.arena.Slot.{Slot}
-use Rattle.dj_shape.specs.declared.frames.KeptFrame.{KeptFrame}
-use Rattle.dj_shape.specs.declared.frames.LentFrame.{LentFrame}
-use Rattle.dj_shape.specs.declared.frames.KeptFrames.{KeptFrames}
-use Rattle.dj_shape.specs.Arena.{slots_at, Extends}
+use Rattle.dj_shape_rule.specs.declared.arena.Slot.{Slot}
+use Rattle.dj_shape_rule.specs.declared.frames.KeptFrame.{KeptFrame}
+use Rattle.dj_shape_rule.specs.declared.frames.LentFrame.{LentFrame}
+use Rattle.dj_shape_rule.specs.declared.frames.KeptFrames.{KeptFrames}
+use Rattle.dj_shape_rule.specs.Arena.{slots_at, Extends}
 
 -- the kinds of a frame: local variables in their slots, of which those after the last have no kind, and operands, the top last
 pub record Reported : Type 0 where

@@ -4,7 +4,7 @@ use Rattle.dj_model.specs.trusted.Program.{Code}
 use Rattle.dj_model.specs.trusted.Kinds.{Signature}
 use Rattle.dj_model.specs.trusted.Shape.{IsShapeFault}
 use Rattle.dj_model.specs.Shape.{HasShape}
-use Rattle.dj_shape.specs.declared.judge.ShapeFault.{ShapeFault}
+use Rattle.dj_shape_rule.specs.declared.judge.ShapeFault.{ShapeFault}
 
 -- code has shape, or this is its first fault
 abbrev pub IsShapeAnswer : Signature → Code → Option ShapeFault → Type 0

@@ -6,8 +6,8 @@ use Rattle.dj_model.specs.trusted.Initialisation.{padded}
 use Rattle.dj_model.specs.trusted.Kinds.{Kinds, Signature, depth}
 use Rattle.dj_model.specs.trusted.Shape.{taken}
 use Rattle.dj_model.specs.trusted.Values.{Cut}
-use Rattle.dj_shape.specs.declared.state.KindPiece.{KindPiece}
-use Rattle.dj_shape.specs.declared.state.KindPiece.TheVariants as pieces
+use Rattle.dj_shape_rule.specs.declared.state.KindPiece.{KindPiece}
+use Rattle.dj_shape_rule.specs.declared.state.KindPiece.TheVariants as pieces
 
 -- the kinds of the local variables and of the operands, with the room that there is for them
 pub record Standing : Type 0 where

@@ -11,15 +11,15 @@ use Rattle.dj_model.specs.trusted.Values.{Cut, one_slot, two_slots, under, local
 use Rattle.dj_model.specs.trusted.Arrays.{access_kind}
 use Rattle.dj_model.specs.trusted.Kinds.{Signature, call_signature, Kinds, depth}
 use Rattle.dj_model.specs.trusted.Shape.{is_kind, leaving, gives, store_kind, same_result, result_list, is_static_mode}
-use Rattle.dj_shape.specs.Pools.{call_at}
-use Rattle.dj_shape.specs.declared.pool.ConstantKind.{ConstantKind}
-use Rattle.dj_shape.specs.declared.pool.ConstantKind.TheVariants as constants
-use Rattle.dj_shape.specs.declared.effect.SlotWidth.{SlotWidth}
-use Rattle.dj_shape.specs.declared.effect.SlotWidth.TheVariants as slots
-use Rattle.dj_shape.specs.declared.effect.KindMovement.{KindMovement}
-use Rattle.dj_shape.specs.declared.effect.KindMovement.TheVariants as moves
-use Rattle.dj_shape.specs.declared.effect.Effect.{Effect}
-use Rattle.dj_shape.specs.declared.effect.Effect.TheVariants as effects
+use Rattle.dj_shape_rule.specs.Pools.{call_at}
+use Rattle.dj_shape_rule.specs.declared.pool.ConstantKind.{ConstantKind}
+use Rattle.dj_shape_rule.specs.declared.pool.ConstantKind.TheVariants as constants
+use Rattle.dj_shape_rule.specs.declared.effect.SlotWidth.{SlotWidth}
+use Rattle.dj_shape_rule.specs.declared.effect.SlotWidth.TheVariants as slots
+use Rattle.dj_shape_rule.specs.declared.effect.KindMovement.{KindMovement}
+use Rattle.dj_shape_rule.specs.declared.effect.KindMovement.TheVariants as moves
+use Rattle.dj_shape_rule.specs.declared.effect.Effect.{Effect}
+use Rattle.dj_shape_rule.specs.declared.effect.Effect.TheVariants as effects
 
 -- what an instruction does to kinds
 pub data Work : Type 0 where

@@ -7,9 +7,9 @@ ghost use Rattle.dj_model.specs.trusted.Instructions.{Instruction};
 ghost use Rattle.dj_model.specs.trusted.Kinds.{Signature};
 ghost use Rattle.dj_model.specs.trusted.Values.{local_at};
 ghost use Rattle.dj_model.specs.trusted.Shape.{after, gives, is_kind, result_list, same_result, taken};
-ghost use Rattle.dj_shape.specs.Pools.{ArePoolKinds, call_at};
-ghost use Rattle.dj_shape.specs.Standing.{HasRoomOf, SameRoom, SameLocals, Leaves, GivesResult, room};
-ghost use Rattle.dj_shape.specs.Works.{arguments_of, called, is_counted, performed, work_of, work_view};
+ghost use Rattle.dj_shape_rule.specs.Pools.{ArePoolKinds, call_at};
+ghost use Rattle.dj_shape_rule.specs.Standing.{HasRoomOf, SameRoom, SameLocals, Leaves, GivesResult, room};
+ghost use Rattle.dj_shape_rule.specs.Works.{arguments_of, called, is_counted, performed, work_of, work_view};
 
 use crate::effect::{
     Effect, array_effect, class_effect, interface_effect, jump_effect, literal_effect,

@@ -1,5 +1,5 @@
 ghost use Rattle.std.specs.Prelude.{◌≡◌, ◌+◌, ◌^◌, ◌<◌, ◌∷◌, ◌++◌, [], length, IfOk, MatchOption};
-ghost use Rattle.dj_shape.specs.Arena.{AreLinked, Extends, IsAt, IsIn, slot_at, slots_at};
+ghost use Rattle.dj_shape_rule.specs.Arena.{AreLinked, Extends, IsAt, IsIn, slot_at, slots_at};
 
 use crate::error::ShapeError;
 use dj_names::Kind;
@@ -31,7 +31,7 @@ pub struct Locals<'a> {
 impl<'a> Model for Locals<'a> {
     ghost use Rattle.std.specs.Prelude.{List, Option};
     ghost use Rattle.dj_names.specs.declared.descriptor.Kind.{Kind};
-    ghost use Rattle.dj_shape.specs.Arena.{AreLinked, IsIn, slots_at};
+    ghost use Rattle.dj_shape_rule.specs.Arena.{AreLinked, IsIn, slots_at};
 
     ghost Value = { List (Option Kind) };
 

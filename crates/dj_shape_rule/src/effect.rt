@@ -2,8 +2,8 @@ ghost use Rattle.std.specs.Prelude.{◌≡◌, ℕ, List, Option, Some, None};
 ghost use Rattle.dj_model.specs.trusted.Instructions.{Nothing};
 ghost use Rattle.dj_model.specs.trusted.Kinds.{Signature};
 ghost use Rattle.dj_model.specs.trusted.Opcodes.{array_rows, bit_rows, constant_rows, jump_rows, last_rows, local_rows, new_array, number_rows, operand_does, row_does, simple, stack_rows, store_rows};
-ghost use Rattle.dj_shape.specs.Pools.{call_at};
-ghost use Rattle.dj_shape.specs.Works.{Calls, class_work, field_work, interface_method_work, interface_work, literal_work, member_work, method_work, work_of, work_view};
+ghost use Rattle.dj_shape_rule.specs.Pools.{call_at};
+ghost use Rattle.dj_shape_rule.specs.Works.{Calls, class_work, field_work, interface_method_work, interface_work, literal_work, member_work, method_work, work_of, work_view};
 
 use crate::pool::ConstantKind;
 use dj_names::Kind;

@@ -12,7 +12,7 @@ pub enum ShapeError {
 }
 
 impl From<AllocError> for ShapeError {
-    ghost use Rattle.dj_shape.specs.declared.error.ShapeError.TheVariants.{Memory};
+    ghost use Rattle.dj_shape_rule.specs.declared.error.ShapeError.TheVariants.{Memory};
 
     ghost from_gives = { λ _ e. e ≡ Memory };
 
@@ -22,7 +22,7 @@ impl From<AllocError> for ShapeError {
 }
 
 impl<T: Drop> From<AllocFailed<T>> for ShapeError {
-    ghost use Rattle.dj_shape.specs.declared.error.ShapeError.TheVariants.{Memory};
+    ghost use Rattle.dj_shape_rule.specs.declared.error.ShapeError.TheVariants.{Memory};
 
     ghost from_gives = { λ _ e. e ≡ Memory };
 

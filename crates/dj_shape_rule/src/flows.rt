@@ -1,8 +1,8 @@
 ghost use Rattle.std.specs.Prelude.{◌≡◌, Decides, Some};
 ghost use Rattle.dj_names.specs.declared.descriptor.Kind.{Kind};
 ghost use Rattle.dj_model.specs.trusted.Values.{local_at};
-ghost use Rattle.dj_shape.specs.Flows.{Flows, FlowsTo, FlowsToFrame, LocalsFlow};
-ghost use Rattle.dj_shape.specs.Reported.{reported_at, reported_by};
+ghost use Rattle.dj_shape_rule.specs.Flows.{Flows, FlowsTo, FlowsToFrame, LocalsFlow};
+ghost use Rattle.dj_shape_rule.specs.Reported.{reported_at, reported_by};
 
 use crate::arena::Locals;
 use crate::frames::{KeptFrames, LentFrame};

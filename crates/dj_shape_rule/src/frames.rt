@@ -1,6 +1,6 @@
 ghost use Rattle.std.specs.Prelude.{◌≡◌, ℕ, true, false, get_or, IfErr, IfOk};
-ghost use Rattle.dj_shape.specs.Arena.{AreLinked};
-ghost use Rattle.dj_shape.specs.Placing.{AreMarked, ArePlaced, HasOneMore, HasSame};
+ghost use Rattle.dj_shape_rule.specs.Arena.{AreLinked};
+ghost use Rattle.dj_shape_rule.specs.Placing.{AreMarked, ArePlaced, HasOneMore, HasSame};
 
 use crate::arena::{Locals, LocalsPlace, Slot, add_slot};
 use crate::error::ShapeError;
@@ -72,8 +72,8 @@ fn mark(marked: &mut [bool], number: u64)
 
 impl KeptFrames {
     ghost use Rattle.std.specs.Prelude.{◌≡◌, ℕ, false, ◌∷◌, ◌++◌, [], None, Some, IfOk, MatchOption};
-    ghost use Rattle.dj_shape.specs.Arena.{IsAt, IsIn, slots_at};
-    ghost use Rattle.dj_shape.specs.Reported.{Grows, IsKept, reported_at, reported_by, reported_in};
+    ghost use Rattle.dj_shape_rule.specs.Arena.{IsAt, IsIn, slots_at};
+    ghost use Rattle.dj_shape_rule.specs.Reported.{Grows, IsKept, reported_at, reported_by, reported_in};
 
     /// No frames, of code with this many instructions.
     pub fn new(alloc: Global, count: usize) -> Result<KeptFrames, ShapeError>

@@ -1,8 +1,8 @@
 ghost use Rattle.std.specs.Prelude.{◌≡◌, List, Contains, Option, IfOk};
 ghost use Rattle.dj_names.specs.declared.descriptor.Kind.{Kind};
 ghost use Rattle.dj_labels.specs.declared.labelled.Protected.{Protected};
-ghost use Rattle.dj_shape.specs.Reported.{ReportedFrames};
-ghost use Rattle.dj_shape.specs.Handlers.{AreRising, Begins, Enters, IsKnown, IsKnownBut, MeetAll, Stands};
+ghost use Rattle.dj_shape_rule.specs.Reported.{ReportedFrames};
+ghost use Rattle.dj_shape_rule.specs.Handlers.{AreRising, Begins, Enters, IsKnown, IsKnownBut, MeetAll, Stands};
 
 use crate::error::ShapeError;
 use crate::flows::locals_flow;

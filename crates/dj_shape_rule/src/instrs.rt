@@ -4,10 +4,10 @@ ghost use Rattle.dj_program.specs.trusted.Naming.{instruction_in};
 ghost use Rattle.dj_model.specs.trusted.Instructions.{Instruction, Nothing, ends, targets};
 ghost use Rattle.dj_model.specs.trusted.Kinds.{Signature};
 ghost use Rattle.dj_model.specs.trusted.Opcodes.{jump_rows, last_rows, operand_does, row_does, simple};
-ghost use Rattle.dj_shape.specs.Forms.{FlowsAt, FormFlows, StoresAt, around, form_ends};
-ghost use Rattle.dj_shape.specs.Makes.{form_makes, is_class};
-ghost use Rattle.dj_shape.specs.Passing.{ChangesOnly, IsRun, JumpsFlow};
-ghost use Rattle.dj_shape.specs.Works.{work_of, work_view};
+ghost use Rattle.dj_shape_rule.specs.Forms.{FlowsAt, FormFlows, StoresAt, around, form_ends};
+ghost use Rattle.dj_shape_rule.specs.Makes.{form_makes, is_class};
+ghost use Rattle.dj_shape_rule.specs.Passing.{ChangesOnly, IsRun, JumpsFlow};
+ghost use Rattle.dj_shape_rule.specs.Works.{work_of, work_view};
 
 use crate::effect::Effect;
 use crate::flows::flows_to_frame;

@@ -1,16 +1,16 @@
 ghost use Rattle.std.specs.Prelude.{◌≡◌, ◌<◌, ◌^◌, ◌++◌, length, map, List, Some, IfOk};
 ghost use Rattle.dj_pool.specs.trusted.Pool.{Constant};
 ghost use Rattle.dj_model.specs.trusted.Kinds.{Signature};
-ghost use Rattle.dj_declared.specs.trusted.Files.{name_in};
-ghost use Rattle.dj_declared.specs.Members.{IsDescriptor};
+ghost use Rattle.dj_declarations.specs.trusted.Files.{name_in};
+ghost use Rattle.dj_declarations.specs.Members.{IsDescriptor};
 ghost use Rattle.dj_program.specs.trusted.Codes.{code_in};
 ghost use Rattle.dj_program.specs.Views.{parts_of};
-ghost use Rattle.dj_shape.specs.Judging.{IsFaultOf, IsJudged, fault_reported};
-ghost use Rattle.dj_shape.specs.Passing.{Case, IsFirst};
-ghost use Rattle.dj_shape.specs.Pools.{ArePoolKinds};
-ghost use Rattle.dj_shape.specs.Reading.{entries_with, signature_with};
-ghost use Rattle.dj_shape.specs.trusted.Rule.{signature_at};
-ghost use Rattle.dj_shape.specs.Rule.{IsShapeAnswer};
+ghost use Rattle.dj_shape_rule.specs.Judging.{IsFaultOf, IsJudged, fault_reported};
+ghost use Rattle.dj_shape_rule.specs.Passing.{Case, IsFirst};
+ghost use Rattle.dj_shape_rule.specs.Pools.{ArePoolKinds};
+ghost use Rattle.dj_shape_rule.specs.Reading.{entries_with, signature_with};
+ghost use Rattle.dj_shape_rule.specs.trusted.Rule.{signature_at};
+ghost use Rattle.dj_shape_rule.specs.Rule.{IsShapeAnswer};
 
 use crate::error::ShapeError;
 use crate::frames::KeptFrames;

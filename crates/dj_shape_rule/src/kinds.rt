@@ -3,7 +3,7 @@ ghost use Rattle.dj_model.specs.trusted.Kinds.{kind_slots, depth};
 ghost use Rattle.dj_model.specs.trusted.Numbers.{is_wide, same_kind};
 ghost use Rattle.dj_model.specs.trusted.Shape.{is_kind, same_result};
 ghost use Rattle.dj_model.specs.trusted.Values.{is_some_wide, last_slot, local_at, stored, without_half};
-ghost use Rattle.dj_shape.specs.Standing.{IsWithin, ArePadded};
+ghost use Rattle.dj_shape_rule.specs.Standing.{IsWithin, ArePadded};
 
 use crate::error::ShapeError;
 use dj_names::Kind;

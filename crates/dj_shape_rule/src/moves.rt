@@ -2,8 +2,8 @@ ghost use Rattle.std.specs.Prelude.{◌++◌, Some, IfOk};
 ghost use Rattle.dj_model.specs.trusted.Numbers.{is_wide};
 ghost use Rattle.dj_model.specs.trusted.Shape.{leaving};
 ghost use Rattle.dj_model.specs.trusted.Values.{below, doubled, dropped, moved, one_slot, swapped, under};
-ghost use Rattle.dj_shape.specs.Standing.{SameRoom, SameLocals, Leaves, IsCut, piece_kinds, room};
-ghost use Rattle.dj_shape.specs.Works.{cut_of, move_view, put_under};
+ghost use Rattle.dj_shape_rule.specs.Standing.{SameRoom, SameLocals, Leaves, IsCut, piece_kinds, room};
+ghost use Rattle.dj_shape_rule.specs.Works.{cut_of, move_view, put_under};
 
 use crate::effect::{KindMovement, SlotWidth};
 use crate::error::ShapeError;

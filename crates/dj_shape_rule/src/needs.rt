@@ -1,6 +1,6 @@
 ghost use Rattle.std.specs.Prelude.{◌≡◌, ℕ, ◌<◌, ◌≤◌, length, IfOk, MatchBool};
 ghost use Rattle.dj_model.specs.trusted.Values.{local_at};
-ghost use Rattle.dj_shape.specs.Needs.{AreRaised, AreSame, IsChanged, Meets, MissesOne, need_at, raised};
+ghost use Rattle.dj_shape_rule.specs.Needs.{AreRaised, AreSame, IsChanged, Meets, MissesOne, need_at, raised};
 
 use crate::arena::Locals;
 use crate::error::ShapeError;

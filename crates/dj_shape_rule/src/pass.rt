@@ -3,12 +3,12 @@ ghost use Rattle.dj_labels.specs.declared.labelled.Protected.{Protected};
 ghost use Rattle.dj_pool.specs.trusted.Pool.{Constant};
 ghost use Rattle.dj_program.specs.trusted.Naming.{instruction_in};
 ghost use Rattle.dj_model.specs.trusted.Shape.{first_kinds};
-ghost use Rattle.dj_shape.specs.Flows.{FlowsTo};
-ghost use Rattle.dj_shape.specs.Handlers.{Enters, IsKnownBut};
-ghost use Rattle.dj_shape.specs.Passing.{Answers, Before, Case, HasHandlerFrame, IsCase, IsFirst, IsFirstUnhandled, Leaving, MeetsFrame, least_of};
-ghost use Rattle.dj_shape.specs.Standing.{HasRoomOf, SameRoom};
-ghost use Rattle.dj_shape.specs.Reported.{reported_at};
-ghost use Rattle.dj_shape.specs.Works.{work_of, work_view};
+ghost use Rattle.dj_shape_rule.specs.Flows.{FlowsTo};
+ghost use Rattle.dj_shape_rule.specs.Handlers.{Enters, IsKnownBut};
+ghost use Rattle.dj_shape_rule.specs.Passing.{Answers, Before, Case, HasHandlerFrame, IsCase, IsFirst, IsFirstUnhandled, Leaving, MeetsFrame, least_of};
+ghost use Rattle.dj_shape_rule.specs.Standing.{HasRoomOf, SameRoom};
+ghost use Rattle.dj_shape_rule.specs.Reported.{reported_at};
+ghost use Rattle.dj_shape_rule.specs.Works.{work_of, work_view};
 
 use crate::apply::{apply, effect_of};
 use crate::effect::Effect;

@@ -5,9 +5,9 @@ ghost use Rattle.dj_pool.specs.trusted.Pool.{IsPool, desc_at};
 ghost use Rattle.dj_pool.specs.Views.{constant_of};
 ghost use Rattle.dj_model.specs.trusted.Kinds.{call_signature, signature_with};
 ghost use Rattle.dj_model.specs.trusted.Members.{kinds_of};
-ghost use Rattle.dj_shape.specs.Keeping.{all_calls, all_kinds, call_by, desc_index_at, kind_by, text_call, text_kind};
-ghost use Rattle.dj_shape.specs.Pools.{ArePoolKinds, call_at};
-ghost use Rattle.dj_shape.specs.declared.pool.ConstantKind.TheVariants as constants;
+ghost use Rattle.dj_shape_rule.specs.Keeping.{all_calls, all_kinds, call_by, desc_index_at, kind_by, text_call, text_kind};
+ghost use Rattle.dj_shape_rule.specs.Pools.{ArePoolKinds, call_at};
+ghost use Rattle.dj_shape_rule.specs.declared.pool.ConstantKind.TheVariants as constants;
 
 use crate::error::ShapeError;
 use dj_names::{Desc, DescError, Kind, Ty, kind_of, read_desc};
@@ -70,7 +70,7 @@ pub struct PoolKinds {
 }
 
 impl Model for PoolKinds {
-    ghost use Rattle.dj_shape.specs.Kept.{KeptKinds};
+    ghost use Rattle.dj_shape_rule.specs.Kept.{KeptKinds};
 
     ghost Value = { KeptKinds };
 

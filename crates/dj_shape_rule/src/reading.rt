@@ -6,12 +6,12 @@ ghost use Rattle.dj_ops.specs.declared.frames.Form.TheVariants as forms;
 ghost use Rattle.dj_model.specs.trusted.Program.{Code};
 ghost use Rattle.dj_model.specs.trusted.Instructions.{makes_uninitialised};
 ghost use Rattle.dj_model.specs.trusted.Kinds.{entries_of, entry_of, entry_slots, form_entries, made_by, stack_of};
-ghost use Rattle.dj_shape.specs.declared.arena.Slot.{Slot};
-ghost use Rattle.dj_shape.specs.Arena.{IsAt, IsIn, slots_at};
-ghost use Rattle.dj_shape.specs.Makes.{form_makes};
-ghost use Rattle.dj_shape.specs.Pools.{ArePoolKinds};
-ghost use Rattle.dj_shape.specs.Reading.{ArePlaces, AreRead, ChangesTo, Gains, IsFrameRead, IsReading, entry_view, frame_code, kept_entries, made_as};
-ghost use Rattle.dj_shape.specs.Reported.{Grows, reported_at};
+ghost use Rattle.dj_shape_rule.specs.declared.arena.Slot.{Slot};
+ghost use Rattle.dj_shape_rule.specs.Arena.{IsAt, IsIn, slots_at};
+ghost use Rattle.dj_shape_rule.specs.Makes.{form_makes};
+ghost use Rattle.dj_shape_rule.specs.Pools.{ArePoolKinds};
+ghost use Rattle.dj_shape_rule.specs.Reading.{ArePlaces, AreRead, ChangesTo, Gains, IsFrameRead, IsReading, entry_view, frame_code, kept_entries, made_as};
+ghost use Rattle.dj_shape_rule.specs.Reported.{Grows, reported_at};
 
 use crate::arena::{Locals, LocalsPlace};
 use crate::error::ShapeError;
@@ -33,7 +33,7 @@ pub struct ObjectMakers<'a> {
 
 impl<'a> Model for ObjectMakers<'a> {
     ghost use Rattle.std.specs.Prelude.{Bool, List, map};
-    ghost use Rattle.dj_shape.specs.Makes.{form_makes};
+    ghost use Rattle.dj_shape_rule.specs.Makes.{form_makes};
 
     ghost Value = { List Bool };
 

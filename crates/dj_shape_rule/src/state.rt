@@ -5,7 +5,7 @@ ghost use Rattle.dj_model.specs.trusted.Kinds.{depth};
 ghost use Rattle.dj_model.specs.trusted.Numbers.{is_wide};
 ghost use Rattle.dj_model.specs.trusted.Shape.{gives, leaving, store_kind, taken, with_result};
 ghost use Rattle.dj_model.specs.trusted.Values.{local_at, one_slot, two_slots};
-ghost use Rattle.dj_shape.specs.Standing.{SameRoom, SameLocals, Takes, Leaves, IsCut, no_kinds, piece_kinds, room, standing_in};
+ghost use Rattle.dj_shape_rule.specs.Standing.{SameRoom, SameLocals, Takes, Leaves, IsCut, no_kinds, piece_kinds, room, standing_in};
 
 use crate::arena::Locals;
 use crate::error::ShapeError;
@@ -37,7 +37,7 @@ pub struct KindState {
 impl Model for KindState {
     ghost use Rattle.std.specs.Prelude.{◌≡◌, ◌≤◌, reverse, vec_len};
     ghost use Rattle.dj_model.specs.trusted.Initialisation.{padded};
-    ghost use Rattle.dj_shape.specs.Standing.{Standing, IsDepth};
+    ghost use Rattle.dj_shape_rule.specs.Standing.{Standing, IsDepth};
 
     ghost Value = { Standing };
 

@@ -11,8 +11,8 @@ use Rattle.dj_model.specs.trusted.Libraries.{joined, library_class, library_meth
 use Rattle.dj_model.specs.Libraries.{metered_program, sandbox_program}
 use Rattle.dj_model.specs.Standing.{AsksNothing}
 use Rattle.dj_model.proofs.QuietLibraries.{to_asks, metered_asks_nothing, sandbox_asks_nothing}
-use Rattle.dj_classes.proofs.Joins.{joined-append}
-use Rattle.dj_classes.proofs.Rising.{members_joined}
+use Rattle.dj_class_table.proofs.Joins.{joined-append}
+use Rattle.dj_class_table.proofs.Rising.{members_joined}
 use Rattle.dj_loader.proofs.Lists.{member_of_either, place_of_member}
 use Rattle.dj_program.specs.trusted.Programs.{AreSideBySide, IsClassIn, IsMethodIn, IsProgramIn}
 use Rattle.dj_sound.specs.Laws.{OthersAskNothing}

@@ -8,9 +8,9 @@ use Rattle.dj_class.specs.Laws.{ClassOrFault, IsOne, IsFaulty}
 use Rattle.dj_class.proofs.AnswerLaws.{class_or_fault, faulty_is_malformed}
 use Rattle.dj_report.specs.declared.report.Violation.{Violation}
 use Rattle.dj_report.specs.trusted.Lines.{file_line}
-use Rattle.dj_check.specs.trusted.Malformed.{IsRefused, IsGood}
+use Rattle.dj_early_rules.specs.trusted.Malformed.{IsRefused, IsGood}
 use Rattle.dj_loader.proofs.Lists.{member_first, member_later, member_none}
-use Rattle.dj_sandbox.specs.trusted.Checked.{AreGoodFiles, IsLineBy}
+use Rattle.dj_class_set.specs.trusted.Checked.{AreGoodFiles, IsLineBy}
 use Rattle.dj_sound.specs.Laws.{AreOfBytes, HaveClassFiles}
 
 module _ (library : Library) (files : List File) (silent : (v : Violation) → IsLineBy library files v → ⊥) where

@@ -15,8 +15,8 @@ use Rattle.dj_class.specs.trusted.ClassFile.{MemberInfo, ClassFile}
 use Rattle.dj_model.specs.trusted.Instructions.{Instruction, targets}
 use Rattle.dj_model.specs.trusted.Program.{Class, Method, Abstract, Runs, Range}
 use Rattle.dj_model.specs.Sound.{IsCode, IsBody}
-use Rattle.dj_check.specs.trusted.Attributes.{maps_of}
-use Rattle.dj_check.specs.trusted.Code.{HasFrames, AreFramesOf, AreFramesAt}
+use Rattle.dj_early_rules.specs.trusted.Attributes.{maps_of}
+use Rattle.dj_early_rules.specs.trusted.Code.{HasFrames, AreFramesOf, AreFramesAt}
 use Rattle.dj_loader.proofs.Lists.{member_none, member_cases, place_of_member, of_map, member_at_place}
 use Rattle.dj_program.specs.trusted.Naming.{instruction_in}
 use Rattle.dj_program.specs.trusted.Codes.{CodeParts, range_in, code_in, IsMethodCode}

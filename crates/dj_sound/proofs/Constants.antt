@@ -3,7 +3,7 @@ use Rattle.std.proofs.Common.{◌≡◌, ℕ, ◌<◌, ◌^◌, Bool, true, fals
 use Rattle.std.specs.Prelude.{unwrap_or, IsSomeAnd}
 use Rattle.std.specs.Option.{option_map}
 use Rattle.std.specs.List.{list_all}
-use Rattle.dj_bytes.specs.trusted.Spelling.{u2}
+use Rattle.dj_cursor.specs.trusted.Spelling.{u2}
 use Rattle.dj_edge.specs.trusted.Held.{File}
 use Rattle.dj_names.specs.declared.descriptor.Base.{Base}
 use Rattle.dj_names.specs.declared.descriptor.Base.TheVariants as bases
@@ -17,17 +17,17 @@ use Rattle.dj_names.specs.trusted.Types.{base_type, class_type, field_kind}
 use Rattle.dj_names.specs.trusted.Library.{Library, deterministic_library, raw_library}
 use Rattle.dj_pool.specs.trusted.Pool.{Constant, Integer, Float, Long, Double, Text, Utf8, Class, Field, Method, InterfaceMethod, NameAndType, Handle, MethodType, Dynamic, Hole, constant_at}
 use Rattle.dj_class.specs.trusted.ClassFile.{MemberInfo, ClassFile}
-use Rattle.dj_rules.specs.trusted.Violations.{member_text}
+use Rattle.dj_file_rules.specs.trusted.Violations.{member_text}
 use Rattle.dj_model.specs.trusted.Program as programs
 use Rattle.dj_model.specs.trusted.Program.{Program, is_static}
 use Rattle.dj_model.specs.Sound.{is_constant, is_sound_field}
-use Rattle.dj_check.specs.trusted.Attributes.{values_of}
-use Rattle.dj_check.specs.trusted.Floats.{HasFloat, NamesFloat}
-use Rattle.dj_check.specs.trusted.Members.{IsFloatField}
-use Rattle.dj_check.specs.trusted.Malformed.{IsIntText, FitsField, IsValueFor}
-use Rattle.dj_check.specs.trusted.Rules.{line_at}
-use Rattle.dj_declared.specs.trusted.Files.{name_in, desc_in}
-use Rattle.dj_declared.proofs.DescTests.{desc_in_is}
+use Rattle.dj_early_rules.specs.trusted.Attributes.{values_of}
+use Rattle.dj_early_rules.specs.trusted.Floats.{HasFloat, NamesFloat}
+use Rattle.dj_early_rules.specs.trusted.Members.{IsFloatField}
+use Rattle.dj_early_rules.specs.trusted.Malformed.{IsIntText, FitsField, IsValueFor}
+use Rattle.dj_early_rules.specs.trusted.Rules.{line_at}
+use Rattle.dj_declarations.specs.trusted.Files.{name_in, desc_in}
+use Rattle.dj_declarations.proofs.DescTests.{desc_in_is}
 use Rattle.dj_loader.proofs.Lists.{member_first, of_map}
 use Rattle.dj_program.specs.trusted.Naming.{value_index, constant_by, constant_of_body, constant_of_bodies, constant_in}
 use Rattle.dj_program.specs.trusted.Programs.{field_in_file}

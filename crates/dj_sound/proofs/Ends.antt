@@ -5,19 +5,19 @@ use Rattle.dj_edge.specs.trusted.Held.{File}
 use Rattle.dj_names.specs.trusted.Types.{Name, same_name}
 use Rattle.dj_names.specs.trusted.Library.{Library, deterministic_library, raw_library}
 use Rattle.dj_class.specs.trusted.ClassFile.{ClassFile}
-use Rattle.dj_rules.specs.trusted.Violations.{this_name}
+use Rattle.dj_file_rules.specs.trusted.Violations.{this_name}
 use Rattle.dj_model.specs.trusted.Program.{Program, Class, class_at}
 use Rattle.dj_model.specs.trusted.Linking.{option_list}
 use Rattle.dj_model.specs.trusted.Libraries.{library_class, library_program}
 use Rattle.dj_model.specs.Sound.{ReachesTop, top, below}
 use Rattle.dj_model.proofs.SoundLinks.{class_contained}
-use Rattle.dj_declared.specs.trusted.Files.{declared_class}
-use Rattle.dj_classes.proofs.Orders.{names_from_same, same_from_names}
-use Rattle.dj_classes.proofs.Rising.{members_joined}
+use Rattle.dj_declarations.specs.trusted.Files.{declared_class}
+use Rattle.dj_class_table.proofs.Orders.{names_from_same, same_from_names}
+use Rattle.dj_class_table.proofs.Rising.{members_joined}
 use Rattle.dj_loader.specs.Loads.{StandsUnder, StandsBelow, IsOwnAncestor}
 use Rattle.dj_loader.proofs.Lists.{member_first, member_later, member_none, member_cases, member_prefix, member_mapped, of_map}
 use Rattle.dj_program.specs.trusted.Programs.{IsProgramIn}
-use Rattle.dj_sandbox.proofs.NoCycles.{no_cycle}
+use Rattle.dj_class_set.proofs.NoCycles.{no_cycle}
 use Rattle.dj_sound.specs.Accepted.{IsAcceptedBy, OfAcceptedBy}
 use Rattle.dj_sound.specs.Laws.{HasEnds, HaveEnds}
 use Rattle.dj_sound.proofs.Origins.{rows_of, IsAlike, deterministic_alike, raw_alike, IsOfFile, origin, row_there, holds_hierarchy}

@@ -8,9 +8,9 @@ use Rattle.dj_report.specs.trusted.Lines.{file_line}
 use Rattle.dj_model.specs.trusted.Libraries.{library_program}
 use Rattle.dj_model.specs.Sound.{IsSound}
 use Rattle.dj_loader.proofs.Lists.{member_first, member_none}
-use Rattle.dj_declared.specs.trusted.Files.{declared_program}
-use Rattle.dj_sandbox.specs.trusted.Checked.{IsLineBy}
-use Rattle.dj_sandbox.specs.trusted.RawRules.{AreRawViolations}
+use Rattle.dj_declarations.specs.trusted.Files.{declared_program}
+use Rattle.dj_class_set.specs.trusted.Checked.{IsLineBy}
+use Rattle.dj_class_set.specs.trusted.RawRules.{AreRawViolations}
 use Rattle.dj_sound.specs.Accepted.{IsAcceptedBy, IsAccepted, IsRawAccepted}
 use Rattle.dj_sound.proofs.Origins.{no_line}
 use Rattle.dj_sound.proofs.Whole.{accepted_is_sound, raw_accepted_is_sound}

@@ -20,7 +20,7 @@ use Rattle.dj_model.specs.Sound.{is_linked}
 use Rattle.dj_model.proofs.MappedNames.{either}
 use Rattle.dj_model.proofs.Flows.{either_way}
 use Rattle.dj_program.specs.trusted.Naming.{instruction_in}
-use Rattle.dj_shape.proofs.Forms.{AllDo, row_such, operand_such}
+use Rattle.dj_shape_rule.proofs.Forms.{AllDo, row_such, operand_such}
 
 abbrev pub IsOther : Instruction → Type 0
 IsOther (Other op named) = ⊤

@@ -10,19 +10,19 @@ use Rattle.dj_class.specs.trusted.ClassFile.{ClassFile}
 use Rattle.dj_class.proofs.ClassLaws.{one_class_file}
 use Rattle.dj_library.specs.trusted.Heads.{Head, head_of_library, library_heads}
 use Rattle.dj_report.specs.trusted.Lines.{file_line}
-use Rattle.dj_hierarchy.specs.trusted.Hierarchy.{IsMissing, IsBadSuperclass, ViolatesHierarchy}
+use Rattle.dj_hierarchy_rule.specs.trusted.Hierarchy.{IsMissing, IsBadSuperclass, ViolatesHierarchy}
 use Rattle.dj_model.specs.trusted.Program.{Program, Class, class_at}
 use Rattle.dj_model.specs.trusted.Libraries.{library_class}
-use Rattle.dj_check.specs.trusted.Malformed.{IsGood}
-use Rattle.dj_check.specs.trusted.Heads.{head_of, StandsAmong}
-use Rattle.dj_declared.specs.trusted.Files.{declared_class}
-use Rattle.dj_classes.specs.Tables.{class_number, name_of}
-use Rattle.dj_classes.specs.ClassRows.{RiseStrictly}
-use Rattle.dj_classes.proofs.Numbered.{class_number-rise, class_at-at}
-use Rattle.dj_classes.proofs.Rising.{members_joined}
+use Rattle.dj_early_rules.specs.trusted.Malformed.{IsGood}
+use Rattle.dj_early_rules.specs.trusted.Heads.{head_of, StandsAmong}
+use Rattle.dj_declarations.specs.trusted.Files.{declared_class}
+use Rattle.dj_class_table.specs.Tables.{class_number, name_of}
+use Rattle.dj_class_table.specs.ClassRows.{RiseStrictly}
+use Rattle.dj_class_table.proofs.Numbered.{class_number-rise, class_at-at}
+use Rattle.dj_class_table.proofs.Rising.{members_joined}
 use Rattle.dj_loader.proofs.Lists.{member_first, member_later, member_none, member_cases, member_prefix, member_mapped, of_map, place_of_member}
 use Rattle.dj_program.specs.trusted.Programs.{AreSideBySide, IsClassIn, IsProgramIn}
-use Rattle.dj_sandbox.specs.trusted.Checked.{AreGoodFiles}
+use Rattle.dj_class_set.specs.trusted.Checked.{AreGoodFiles}
 use Rattle.dj_sound.specs.Accepted.{IsAcceptedBy}
 use Rattle.dj_sound.proofs.Origins.{head_in, rows_of, IsAlike, IsOfFile, IsRow, as_joined, origin, row_there, no_line}
 use Rattle.dj_sound.proofs.Names.{rises}

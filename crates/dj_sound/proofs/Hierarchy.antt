@@ -8,15 +8,15 @@ use Rattle.dj_names.specs.trusted.Library.{Library, deterministic_library, raw_l
 use Rattle.dj_class.specs.trusted.Access as access
 use Rattle.dj_class.specs.trusted.ClassFile.{ClassFile}
 use Rattle.dj_library.specs.trusted.Heads.{Head, library_heads}
-use Rattle.dj_hierarchy.specs.trusted.Hierarchy.{IsBadInterface}
+use Rattle.dj_hierarchy_rule.specs.trusted.Hierarchy.{IsBadInterface}
 use Rattle.dj_model.specs.trusted.Types.{object_name, string_name}
 use Rattle.dj_model.specs.trusted.Program.{Program, Class, class_at, superclass_of, flags_of, is_interface, has_flag}
 use Rattle.dj_model.specs.trusted.Linking.{most_classes, chain_of, chain, superclasses, is_among}
 use Rattle.dj_model.specs.trusted.Libraries.{library_program}
 use Rattle.dj_model.specs.Sound.{is_interface_name, is_object_or_none}
 use Rattle.dj_model.proofs.SoundLinks.{class_contained}
-use Rattle.dj_check.specs.trusted.Heads.{StandsAmong}
-use Rattle.dj_classes.proofs.Orders.{names_from_same, same_from_names}
+use Rattle.dj_early_rules.specs.trusted.Heads.{StandsAmong}
+use Rattle.dj_class_table.proofs.Orders.{names_from_same, same_from_names}
 use Rattle.dj_program.specs.trusted.Programs.{IsProgramIn}
 use Rattle.dj_sound.specs.Accepted.{IsAcceptedBy}
 use Rattle.dj_sound.specs.Laws.{IsHierarchy, HaveHierarchy}

@@ -17,12 +17,12 @@ use Rattle.dj_model.specs.trusted.Linking.{member_class}
 use Rattle.dj_model.specs.trusted.Numbers.{agrees}
 use Rattle.dj_model.specs.Sound.{is_class_of, is_field_linked, is_method_linked, is_linked, is_caught}
 use Rattle.dj_model.proofs.MappedNames.{either}
-use Rattle.dj_declared.specs.trusted.Files.{type_in, name_in}
-use Rattle.dj_declared.specs.trusted.Members.{has_method_named}
-use Rattle.dj_classes.proofs.Orders.{names_from_same}
-use Rattle.dj_link.specs.trusted.Named.{named_type, class_of_type, is_static_found, NamesNoClass}
-use Rattle.dj_link.specs.trusted.Foreign.{IsOfLibrary, IsForeign, NamesUnmakeable}
-use Rattle.dj_link.specs.trusted.Unlinked.{asks_static, differ, IsUnlinkedMember, IsAbstractType, NamesAbstract, IsUnlinkedType, IsUnlinkedConstant, IsUnlinked, is_class, IsUnlinkedCatch}
+use Rattle.dj_declarations.specs.trusted.Files.{type_in, name_in}
+use Rattle.dj_declarations.specs.trusted.Members.{has_method_named}
+use Rattle.dj_class_table.proofs.Orders.{names_from_same}
+use Rattle.dj_link_rules.specs.trusted.Named.{named_type, class_of_type, is_static_found, NamesNoClass}
+use Rattle.dj_link_rules.specs.trusted.Foreign.{IsOfLibrary, IsForeign, NamesUnmakeable}
+use Rattle.dj_link_rules.specs.trusted.Unlinked.{asks_static, differ, IsUnlinkedMember, IsAbstractType, NamesAbstract, IsUnlinkedType, IsUnlinkedConstant, IsUnlinked, is_class, IsUnlinkedCatch}
 use Rattle.dj_program.specs.trusted.Naming.{named_by, named_at, named_or_another, instruction_in, member_in}
 use Rattle.dj_program.specs.trusted.Codes.{catches_in}
 use Rattle.dj_sound.proofs.Tests.{is_true, is_false, text_or}

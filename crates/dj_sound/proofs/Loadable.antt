@@ -8,15 +8,15 @@ use Rattle.dj_names.specs.trusted.Library.{Library, deterministic_library, raw_l
 use Rattle.dj_class.specs.trusted.ClassFile.{ClassFile}
 use Rattle.dj_library.specs.trusted.Heads.{Head, library_heads}
 use Rattle.dj_report.specs.trusted.Lines.{file_line}
-use Rattle.dj_hierarchy.specs.trusted.Hierarchy.{IsMissing, IsBadSuperclass, ViolatesHierarchy}
+use Rattle.dj_hierarchy_rule.specs.trusted.Hierarchy.{IsMissing, IsBadSuperclass, ViolatesHierarchy}
 use Rattle.dj_model.specs.trusted.Program.{Class, class_at}
 use Rattle.dj_model.specs.trusted.Linking.{option_list}
-use Rattle.dj_check.specs.trusted.Heads.{head_of, StandsAmong}
-use Rattle.dj_declared.specs.trusted.Files.{declared_class}
-use Rattle.dj_classes.proofs.Orders.{same_from_names}
+use Rattle.dj_early_rules.specs.trusted.Heads.{head_of, StandsAmong}
+use Rattle.dj_declarations.specs.trusted.Files.{declared_class}
+use Rattle.dj_class_table.proofs.Orders.{same_from_names}
 use Rattle.dj_loader.specs.Loads.{all_classes, above_names, StandsUnder, LacksAbove, StandsBelow, IsOwnAncestor, IsLoadable}
 use Rattle.dj_loader.proofs.Lists.{member_none, member_cases, member_prefix, member_back, member_of_either, member_mapped, of_map}
-use Rattle.dj_sandbox.proofs.NoCycles.{no_cycle}
+use Rattle.dj_class_set.proofs.NoCycles.{no_cycle}
 use Rattle.dj_sound.specs.Accepted.{IsAcceptedBy}
 use Rattle.dj_sound.specs.Laws.{AreLoadable}
 use Rattle.dj_sound.proofs.Origins.{head_in, rows_of, IsAlike, deterministic_alike, raw_alike, no_line, holds_hierarchy}

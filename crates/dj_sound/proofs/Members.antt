@@ -15,11 +15,11 @@ use Rattle.dj_model.specs.trusted.Libraries.{library_class, library_program}
 use Rattle.dj_model.specs.Libraries.{metered_program, raw_program}
 use Rattle.dj_model.specs.Sound.{fields_differ, methods_differ, IsSound}
 use Rattle.dj_model.proofs.SoundPrograms.{libraries_are_sound}
-use Rattle.dj_check.specs.trusted.Heads.{HasRepeats}
-use Rattle.dj_declared.specs.trusted.Files.{name_in, desc_in, declared_method}
-use Rattle.dj_declared.specs.Members.{IsDescriptor}
-use Rattle.dj_declared.proofs.DescTests.{same_name_is, is_descriptor, same_texts}
-use Rattle.dj_classes.proofs.Rising.{members_joined}
+use Rattle.dj_early_rules.specs.trusted.Heads.{HasRepeats}
+use Rattle.dj_declarations.specs.trusted.Files.{name_in, desc_in, declared_method}
+use Rattle.dj_declarations.specs.Members.{IsDescriptor}
+use Rattle.dj_declarations.proofs.DescTests.{same_name_is, is_descriptor, same_texts}
+use Rattle.dj_class_table.proofs.Rising.{members_joined}
 use Rattle.dj_loader.proofs.Lists.{some_of_map, member_mapped}
 use Rattle.dj_program.specs.trusted.Programs.{AreSideBySide, IsMethodIn, field_in_file}
 use Rattle.dj_sound.specs.Accepted.{IsAcceptedBy, OfAcceptedBy}

@@ -13,7 +13,7 @@ use Rattle.dj_pool.specs.trusted.Pool.{Constant, text_at}
 use Rattle.dj_class.specs.trusted.ClassFile.{MemberInfo, ClassFile, IsMethod}
 use Rattle.dj_report.specs.declared.report.Violation.{Violation}
 use Rattle.dj_report.specs.trusted.Lines.{member_line}
-use Rattle.dj_rules.specs.trusted.Violations.{member_text, this_name, IsNative, IsFinalizer}
+use Rattle.dj_file_rules.specs.trusted.Violations.{member_text, this_name, IsNative, IsFinalizer}
 use Rattle.dj_model.specs.trusted.Types.{string_name}
 use Rattle.dj_model.specs.trusted.Instructions.{Instruction, Other}
 use Rattle.dj_model.specs.trusted.Program.{Program, Class, Method, Code, Range, is_static}
@@ -23,26 +23,26 @@ use Rattle.dj_model.specs.Shape.{HasShape, AllHold}
 use Rattle.dj_model.specs.Sound.{is_linked, is_caught, IsSoundCode}
 use Rattle.dj_model.proofs.Shapes.{shape_or_fault}
 use Rattle.dj_model.proofs.SoundLinks.{class_contained}
-use Rattle.dj_check.specs.trusted.Malformed.{IsGood}
-use Rattle.dj_check.specs.trusted.Methods.{InstrViolates, CatchesError, MethodViolates}
-use Rattle.dj_check.specs.trusted.Rules.{line_at}
-use Rattle.dj_check.specs.trusted.Floats.{HasFloat}
-use Rattle.dj_declared.specs.trusted.Files.{name_in, desc_in, declared_class, declared_program}
-use Rattle.dj_declared.specs.trusted.Members.{has_method_named}
-use Rattle.dj_classes.proofs.Orders.{same_from_names}
-use Rattle.dj_classes.proofs.Joins.{declared_program-joined}
-use Rattle.dj_classes.proofs.Rising.{members_joined}
+use Rattle.dj_early_rules.specs.trusted.Malformed.{IsGood}
+use Rattle.dj_early_rules.specs.trusted.Methods.{InstrViolates, CatchesError, MethodViolates}
+use Rattle.dj_early_rules.specs.trusted.Rules.{line_at}
+use Rattle.dj_early_rules.specs.trusted.Floats.{HasFloat}
+use Rattle.dj_declarations.specs.trusted.Files.{name_in, desc_in, declared_class, declared_program}
+use Rattle.dj_declarations.specs.trusted.Members.{has_method_named}
+use Rattle.dj_class_table.proofs.Orders.{same_from_names}
+use Rattle.dj_class_table.proofs.Joins.{declared_program-joined}
+use Rattle.dj_class_table.proofs.Rising.{members_joined}
 use Rattle.dj_loader.proofs.Lists.{member_first, member_later, member_none, member_cases, member_of_either, some_of_map, of_map, place_of_member}
-use Rattle.dj_link.specs.trusted.Foreign.{IsForeign}
-use Rattle.dj_link.specs.trusted.Unlinked.{IsUnlinked, IsUnlinkedCatch}
-use Rattle.dj_link.specs.trusted.Lines.{LinkViolates, CatchViolates, MethodLinkViolates}
-use Rattle.dj_shape.specs.trusted.Rule.{LacksShape}
-use Rattle.dj_judge.specs.trusted.Lines.{IsLinkedLine}
+use Rattle.dj_link_rules.specs.trusted.Foreign.{IsForeign}
+use Rattle.dj_link_rules.specs.trusted.Unlinked.{IsUnlinked, IsUnlinkedCatch}
+use Rattle.dj_link_rules.specs.trusted.Lines.{LinkViolates, CatchViolates, MethodLinkViolates}
+use Rattle.dj_shape_rule.specs.trusted.Rule.{LacksShape}
+use Rattle.dj_rules.specs.trusted.Lines.{IsLinkedLine}
 use Rattle.dj_program.specs.trusted.Naming.{instruction_in}
 use Rattle.dj_program.specs.trusted.Codes.{CodeParts, range_in, code_in, IsMethodCode}
 use Rattle.dj_program.specs.trusted.Programs.{IsMethodIn}
-use Rattle.dj_sandbox.specs.trusted.Checked.{AreGoodFiles}
-use Rattle.dj_sandbox.proofs.NoDoubles.{is_of_java, reserved_breaks}
+use Rattle.dj_class_set.specs.trusted.Checked.{AreGoodFiles}
+use Rattle.dj_class_set.proofs.NoDoubles.{is_of_java, reserved_breaks}
 use Rattle.dj_sound.specs.Accepted.{IsAcceptedBy}
 use Rattle.dj_sound.proofs.Origins.{rows_of, IsOfFile, no_line, holds_hierarchy}
 use Rattle.dj_sound.proofs.Tests.{text_or, some_and, all_from, all_at, each_at}

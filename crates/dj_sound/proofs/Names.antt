@@ -11,15 +11,15 @@ use Rattle.dj_library.specs.trusted.Heads.{Head}
 use Rattle.dj_model.specs.trusted.Program.{Program, Class}
 use Rattle.dj_model.specs.trusted.Libraries.{is_name_before}
 use Rattle.dj_model.specs.Sound.{names_rise}
-use Rattle.dj_declared.specs.trusted.Files.{declared_class, declared_program}
-use Rattle.dj_declared.specs.Files.{bare_class}
-use Rattle.dj_classes.specs.Tables.{name_of, name_at, IsShared}
-use Rattle.dj_classes.specs.ClassRows.{RiseStrictly}
-use Rattle.dj_classes.proofs.Orders.{names_rise-from_rise, rise-from_names_rise}
-use Rattle.dj_classes.proofs.Joins.{declared_program-joined}
-use Rattle.dj_classes.proofs.Rising.{differ_from_none_shared, rise_joined}
-use Rattle.dj_sandbox.specs.trusted.Checked.{AreGoodFiles, HoldsHierarchy}
-use Rattle.dj_sandbox.proofs.NoDoubles.{no_name_twice}
+use Rattle.dj_declarations.specs.trusted.Files.{declared_class, declared_program}
+use Rattle.dj_declarations.specs.Files.{bare_class}
+use Rattle.dj_class_table.specs.Tables.{name_of, name_at, IsShared}
+use Rattle.dj_class_table.specs.ClassRows.{RiseStrictly}
+use Rattle.dj_class_table.proofs.Orders.{names_rise-from_rise, rise-from_names_rise}
+use Rattle.dj_class_table.proofs.Joins.{declared_program-joined}
+use Rattle.dj_class_table.proofs.Rising.{differ_from_none_shared, rise_joined}
+use Rattle.dj_class_set.specs.trusted.Checked.{AreGoodFiles, HoldsHierarchy}
+use Rattle.dj_class_set.proofs.NoDoubles.{no_name_twice}
 use Rattle.dj_sound.specs.Accepted.{OfAcceptedBy}
 use Rattle.dj_sound.specs.Laws.{HasRisingNames, NamesRise}
 use Rattle.dj_sound.proofs.Origins.{head_in, rows_of, IsAlike, deterministic_alike, raw_alike, holds_hierarchy, bare}

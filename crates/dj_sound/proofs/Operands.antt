@@ -14,10 +14,10 @@ use Rattle.dj_model.specs.trusted.Program.{Program, class_at, is_static}
 use Rattle.dj_model.specs.trusted.Linking.{FoundField, FoundMethod, resolve_field, resolve_method, class_or_object}
 use Rattle.dj_model.specs.trusted.Numbers.{agrees}
 use Rattle.dj_model.specs.Sound.{is_there, is_class_of, is_field_found, is_method_found}
-use Rattle.dj_check.specs.trusted.Classes.{names_at}
-use Rattle.dj_declared.specs.trusted.Files.{type_in}
-use Rattle.dj_declared.specs.Files.{bare_class}
-use Rattle.dj_link.specs.trusted.Named.{named_type, class_of_type, member_of, named_member, is_static_field, is_static_method}
+use Rattle.dj_early_rules.specs.trusted.Classes.{names_at}
+use Rattle.dj_declarations.specs.trusted.Files.{type_in}
+use Rattle.dj_declarations.specs.Files.{bare_class}
+use Rattle.dj_link_rules.specs.trusted.Named.{named_type, class_of_type, member_of, named_member, is_static_field, is_static_method}
 use Rattle.dj_image.proofs.Bare.{bare_program, bare_found, bare_found_field, class_bare, resolve_method_bare, resolve_field_bare}
 use Rattle.dj_image.proofs.ClassTexts.{name_type, array_type}
 use Rattle.dj_image.proofs.Links.{linked_index}

@@ -6,15 +6,15 @@ use Rattle.dj_class.specs.trusted.ClassFile.{ClassFile}
 use Rattle.dj_library.specs.trusted.Heads.{Head}
 use Rattle.dj_model.specs.trusted.Program.{Program, Class}
 use Rattle.dj_model.specs.trusted.Libraries.{library_class, joined}
-use Rattle.dj_check.specs.trusted.Malformed.{IsGood}
-use Rattle.dj_declared.specs.Files.{bare_class}
-use Rattle.dj_declared.specs.trusted.Files.{declared_program}
-use Rattle.dj_classes.proofs.Joins.{joined-append}
-use Rattle.dj_classes.proofs.Rising.{members_joined}
+use Rattle.dj_early_rules.specs.trusted.Malformed.{IsGood}
+use Rattle.dj_declarations.specs.Files.{bare_class}
+use Rattle.dj_declarations.specs.trusted.Files.{declared_program}
+use Rattle.dj_class_table.proofs.Joins.{joined-append}
+use Rattle.dj_class_table.proofs.Rising.{members_joined}
 use Rattle.dj_loader.proofs.Lists.{member_first, member_later, member_none, member_cases, member_back, member_of_either, of_map}
 use Rattle.dj_program.specs.trusted.Programs.{AreSideBySide, IsClassIn, IsProgramIn}
 use Rattle.dj_program.proofs.Bare.{bare_is}
-use Rattle.dj_sandbox.specs.trusted.Checked.{AreGoodFiles, HoldsHierarchy, IsLineBy}
+use Rattle.dj_class_set.specs.trusted.Checked.{AreGoodFiles, HoldsHierarchy, IsLineBy}
 use Rattle.dj_report.specs.declared.report.Violation.{Violation}
 use Rattle.dj_sound.specs.Accepted.{IsAcceptedBy}
 

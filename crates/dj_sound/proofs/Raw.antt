@@ -18,17 +18,17 @@ use Rattle.dj_model.specs.trusted.Linking.{most_classes, chain_of, chain, interf
 use Rattle.dj_model.specs.trusted.Libraries.{library_method, library_class, joined}
 use Rattle.dj_model.proofs.MappedNames.{either}
 use Rattle.dj_model.proofs.SoundLinks.{class_contained, method_contained}
-use Rattle.dj_declared.specs.trusted.Files.{declared_class}
-use Rattle.dj_declared.specs.Files.{bare_class}
-use Rattle.dj_classes.specs.ClassRows.{RiseStrictly}
-use Rattle.dj_classes.proofs.Orders.{names_from_same, same_from_names}
-use Rattle.dj_classes.proofs.Joins.{declared_program-joined}
-use Rattle.dj_classes.proofs.Rising.{members_joined}
-use Rattle.dj_link.specs.trusted.Named.{is_static_field, is_static_method}
+use Rattle.dj_declarations.specs.trusted.Files.{declared_class}
+use Rattle.dj_declarations.specs.Files.{bare_class}
+use Rattle.dj_class_table.specs.ClassRows.{RiseStrictly}
+use Rattle.dj_class_table.proofs.Orders.{names_from_same, same_from_names}
+use Rattle.dj_class_table.proofs.Joins.{declared_program-joined}
+use Rattle.dj_class_table.proofs.Rising.{members_joined}
+use Rattle.dj_link_rules.specs.trusted.Named.{is_static_field, is_static_method}
 use Rattle.dj_loader.proofs.Lists.{member_first, member_later, member_none, member_cases, member_back, member_mapped, of_map}
 use Rattle.dj_loader.proofs.Filled.{mapped_joined}
 use Rattle.dj_program.specs.trusted.Programs.{IsProgramIn}
-use Rattle.dj_sandbox.proofs.NoDoubles.{is_of_java}
+use Rattle.dj_class_set.proofs.NoDoubles.{is_of_java}
 use Rattle.dj_sound.specs.Accepted.{IsAccepted}
 use Rattle.dj_sound.proofs.Tests.{all_at}
 use Rattle.dj_sound.proofs.Origins.{rows_of, deterministic_alike, raw_alike, holds_hierarchy, bare}

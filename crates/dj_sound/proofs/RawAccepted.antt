@@ -15,12 +15,12 @@ use Rattle.dj_model.specs.trusted.Kinds.{Signature, signature_of}
 use Rattle.dj_model.specs.Standing.{IsEntry}
 use Rattle.dj_model.proofs.MappedNames.{either}
 use Rattle.dj_model.proofs.SoundLinks.{method_contained}
-use Rattle.dj_declared.specs.trusted.Files.{no_code, declared_program}
-use Rattle.dj_declared.specs.Files.{bare_method, bare_class}
+use Rattle.dj_declarations.specs.trusted.Files.{no_code, declared_program}
+use Rattle.dj_declarations.specs.Files.{bare_method, bare_class}
 use Rattle.dj_image.proofs.Bare.{class_bare}
 use Rattle.dj_loader.proofs.Lists.{member_none}
-use Rattle.dj_sandbox.specs.trusted.Checked.{AreGoodFiles, HoldsHierarchy, IsLineBy}
-use Rattle.dj_sandbox.specs.trusted.RawRules.{entry_desc, entry_of, runs_entry, AreRawViolations}
+use Rattle.dj_class_set.specs.trusted.Checked.{AreGoodFiles, HoldsHierarchy, IsLineBy}
+use Rattle.dj_class_set.specs.trusted.RawRules.{entry_desc, entry_of, runs_entry, AreRawViolations}
 use Rattle.dj_sound.specs.Accepted.{IsAcceptedBy, IsRawAccepted}
 use Rattle.dj_sound.specs.Laws.{AreRawAccepted, HaveRawClassFiles}
 use Rattle.dj_sound.proofs.Origins.{bare}

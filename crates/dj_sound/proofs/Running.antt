@@ -1,7 +1,7 @@
 -- No step of a run of accepted files is ill-formed.
 use Rattle.std.proofs.Common.{[]}
 use Rattle.dj_model.proofs.SoundRuns.{metered_stands, plain_stands}
-use Rattle.dj_sandbox.specs.trusted.RawRules.{entry_of}
+use Rattle.dj_class_set.specs.trusted.RawRules.{entry_of}
 use Rattle.dj_sound.specs.Laws.{RunsStand}
 use Rattle.dj_sound.proofs.Asking.{others_ask_nothing}
 use Rattle.dj_sound.proofs.RawAccepted.{are_raw_accepted}

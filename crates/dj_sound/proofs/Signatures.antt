@@ -10,9 +10,9 @@ use Rattle.dj_names.specs.declared.descriptor.Kind.{Kind}
 use Rattle.dj_names.specs.trusted.Descriptors.{Describes, type_kind}
 use Rattle.dj_model.specs.trusted.Kinds.{Signature, call_signature, with_receiver, signature_of}
 use Rattle.dj_model.specs.trusted.Members.{kinds_of, with_kind}
-use Rattle.dj_check.specs.trusted.Floats.{IsFloating, HasFloating, HasFloat}
-use Rattle.dj_declared.specs.trusted.Files.{desc_in}
-use Rattle.dj_declared.proofs.DescTests.{desc_in_is}
+use Rattle.dj_early_rules.specs.trusted.Floats.{IsFloating, HasFloating, HasFloat}
+use Rattle.dj_declarations.specs.trusted.Files.{desc_in}
+use Rattle.dj_declarations.proofs.DescTests.{desc_in_is}
 use Rattle.dj_loader.proofs.Lists.{member_first, member_later}
 
 abbrev kind_at : ℕ → Of → Option Kind

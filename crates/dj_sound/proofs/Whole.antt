@@ -9,7 +9,7 @@ use Rattle.dj_model.specs.trusted.Libraries.{library_body, library_method, libra
 use Rattle.dj_model.specs.Sound.{IsProgram, IsSoundBody, IsSoundClass, IsSound}
 use Rattle.dj_loader.proofs.Lists.{of_map}
 use Rattle.dj_program.specs.trusted.Programs.{IsProgramIn}
-use Rattle.dj_declared.specs.trusted.Files.{declared_program}
+use Rattle.dj_declarations.specs.trusted.Files.{declared_program}
 use Rattle.dj_sound.specs.Accepted.{IsAcceptedBy, OfAcceptedBy}
 use Rattle.dj_sound.specs.Laws.{HasBodies, HaveBodies, IsSoundProgram, AcceptedIsSound}
 use Rattle.dj_sound.proofs.Origins.{IsAlike, deterministic_alike, raw_alike, IsOfFile, IsRow, origin, bare}

@@ -9,8 +9,8 @@ use Rattle.dj_model.specs.Sound.{IsSound}
 use Rattle.dj_model.specs.Standing.{IsEntry}
 use Rattle.dj_loader.specs.Loads.{all_classes, IsLoadable}
 use Rattle.dj_program.specs.trusted.Programs.{IsProgramIn}
-use Rattle.dj_sandbox.specs.trusted.Checked.{AreGoodFiles, AreViolationsBy}
-use Rattle.dj_sandbox.specs.trusted.RawRules.{entry_of}
+use Rattle.dj_class_set.specs.trusted.Checked.{AreGoodFiles, AreViolationsBy}
+use Rattle.dj_class_set.specs.trusted.RawRules.{entry_of}
 
 -- these are the class files of the files, and none of the rules 1 to 19 is violated where they are judged with the library
 pub record IsAcceptedBy (judge : Library) (files : List File) (classes : List ClassFile) : Type 0 where

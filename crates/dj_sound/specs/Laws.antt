@@ -20,8 +20,8 @@ use Rattle.dj_model.specs.trusted.Linking.{chain, superclasses, is_among}
 use Rattle.dj_model.specs.Sound.{names_rise, fields_differ, methods_differ, ReachesTop, is_interface_name, is_object_or_none, IsBody, is_sound_field, IsSoundBody, IsSound}
 use Rattle.dj_loader.specs.Loads.{all_classes, IsLoadable}
 use Rattle.dj_program.specs.trusted.Programs.{IsProgramIn}
-use Rattle.dj_sandbox.specs.trusted.Checked.{AreGoodFiles, AreCheckViolations}
-use Rattle.dj_sandbox.specs.trusted.RawRules.{entry_of, AreRawViolations}
+use Rattle.dj_class_set.specs.trusted.Checked.{AreGoodFiles, AreCheckViolations}
+use Rattle.dj_class_set.specs.trusted.RawRules.{entry_of, AreRawViolations}
 use Rattle.dj_sound.specs.Accepted.{IsAcceptedBy, IsAccepted, IsRawAccepted, OfEither}
 
 -- each byte of each file is one

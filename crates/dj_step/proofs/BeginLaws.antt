@@ -19,12 +19,12 @@ use Rattle.dj_model.proofs.LawProofs.{runs_stay_sound}
 use Rattle.dj_heap.specs.Heaps.{LimitedHeap}
 use Rattle.dj_stack.specs.Frames.{StackFrame}
 use Rattle.dj_image.specs.Imaged.{Imaged, program_of}
-use Rattle.dj_activations.specs.Activations.{declared_at, frames_seen}
-use Rattle.dj_initialising.specs.declared.prepare.Prepared.{Prepared}
-use Rattle.dj_initialising.specs.declared.prepare.Prepared.TheVariants as prepared
-use Rattle.dj_initialising.specs.Preparing.{prepared_reported, with_parts}
-use Rattle.dj_turning.specs.Answers.{Over, reported_of}
-use Rattle.dj_turning.specs.Running.{IsKept, Kept, Running, state_of}
+use Rattle.dj_current_method.specs.Activations.{declared_at, frames_seen}
+use Rattle.dj_initialisation.specs.declared.prepare.Prepared.{Prepared}
+use Rattle.dj_initialisation.specs.declared.prepare.Prepared.TheVariants as prepared
+use Rattle.dj_initialisation.specs.Preparing.{prepared_reported, with_parts}
+use Rattle.dj_image_step.specs.Answers.{Over, reported_of}
+use Rattle.dj_image_step.specs.Running.{IsKept, Kept, Running, state_of}
 use Rattle.dj_step.specs.declared.answers.StartError.{StartError}
 use Rattle.dj_step.specs.declared.answers.StartError.TheVariants as starts
 use Rattle.dj_step.specs.Machines.{Begins, EndsAtStart, Machined, counting_for, start_outcome, state_with, terms_of}

@@ -12,10 +12,10 @@ use Rattle.dj_names.specs.trusted.Descriptors.{of_text, type_text}
 use Rattle.dj_names.specs.trusted.Types.{Name, same_name, class_type, base_array}
 use Rattle.dj_model.specs.trusted.Program.{Program, Class}
 use Rattle.dj_model.specs.trusted.Natives.{class_name}
-use Rattle.dj_natives.specs.Numbered as numbered
-use Rattle.dj_classes.specs.Tables.{name_of}
-use Rattle.dj_classes.proofs.Orders.{same_from_names, names_from_same}
-use Rattle.dj_types.specs.Typed.{texts_of, types_of, place_of_text, text_number}
+use Rattle.dj_library_types.specs.Numbered as numbered
+use Rattle.dj_class_table.specs.Tables.{name_of}
+use Rattle.dj_class_table.proofs.Orders.{same_from_names, names_from_same}
+use Rattle.dj_numbering.specs.Typed.{texts_of, types_of, place_of_text, text_number}
 use Rattle.dj_image.specs.Imaged.{Imaged, IsNumbered, program_of, typed_of}
 use Rattle.dj_image.specs.Numbering.{AreSettled}
 use Rattle.dj_image.proofs.Members.{member_none, member_cases}

@@ -13,27 +13,27 @@ use Rattle.dj_model.specs.trusted.Program.{Program, Class}
 use Rattle.dj_model.specs.trusted.Linking.{static_count}
 use Rattle.dj_heap.specs.Heaps.{LimitedHeap}
 use Rattle.dj_stack.specs.Frames.{StackFrame}
-use Rattle.dj_members.specs.Literals.{LiteralTable}
-use Rattle.dj_calls.specs.Counting.{Counter}
-use Rattle.dj_calls.specs.Known.{AreKnown}
-use Rattle.dj_classes.specs.Tables.{name_at, name_of}
-use Rattle.dj_declared.specs.Files.{bare_class}
-use Rattle.dj_linking.specs.Linked.{Linked, prefix_of}
-use Rattle.dj_linking.specs.declared.linker.BaseNames.{BaseNames}
-use Rattle.dj_types.specs.Typed.{types_of}
-use Rattle.dj_types.specs.Members.{IsMethodThere}
-use Rattle.dj_types.specs.declared.types.MemberOf.{MemberOf}
+use Rattle.dj_member_effects.specs.Literals.{LiteralTable}
+use Rattle.dj_natives.specs.Counting.{Counter}
+use Rattle.dj_natives.specs.Known.{AreKnown}
+use Rattle.dj_class_table.specs.Tables.{name_at, name_of}
+use Rattle.dj_declarations.specs.Files.{bare_class}
+use Rattle.dj_resolution.specs.Linked.{Linked, prefix_of}
+use Rattle.dj_resolution.specs.declared.linker.BaseNames.{BaseNames}
+use Rattle.dj_numbering.specs.Typed.{types_of}
+use Rattle.dj_numbering.specs.Members.{IsMethodThere}
+use Rattle.dj_numbering.specs.declared.types.MemberOf.{MemberOf}
 use Rattle.dj_image.specs.Imaged.{Imaged, program_of, typed_of}
-use Rattle.dj_activations.proofs.Numbers.{declared_there}
-use Rattle.dj_initialising.specs.declared.initialisers.Initialiser.{Initialiser}
-use Rattle.dj_initialising.specs.declared.prepare.Prepared.{Prepared}
-use Rattle.dj_initialising.specs.Flags.{AreFlags}
-use Rattle.dj_initialising.specs.Places.{Places, ArePlaces}
-use Rattle.dj_initialising.specs.Initialisers.{AreInitialisers}
-use Rattle.dj_initialising.specs.Store.{IsStore, store}
-use Rattle.dj_initialising.specs.Preparing.{Parts, Prepares, parts}
-use Rattle.dj_initialising.proofs.StartLaws.{store_at_start}
-use Rattle.dj_turning.specs.Running.{IsKept, Kept, Running}
+use Rattle.dj_current_method.proofs.Numbers.{declared_there}
+use Rattle.dj_initialisation.specs.declared.initialisers.Initialiser.{Initialiser}
+use Rattle.dj_initialisation.specs.declared.prepare.Prepared.{Prepared}
+use Rattle.dj_initialisation.specs.Flags.{AreFlags}
+use Rattle.dj_initialisation.specs.Places.{Places, ArePlaces}
+use Rattle.dj_initialisation.specs.Initialisers.{AreInitialisers}
+use Rattle.dj_initialisation.specs.Store.{IsStore, store}
+use Rattle.dj_initialisation.specs.Preparing.{Parts, Prepares, parts}
+use Rattle.dj_initialisation.proofs.StartLaws.{store_at_start}
+use Rattle.dj_image_step.specs.Running.{IsKept, Kept, Running}
 use Rattle.dj_step.specs.Running.{BeginsRun, IsCounter, IsFirst, PreparesEntry}
 
 -- ---- who counts

@@ -16,12 +16,12 @@ use Rattle.dj_names.specs.trusted.Heaps.{Array, object_size, array_size}
 use Rattle.dj_names.specs.Heaps.{heap_map}
 use Rattle.dj_names.specs.trusted.Types.{class_type, base_array}
 use Rattle.dj_model.specs.trusted.Runs.{input_array}
-use Rattle.dj_natives.specs.Numbered as numbered
+use Rattle.dj_library_types.specs.Numbered as numbered
 use Rattle.dj_heap.specs.Heaps.{LimitedHeap, Makes, Refuses, Replaces, element_in, low_bits, with_number}
 use Rattle.dj_heap.specs.declared.errors.HeapError.{HeapError}
 use Rattle.dj_heap.specs.declared.errors.HeapError.TheVariants as errors
-use Rattle.dj_calls.specs.Known.{IsKnown}
-use Rattle.dj_types.specs.Typed.{types_of}
+use Rattle.dj_natives.specs.Known.{IsKnown}
+use Rattle.dj_numbering.specs.Typed.{types_of}
 use Rattle.dj_image.specs.Imaged.{Imaged, typed_of}
 use Rattle.dj_step.specs.declared.answers.StartError.{StartError}
 use Rattle.dj_step.specs.Running.{FillsBytes, FillsTo, HasZeros, HoldsInput, RefusesInput, bytes_heap, filled, start_error}

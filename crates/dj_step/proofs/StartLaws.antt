@@ -15,12 +15,12 @@ use Rattle.dj_stack.specs.Frames.{StackFrame, SameButLocals, top_locals}
 use Rattle.dj_program.specs.trusted.Codes.{code_in}
 use Rattle.dj_program.specs.Views.{parts_of}
 use Rattle.dj_program.specs.declared.code.MethodCode.{MethodCode}
-use Rattle.dj_types.specs.Members.{all_methods}
-use Rattle.dj_types.proofs.Starts.{some_there}
+use Rattle.dj_numbering.specs.Members.{all_methods}
+use Rattle.dj_numbering.proofs.Starts.{some_there}
 use Rattle.dj_image.specs.Imaged.{Imaged, program_of}
-use Rattle.dj_activations.specs.Activations.{declared_at, frames_seen, AreActivations}
-use Rattle.dj_activations.specs.Reported.{IsCodeOf}
-use Rattle.dj_activations.proofs.Numbers.{method_of_number}
+use Rattle.dj_current_method.specs.Activations.{declared_at, frames_seen, AreActivations}
+use Rattle.dj_current_method.specs.Reported.{IsCodeOf}
+use Rattle.dj_current_method.proofs.Numbers.{method_of_number}
 use Rattle.dj_step.specs.Running.{HoldsEntry}
 
 module _ (imaged : Imaged) (n : ℕ) (sound : IsSound (program_of imaged) imaged.prefix) (entry : IsEntry (program_of imaged) (declared_at (program_of imaged) n)) where

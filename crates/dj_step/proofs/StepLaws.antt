@@ -8,9 +8,9 @@ use Rattle.dj_names.specs.declared.run.Thresholds.{Thresholds}
 use Rattle.dj_model.specs.trusted.State.{Terms}
 use Rattle.dj_host.specs.trusted.Hosted.{given_since}
 use Rattle.dj_image.specs.Imaged.{Imaged, program_of}
-use Rattle.dj_turning.specs.Memory.{NeedsNoMemory}
-use Rattle.dj_turning.specs.Running as running
-use Rattle.dj_turning.specs.Running.{Kept, Running, state_of}
+use Rattle.dj_image_step.specs.Memory.{NeedsNoMemory}
+use Rattle.dj_image_step.specs.Running as running
+use Rattle.dj_image_step.specs.Running.{Kept, Running, state_of}
 use Rattle.dj_step.specs.declared.answers.StepAnswer.{StepAnswer}
 use Rattle.dj_step.specs.declared.answers.StepAnswer.TheVariants as steps
 use Rattle.dj_step.specs.Machines.{Machined, Steps, counting_for, is_over, step_answer}

@@ -10,7 +10,7 @@ use Rattle.dj_model.specs.trusted.State.{Terms, Counting, Uncounted, Accounted, 
 use Rattle.dj_model.specs.trusted.Step.{Went, step}
 use Rattle.dj_model.specs.trusted.Runs.{begin}
 use Rattle.dj_image.specs.Imaged.{Imaged, program_of}
-use Rattle.dj_turning.specs.Answers.{Reported, On, Over, reported_of}
+use Rattle.dj_image_step.specs.Answers.{Reported, On, Over, reported_of}
 use Rattle.dj_step.specs.declared.answers.StepAnswer.{StepAnswer}
 use Rattle.dj_step.specs.declared.answers.StepAnswer.TheVariants as steps
 use Rattle.dj_step.specs.declared.answers.StartError.{StartError}

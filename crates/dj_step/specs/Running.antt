@@ -15,20 +15,20 @@ use Rattle.dj_heap.specs.Heaps.{LimitedHeap}
 use Rattle.dj_heap.specs.declared.errors.HeapError.{HeapError}
 use Rattle.dj_heap.specs.declared.errors.HeapError.TheVariants as heap_errors
 use Rattle.dj_stack.specs.Frames.{StackFrame}
-use Rattle.dj_calls.specs.Counting.{Counter}
-use Rattle.dj_calls.specs.Calls.{counting_of, typed_heap}
-use Rattle.dj_calls.specs.Known.{AreKnown}
-use Rattle.dj_types.specs.Typed.{types_of}
+use Rattle.dj_natives.specs.Counting.{Counter}
+use Rattle.dj_natives.specs.Calls.{counting_of, typed_heap}
+use Rattle.dj_natives.specs.Known.{AreKnown}
+use Rattle.dj_numbering.specs.Typed.{types_of}
 use Rattle.dj_image.specs.Imaged.{Imaged, program_of, typed_of}
-use Rattle.dj_activations.specs.Activations.{frames_seen, AreActivations}
-pub use Rattle.dj_activations.specs.Activations.{declared_at}
-use Rattle.dj_linking.specs.Linked.{class_name}
-use Rattle.dj_initialising.specs.declared.prepare.Prepared.{Prepared}
-use Rattle.dj_initialising.specs.declared.prepare.Prepared.TheVariants as prepared
-use Rattle.dj_initialising.specs.Flags.{AreFlags}
-use Rattle.dj_initialising.specs.Store.{store}
-use Rattle.dj_initialising.specs.Preparing.{Parts, Prepares, parts}
-use Rattle.dj_turning.specs.Running.{Counts, IsKept, IsRunning, Kept, Running, account_of}
+use Rattle.dj_current_method.specs.Activations.{frames_seen, AreActivations}
+pub use Rattle.dj_current_method.specs.Activations.{declared_at}
+use Rattle.dj_resolution.specs.Linked.{class_name}
+use Rattle.dj_initialisation.specs.declared.prepare.Prepared.{Prepared}
+use Rattle.dj_initialisation.specs.declared.prepare.Prepared.TheVariants as prepared
+use Rattle.dj_initialisation.specs.Flags.{AreFlags}
+use Rattle.dj_initialisation.specs.Store.{store}
+use Rattle.dj_initialisation.specs.Preparing.{Parts, Prepares, parts}
+use Rattle.dj_image_step.specs.Running.{Counts, IsKept, IsRunning, Kept, Running, account_of}
 use Rattle.dj_step.specs.declared.answers.StartError.{StartError}
 use Rattle.dj_step.specs.declared.answers.StartError.TheVariants as starts
 use Rattle.dj_step.specs.Machines.{counting_for}

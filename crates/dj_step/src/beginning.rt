@@ -1,23 +1,23 @@
 ghost use Rattle.std.specs.Prelude.{◌≡◌, ◌<◌, false, length, replicate, IfOk};
-ghost use Rattle.dj_calls.specs.Counting.{AreLow};
-ghost use Rattle.dj_calls.specs.Known.{AreKnown};
-ghost use Rattle.dj_types.specs.Members.{all_methods};
-ghost use Rattle.dj_types.specs.Typed.{types_of};
+ghost use Rattle.dj_natives.specs.Counting.{AreLow};
+ghost use Rattle.dj_natives.specs.Known.{AreKnown};
+ghost use Rattle.dj_numbering.specs.Members.{all_methods};
+ghost use Rattle.dj_numbering.specs.Typed.{types_of};
 ghost use Rattle.dj_image.specs.Imaged.{program_of, typed_of};
-ghost use Rattle.dj_linking.specs.Linked.{prefix_of};
-ghost use Rattle.dj_initialising.specs.Flags.{AreFlags};
-ghost use Rattle.dj_initialising.specs.Store.{IsStore};
-ghost use Rattle.dj_turning.specs.Running.{IsKept};
+ghost use Rattle.dj_resolution.specs.Linked.{prefix_of};
+ghost use Rattle.dj_initialisation.specs.Flags.{AreFlags};
+ghost use Rattle.dj_initialisation.specs.Store.{IsStore};
+ghost use Rattle.dj_image_step.specs.Running.{IsKept};
 ghost use Rattle.dj_step.specs.Running.{BeginsRun, IsCounter, IsFirst, PreparesEntry};
 
-use dj_calls::Accounter;
 use dj_heap::Heap;
 use dj_image::{BaseNames, Image, MethodId};
-use dj_initialising::{Initialised, Prepared, initialise};
-use dj_members::{Literals, Statics};
+use dj_image_step::{Run, Tables};
+use dj_initialisation::{Initialised, Prepared, initialise};
+use dj_member_effects::{Literals, Statics};
 use dj_names::Thresholds;
+use dj_natives::Accounter;
 use dj_stack::Frames;
-use dj_turning::{Run, Tables};
 use std::alloc::{AllocError, Global};
 
 // The run with this heap and these frames, once the entry's class is initialised.
@@ -73,7 +73,7 @@ fn first_run(
 }
 
 // No class is initialised.
-#[tactic(auto, using(crate::proofs::FirstLaws::as_many, dj_initialising::proofs::StartLaws::flags_at_start))]
+#[tactic(auto, using(crate::proofs::FirstLaws::as_many, dj_initialisation::proofs::StartLaws::flags_at_start))]
 fn no_flags(alloc: Global, image: &Image) -> Result<Initialised, AllocError>
     ensures flags { IfOk result (λ flags. flags ≡ replicate (length (program_of image.now)) false) }
     ensures are { IfOk result (λ flags. AreFlags (program_of image.now) flags) }

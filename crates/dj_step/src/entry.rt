@@ -1,14 +1,14 @@
 ghost use Rattle.std.specs.Prelude.{◌≡◌, ◌<◌, length, IfOk, IfErr};
 ghost use Rattle.dj_model.specs.Sound.{IsSound};
 ghost use Rattle.dj_model.specs.Standing.{IsEntry};
-ghost use Rattle.dj_types.specs.Members.{all_methods};
+ghost use Rattle.dj_numbering.specs.Members.{all_methods};
 ghost use Rattle.dj_image.specs.Imaged.{program_of};
-ghost use Rattle.dj_activations.specs.Activations.{declared_at};
+ghost use Rattle.dj_current_method.specs.Activations.{declared_at};
 ghost use Rattle.dj_step.specs.Running.{HoldsEntry};
 ghost use Rattle.dj_step.specs.declared.answers.StartError.TheVariants as starts;
 
 use crate::answers::StartError;
-use dj_activations::code_of;
+use dj_current_method::code_of;
 use dj_image::{Image, MethodId};
 use dj_names::Value;
 use dj_stack::Frames;

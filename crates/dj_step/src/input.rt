@@ -1,7 +1,7 @@
 ghost use Rattle.std.specs.Prelude.{◌≡◌, ◌≤◌, IfOk, IfErr, Some, length, slice_get};
 ghost use Rattle.dj_names.specs.declared.descriptor.Base.TheVariants as bases;
 ghost use Rattle.dj_names.specs.trusted.Types.{base_array};
-ghost use Rattle.dj_types.specs.Typed.{types_of};
+ghost use Rattle.dj_numbering.specs.Typed.{types_of};
 ghost use Rattle.dj_image.specs.Imaged.{typed_of};
 ghost use Rattle.dj_step.specs.Running.{FillsBytes, HasZeros, HoldsInput, RefusesInput};
 

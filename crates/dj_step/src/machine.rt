@@ -2,12 +2,12 @@ ghost use Rattle.std.specs.Prelude.{◌≡◌, ◌++◌, ◌≤◌, ◌<◌, fal
 ghost use Rattle.std.specs.Option.{option_map};
 ghost use Rattle.dj_model.specs.Sound.{IsSound};
 ghost use Rattle.dj_model.specs.Standing.{AsksNothing, IsEntry};
-ghost use Rattle.dj_calls.specs.Counting.{AreLow};
+ghost use Rattle.dj_natives.specs.Counting.{AreLow};
 ghost use Rattle.dj_host.specs.trusted.Hosted.{given_since};
-ghost use Rattle.dj_types.specs.Members.{all_methods};
+ghost use Rattle.dj_numbering.specs.Members.{all_methods};
 ghost use Rattle.dj_image.specs.Imaged.{program_of};
-ghost use Rattle.dj_activations.specs.Activations.{declared_at};
-ghost use Rattle.dj_turning.specs.Memory.{NeedsNoMemory};
+ghost use Rattle.dj_current_method.specs.Activations.{declared_at};
+ghost use Rattle.dj_image_step.specs.Memory.{NeedsNoMemory};
 ghost use Rattle.dj_step.specs.declared.answers.StepAnswer.TheVariants as steps;
 ghost use Rattle.dj_step.specs.Machines.{Begins, EndsAtStart, Steps, is_over, start_outcome, step_answer, terms_of};
 ghost use Rattle.dj_step.specs.Running.{HoldsEntry, HoldsInput};
@@ -19,10 +19,10 @@ use crate::input::input_heap;
 use dj_edge::Host;
 use dj_heap::Heap;
 use dj_image::{Image, MethodId};
-use dj_initialising::Prepared;
+use dj_image_step::{Begun, Run, Settled, Tables, begin_turn, end_turn};
+use dj_initialisation::Prepared;
 use dj_names::{Costs, Outcome, Thresholds};
 use dj_stack::Frames;
-use dj_turning::{Begun, Run, Settled, Tables, begin_turn, end_turn};
 use std::alloc::Global;
 use std::marker::Model;
 
@@ -41,7 +41,7 @@ pub struct Machine<'a> {
 
 impl<'a> Model for Machine<'a> {
     ghost use Rattle.std.specs.Prelude.{[]};
-    ghost use Rattle.dj_turning.specs.Running.{state_of};
+    ghost use Rattle.dj_image_step.specs.Running.{state_of};
     ghost use Rattle.dj_step.specs.Machines.{Machined, counting_for};
     ghost use Rattle.dj_step.specs.Running.{IsMachine};
 

@@ -21,9 +21,9 @@ use Rattle.dj_straight.specs.declared.program.StraightClass.{StraightClass}
 use Rattle.dj_straight.specs.trusted.Methods.{straight_descriptor, object_name}
 use Rattle.dj_straight.specs.Methods.{action_view, code_view, method_view, class_view, program_view}
 use Rattle.dj_straight.specs.trusted.Straight.{bodies_of, IsStraightCode, IsStraightBody, HasStraightCode, IsStraightMethod, AreStraightMethods, IsStraightClass, IsStraightFile, IsStraightSet}
-use Rattle.dj_rules.specs.Views.{path_file_view}
+use Rattle.dj_file_rules.specs.Views.{path_file_view}
 use Rattle.dj_report.specs.declared.report.PathFile.{PathFile}
-use Rattle.dj_rules.specs.trusted.Violations.{this_name}
+use Rattle.dj_file_rules.specs.trusted.Violations.{this_name}
 use Rattle.dj_straight.specs.Running.{PushesNull, IsRunnable, AreRunnable}
 use Rattle.dj_straight.proofs.PushedNulls.{all_push_null}
 

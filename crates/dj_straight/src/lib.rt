@@ -1,5 +1,5 @@
 //! Straight code: sets of class files with one class of straight methods, their model, shape and machine. `verify` runs these until it runs
-//! rewritten classes, and of the other crates of the program only dj_sandbox depends on this one.
+//! rewritten classes, and of the other crates of the program only dj_class_set depends on this one.
 #![tactic(auto)]
 
 mod cut;

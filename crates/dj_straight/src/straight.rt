@@ -6,9 +6,9 @@ ghost use Rattle.dj_straight.specs.trusted.Methods.{object_name};
 ghost use Rattle.dj_straight.specs.Methods.{class_view, program_view};
 ghost use Rattle.dj_straight.specs.Running.{AreRunnable};
 ghost use Rattle.dj_straight.specs.trusted.Straight.{is_reserved, IsPlainClass, IsStraightClass, IsStraightFile, IsNotStraight, IsStraightSet};
-ghost use Rattle.dj_rules.specs.Reads.{IsViewOf, IsOnlyView};
-ghost use Rattle.dj_rules.specs.trusted.Violations.{this_name};
-ghost use Rattle.dj_rules.specs.Views.{path_file_view};
+ghost use Rattle.dj_file_rules.specs.Reads.{IsViewOf, IsOnlyView};
+ghost use Rattle.dj_file_rules.specs.trusted.Violations.{this_name};
+ghost use Rattle.dj_file_rules.specs.Views.{path_file_view};
 ghost use Rattle.dj_straight.specs.Finds.{Finds};
 
 mod code;
@@ -16,9 +16,9 @@ mod method;
 
 use crate::program::StraightClass;
 use dj_class::ClassView;
+use dj_file_rules::FileView;
 use dj_names::Name;
 use dj_report::PathFile;
-use dj_rules::FileView;
 use method::distinct_methods;
 use std::alloc::{AllocError, Global};
 

@@ -11,8 +11,8 @@ use Rattle.dj_model.specs.Sound.{IsProgram}
 use Rattle.dj_model.specs.Standing.{IsWaiting, AreStanding, result_of}
 use Rattle.dj_stack.specs.Frames.{StackFrame}
 use Rattle.dj_image.specs.Imaged.{Imaged, program_of}
-use Rattle.dj_activations.specs.Activations.{declared_at, frame_seen, frames_seen, AreActivations}
-use Rattle.dj_activations.proofs.Calls.{waiting_room}
+use Rattle.dj_current_method.specs.Activations.{declared_at, frame_seen, frames_seen, AreActivations}
+use Rattle.dj_current_method.proofs.Calls.{waiting_room}
 use Rattle.dj_unwinding.specs.Resuming.{HasRoom}
 use Rattle.dj_unwinding.specs.Returns.{HasRoomBelow}
 

@@ -19,8 +19,8 @@ use Rattle.dj_program.specs.declared.code.MethodCode.{MethodCode}
 use Rattle.dj_image.specs.Imaged.{Imaged, program_of}
 use Rattle.dj_image.specs.Operands.{named_class}
 use Rattle.dj_image.specs.Codes.{PooledCode, HasRange, IsCaughtAt}
-use Rattle.dj_activations.specs.Activations.{declared_at}
-use Rattle.dj_activations.specs.Reported.{IsCodeOf}
+use Rattle.dj_current_method.specs.Activations.{declared_at}
+use Rattle.dj_current_method.specs.Reported.{IsCodeOf}
 use Rattle.dj_unwinding.specs.HandlerRows.{IsRowOf, HasRow}
 use Rattle.dj_unwinding.specs.Unwinding.{ranges_of, ranges_at, is_handling}
 

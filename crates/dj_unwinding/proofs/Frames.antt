@@ -16,12 +16,12 @@ use Rattle.dj_model.specs.Sound.{IsSound}
 use Rattle.dj_model.specs.trusted.Step.{StepAnswer, Went, catches, handler_in, handler_of, caught, ends_with, leaves_frame, at_handler, unwound, message_of, resumed}
 use Rattle.dj_model.proofs.SoundLinks.{here, later}
 use Rattle.dj_stack.specs.Frames.{StackFrame, SameFrames, SameButNumber, SameButOperands, below_top, top_method, top_number, top_locals, top_operands, top_room}
-use Rattle.dj_classes.specs.Tables.{name_of}
+use Rattle.dj_class_table.specs.Tables.{name_of}
 use Rattle.dj_image.specs.Imaged.{Imaged, program_of}
-use Rattle.dj_activations.specs.Activations.{declared_at, frame_seen, frames_seen, IsActivation, AreActivations}
-use Rattle.dj_activations.specs.Reported.{IsInitialiserOf}
-use Rattle.dj_activations.proofs.Standing.{code_of_activation, below_stand, same_stand}
-use Rattle.dj_activations.proofs.Rooms.{handler_room}
+use Rattle.dj_current_method.specs.Activations.{declared_at, frame_seen, frames_seen, IsActivation, AreActivations}
+use Rattle.dj_current_method.specs.Reported.{IsInitialiserOf}
+use Rattle.dj_current_method.proofs.Standing.{code_of_activation, below_stand, same_stand}
+use Rattle.dj_current_method.proofs.Rooms.{handler_room}
 use Rattle.dj_unwinding.specs.declared.returning.Returned.TheVariants as returns
 use Rattle.dj_unwinding.specs.declared.unwinding.Unwound.{Unwound}
 use Rattle.dj_unwinding.specs.declared.unwinding.Unwound.TheVariants as unwinds

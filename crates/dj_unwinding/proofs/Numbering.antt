@@ -18,13 +18,13 @@ use Rattle.dj_model.specs.trusted.Program.{Program, Class, class_at}
 use Rattle.dj_model.specs.trusted.Linking.{is_subtype, takes_arrays, is_below}
 use Rattle.dj_model.specs.Sound.{is_class_of, is_caught}
 use Rattle.dj_model.specs.trusted.Step.{catches}
-use Rattle.dj_natives.specs.Numbered.{begins_array, ArePlain}
-use Rattle.dj_classes.specs.Tables.{name_of, name_at, class_number}
-use Rattle.dj_classes.proofs.Numbered.{class_at-number, name_at-number}
-use Rattle.dj_classes.proofs.Orders.{names_from_same}
-use Rattle.dj_types.specs.Typed.{Typed, texts_of, types_of, type_at, place_of_text, text_number, text_of_type, type_number, is_subtype_at}
-use Rattle.dj_types.proofs.Numbers.{number_of_class, place_within}
-use Rattle.dj_types.proofs.Reported.{types_among}
+use Rattle.dj_library_types.specs.Numbered.{begins_array, ArePlain}
+use Rattle.dj_class_table.specs.Tables.{name_of, name_at, class_number}
+use Rattle.dj_class_table.proofs.Numbered.{class_at-number, name_at-number}
+use Rattle.dj_class_table.proofs.Orders.{names_from_same}
+use Rattle.dj_numbering.specs.Typed.{Typed, texts_of, types_of, type_at, place_of_text, text_number, text_of_type, type_number, is_subtype_at}
+use Rattle.dj_numbering.proofs.Numbers.{number_of_class, place_within}
+use Rattle.dj_numbering.proofs.Reported.{types_among}
 use Rattle.dj_image.specs.Imaged.{Imaged, typed_of, program_of}
 use Rattle.dj_image.specs.Operands.{named_class}
 use Rattle.dj_image.proofs.RowFacts.{type_once}

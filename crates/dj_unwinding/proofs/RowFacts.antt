@@ -7,12 +7,12 @@ use Rattle.dj_model.specs.trusted.Types.{no_parameters}
 use Rattle.dj_model.specs.trusted.Program.{Class, Runs, Code, code_of}
 use Rattle.dj_program.specs.Views.{parts_of}
 use Rattle.dj_program.specs.declared.code.MethodCode.{MethodCode}
-use Rattle.dj_types.specs.Members.{all_methods}
+use Rattle.dj_numbering.specs.Members.{all_methods}
 use Rattle.dj_image.specs.Sources.{class_of_source}
 use Rattle.dj_image.specs.Imaged.{Imaged}
 use Rattle.dj_image.specs.Codes.{PooledCode, all_codes}
-use Rattle.dj_activations.specs.Activations.{declared_at}
-use Rattle.dj_activations.specs.Reported.{IsCodeOf}
+use Rattle.dj_current_method.specs.Activations.{declared_at}
+use Rattle.dj_current_method.specs.Reported.{IsCodeOf}
 use Rattle.dj_unwinding.specs.HandlerRows.{IsRowOf, HasRow}
 
 abbrev row : ℕ → Protected

@@ -10,9 +10,9 @@ use Rattle.dj_model.specs.Sound.{IsProgram}
 use Rattle.dj_program.specs.trusted.Codes.{code_in, range_in}
 use Rattle.dj_program.specs.Views.{parts_of}
 use Rattle.dj_stack.specs.Frames.{StackFrame, below_top, top_number}
-use Rattle.dj_types.specs.Members.{all_methods}
+use Rattle.dj_numbering.specs.Members.{all_methods}
 use Rattle.dj_image.specs.Imaged.{Imaged, program_of}
-use Rattle.dj_activations.proofs.Numbers.{code_of_number}
+use Rattle.dj_current_method.proofs.Numbers.{code_of_number}
 use Rattle.dj_unwinding.specs.HandlerRows.{IsRowOf}
 use Rattle.dj_unwinding.specs.Short.{AreShort, HasNumberBelow, IsShort}
 

@@ -18,10 +18,10 @@ use Rattle.dj_model.specs.trusted.State.{State}
 use Rattle.dj_model.specs.trusted.Charging.{new_account}
 use Rattle.dj_model.specs.trusted.Step.{Went, Ended, unwound}
 use Rattle.dj_stack.specs.Frames.{StackFrame}
-use Rattle.dj_types.specs.Members.{all_methods}
+use Rattle.dj_numbering.specs.Members.{all_methods}
 use Rattle.dj_image.specs.Sources.{Source, class_of_source}
 use Rattle.dj_image.specs.Imaged.{Imaged, program_of, typed_of}
-use Rattle.dj_activations.specs.Activations.{declared_at}
+use Rattle.dj_current_method.specs.Activations.{declared_at}
 use Rattle.dj_unwinding.specs.declared.returning.Returned.TheVariants as returns
 use Rattle.dj_unwinding.specs.declared.unwinding.Unwound.TheVariants as unwinds
 use Rattle.dj_unwinding.specs.Results.{value_outcome, contents_at, HasElements}

@@ -3,7 +3,7 @@ use Rattle.std.specs.Prelude.{◌≡◌, ℕ, Some, slice_get}
 use Rattle.dj_labels.specs.declared.labelled.Protected.{Protected}
 use Rattle.dj_program.specs.declared.code.MethodCode.{MethodCode}
 use Rattle.dj_image.specs.Imaged.{Imaged}
-use Rattle.dj_activations.specs.Reported.{IsCodeOf}
+use Rattle.dj_current_method.specs.Reported.{IsCodeOf}
 
 -- the code of the method of this number has the row at that place
 pub record IsRowOf (imaged : Imaged) (method at : ℕ) (row : Protected) : Type 0 where

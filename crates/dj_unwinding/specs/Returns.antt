@@ -5,7 +5,7 @@ use Rattle.dj_model.specs.trusted.Program.{Program, is_initialiser}
 use Rattle.dj_model.specs.trusted.State.{State}
 use Rattle.dj_model.specs.trusted.Step.{StepAnswer, Went, Ended, IllFormed, returned, result_outcome}
 use Rattle.dj_stack.specs.Frames.{StackFrame}
-use Rattle.dj_activations.specs.Activations.{declared_at, frame_seen, frames_seen}
+use Rattle.dj_current_method.specs.Activations.{declared_at, frame_seen, frames_seen}
 use Rattle.dj_unwinding.specs.declared.returning.Returned.{Returned}
 use Rattle.dj_unwinding.specs.declared.returning.Returned.TheVariants as returns
 use Rattle.dj_unwinding.specs.Resuming.{HasRoom}

@@ -3,7 +3,7 @@ use Rattle.std.specs.Prelude.{◌≡◌, ℕ, ◌+◌, ◌<◌, ◌^◌, ⊤, Li
 use Rattle.dj_model.specs.trusted.Program.{Code, Runs}
 use Rattle.dj_model.specs.trusted.Linking.{FoundMethod}
 use Rattle.dj_stack.specs.Frames.{StackFrame}
-use Rattle.dj_types.specs.Members.{all_methods}
+use Rattle.dj_numbering.specs.Members.{all_methods}
 use Rattle.dj_image.specs.Imaged.{Imaged, program_of}
 
 pub record IsShort (code : Code) : Type 0 where

@@ -9,10 +9,10 @@ use Rattle.dj_model.specs.trusted.Linking.{member_class}
 use Rattle.dj_model.specs.trusted.State.{State}
 use Rattle.dj_model.specs.trusted.Step.{StepAnswer, Went, catches, ends_with, message_of, unwound}
 use Rattle.dj_stack.specs.Frames.{StackFrame}
-use Rattle.dj_classes.specs.Tables.{name_at}
-use Rattle.dj_types.specs.Typed.{Typed, types_of, type_at}
+use Rattle.dj_class_table.specs.Tables.{name_at}
+use Rattle.dj_numbering.specs.Typed.{Typed, types_of, type_at}
 use Rattle.dj_image.specs.Imaged.{Imaged, program_of}
-use Rattle.dj_activations.specs.Activations.{declared_at, frames_seen}
+use Rattle.dj_current_method.specs.Activations.{declared_at, frames_seen}
 use Rattle.dj_unwinding.specs.declared.unwinding.Unwound.{Unwound}
 use Rattle.dj_unwinding.specs.declared.unwinding.Unwound.TheVariants as unwinds
 

@@ -1,11 +1,11 @@
 ghost use Rattle.std.specs.Prelude.{◌<◌, length, IfErr, IfOk};
 ghost use Rattle.dj_image.specs.Imaged.{program_of};
-ghost use Rattle.dj_activations.specs.Activations.{AreActivations};
+ghost use Rattle.dj_current_method.specs.Activations.{AreActivations};
 ghost use Rattle.dj_unwinding.specs.Returns.{HasRoomBelow, IsReturned};
 ghost use Rattle.dj_unwinding.specs.Short.{HasNumberBelow};
 
 use crate::top::{resume, top_method};
-use dj_activations::is_initialiser;
+use dj_current_method::is_initialiser;
 use dj_image::{Image, MethodId};
 use dj_names::Value;
 use dj_stack::Frames;
@@ -22,7 +22,7 @@ pub enum Returned {
 
 /// The method of the top frame returns. The caller's call is done, with the value pushed; below an initialiser the caller's instruction is
 /// still to be done, and nothing is pushed.
-#[tactic(auto, using(dj_activations::proofs::Standing::top_within, crate::proofs::Frames::last_returned, crate::proofs::Frames::initialiser_returned, crate::proofs::Frames::method_returned, crate::proofs::Frames::room_below, crate::proofs::Frames::some_below, crate::proofs::Frames::popped_stand, crate::proofs::Frames::resumed_stand, crate::proofs::ShortLaws::number_below))]
+#[tactic(auto, using(dj_current_method::proofs::Standing::top_within, crate::proofs::Frames::last_returned, crate::proofs::Frames::initialiser_returned, crate::proofs::Frames::method_returned, crate::proofs::Frames::room_below, crate::proofs::Frames::some_below, crate::proofs::Frames::popped_stand, crate::proofs::Frames::resumed_stand, crate::proofs::ShortLaws::number_below))]
 pub fn go_back(
     image: &Image,
     frames: &mut Frames,

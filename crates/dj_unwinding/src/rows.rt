@@ -2,19 +2,19 @@ ghost use Rattle.std.specs.Prelude.{◌≡◌, ◌<◌, length, Some, None, IfEr
 ghost use Rattle.dj_model.specs.trusted.Program.{Range, code_of};
 ghost use Rattle.dj_model.specs.Sound.{IsSound};
 ghost use Rattle.dj_model.specs.trusted.Step as model;
-ghost use Rattle.dj_types.specs.Typed.{type_at};
-ghost use Rattle.dj_types.specs.Members.{all_methods};
+ghost use Rattle.dj_numbering.specs.Typed.{type_at};
+ghost use Rattle.dj_numbering.specs.Members.{all_methods};
 ghost use Rattle.dj_image.specs.Imaged.{program_of, typed_of};
-ghost use Rattle.dj_activations.specs.Activations.{declared_at};
-ghost use Rattle.dj_activations.specs.Reported.{IsCodeOf};
+ghost use Rattle.dj_current_method.specs.Activations.{declared_at};
+ghost use Rattle.dj_current_method.specs.Reported.{IsCodeOf};
 ghost use Rattle.dj_unwinding.specs.HandlerRows.{HasRow, IsRowOf};
 ghost use Rattle.dj_unwinding.specs.Short.{AreShort};
 ghost use Rattle.dj_unwinding.specs.Unwinding.{IsClassNumber, is_handling, ranges_at};
 
-use dj_activations::code_of;
+use dj_current_method::code_of;
 use dj_image::{Image, MethodCode, MethodId};
 use dj_labels::Protected;
-use dj_natives::Classes;
+use dj_library_types::Classes;
 use std::alloc::AllocError;
 
 /// The handler of the first row of a method that covers the instruction and catches the class.

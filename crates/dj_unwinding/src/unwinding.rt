@@ -1,15 +1,15 @@
 ghost use Rattle.std.specs.Prelude.{◌≡◌, ◌<◌, length, None, IfErr, IfOk, IfSome};
 ghost use Rattle.dj_model.specs.Sound.{IsSound};
 ghost use Rattle.dj_stack.specs.Frames.{below_top};
-ghost use Rattle.dj_types.specs.Typed.{type_at};
+ghost use Rattle.dj_numbering.specs.Typed.{type_at};
 ghost use Rattle.dj_image.specs.Imaged.{program_of, typed_of};
-ghost use Rattle.dj_activations.specs.Activations.{AreActivations};
+ghost use Rattle.dj_current_method.specs.Activations.{AreActivations};
 ghost use Rattle.dj_unwinding.specs.Short.{AreShort};
 ghost use Rattle.dj_unwinding.specs.Unwinding.{IsClassNumber, IsKnown, IsPassed, IsUnwound};
 
 use crate::rows::handler_of;
 use crate::top::{top_method, top_number};
-use dj_activations::initialised_by;
+use dj_current_method::initialised_by;
 use dj_image::{Image, MethodId};
 use dj_names::Value;
 use dj_stack::Frames;
@@ -50,7 +50,7 @@ pub fn unwind(
 }
 
 // The same for the top frame alone, which is removed where the exception leaves it.
-#[tactic(auto, using(dj_activations::proofs::Standing::top_within, crate::proofs::Frames::caught_on_top, crate::proofs::Frames::left_initialiser, crate::proofs::Frames::went_past, crate::proofs::Frames::initialiser_known, crate::proofs::Frames::room_for_exception, crate::proofs::Frames::caught_stand, crate::proofs::Frames::popped_stand))]
+#[tactic(auto, using(dj_current_method::proofs::Standing::top_within, crate::proofs::Frames::caught_on_top, crate::proofs::Frames::left_initialiser, crate::proofs::Frames::went_past, crate::proofs::Frames::initialiser_known, crate::proofs::Frames::room_for_exception, crate::proofs::Frames::caught_stand, crate::proofs::Frames::popped_stand))]
 fn pass(
     image: &Image,
     frames: &mut Frames,

@@ -1,6 +1,6 @@
 ghost use Rattle.std.specs.Prelude.{◌≡◌, ◌++◌, length, IfOk, OnOk};
 ghost use Rattle.std.specs.List.{flat_map};
-ghost use Rattle.dj_bytes.specs.trusted.Spelling.{u2, u4, table_bytes};
+ghost use Rattle.dj_cursor.specs.trusted.Spelling.{u2, u4, table_bytes};
 ghost use Rattle.dj_class.specs.trusted.Code.{row_bytes, code_info_bytes};
 ghost use Rattle.dj_class.specs.CodeViews.{code_of};
 

@@ -1,6 +1,6 @@
 ghost use Rattle.std.specs.Prelude.{◌≡◌, ◌+◌, ◌++◌, length, map, IfOk, OnOk};
 ghost use Rattle.std.specs.List.{flat_map};
-ghost use Rattle.dj_bytes.specs.trusted.Spelling.{u1, u2, u4, u8, s4, s8};
+ghost use Rattle.dj_cursor.specs.trusted.Spelling.{u1, u2, u4, u8, s4, s8};
 ghost use Rattle.dj_pool.specs.trusted.Pool.{Utf8, constant_bytes, pool_bytes};
 ghost use Rattle.dj_pool.specs.Views.{constant_of};
 

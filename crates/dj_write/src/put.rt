@@ -1,5 +1,5 @@
 ghost use Rattle.std.specs.Prelude.{◌≡◌, ◌++◌, OnOk};
-ghost use Rattle.dj_bytes.specs.trusted.Spelling.{u1, u2, u4, u8, s4, s8};
+ghost use Rattle.dj_cursor.specs.trusted.Spelling.{u1, u2, u4, u8, s4, s8};
 
 use crate::error::WriteError;
 

@@ -1,6 +1,6 @@
 ghost use Rattle.std.specs.Prelude.{◌≡◌, ◌++◌, length, map, IfOk, OnOk};
 ghost use Rattle.std.specs.List.{flat_map};
-ghost use Rattle.dj_bytes.specs.trusted.Spelling.{u2, u4, table_bytes};
+ghost use Rattle.dj_cursor.specs.trusted.Spelling.{u2, u4, table_bytes};
 ghost use Rattle.dj_class.specs.trusted.ClassFile.{attribute_bytes, member_bytes, header_bytes, class_bytes};
 ghost use Rattle.dj_class.specs.Parts.{attribute_of};
 ghost use Rattle.dj_class.specs.Members.{member_of};

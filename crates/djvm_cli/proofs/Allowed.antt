@@ -2,12 +2,12 @@
 use Rattle.std.proofs.Common.{◌≡◌, ◌≤◌, ◌&&◌, ℕ, Bool, true, false, List, [], ◌∷◌, Option, Some, None, cond, codes, arith, refl, sym, subst}
 use Rattle.std.proofs.lemmas.Bool.Decides.{nat_tests}
 use Rattle.std.specs.Prelude.{option_map, nat_le, filter}
-use Rattle.dj_bytes.specs.trusted.Options.{◌>>=◌}
+use Rattle.dj_cursor.specs.trusted.Options.{◌>>=◌}
 use Rattle.dj_names.specs.declared.run.Thresholds.{Thresholds}
-use Rattle.dj_sandbox.specs.Limits.{IsWithinMost}
-use Rattle.dj_words.specs.trusted.Words.{Word, Given, Job, Setting, Verify, Sample, Raw, Line, is_word, is_numeral, decimal_value, without_slash, number_between, number_given, number_of, has_only, given_thresholds, thresholds_of, steps_of, alloc_setting, invoke_setting, jump_setting, throw_setting, steps_setting, check_job, verify_job, rewrite_job, raw_job, assemble_job, sample_job, command_job, line_job, line_of, job_of}
-use Rattle.dj_words.specs.trusted.Words as words
-use Rattle.dj_words.specs.trusted.DoneJobs.{DoneJob, done, done_job_of}
+use Rattle.dj_class_set.specs.Limits.{IsWithinMost}
+use Rattle.dj_command_line.specs.trusted.Words.{Word, Given, Job, Setting, Verify, Sample, Raw, Line, is_word, is_numeral, decimal_value, without_slash, number_between, number_given, number_of, has_only, given_thresholds, thresholds_of, steps_of, alloc_setting, invoke_setting, jump_setting, throw_setting, steps_setting, check_job, verify_job, rewrite_job, raw_job, assemble_job, sample_job, command_job, line_job, line_of, job_of}
+use Rattle.dj_command_line.specs.trusted.Words as words
+use Rattle.dj_command_line.specs.trusted.DoneJobs.{DoneJob, done, done_job_of}
 use Rattle.djvm_cli.specs.Jobs.{IsAllowedJob}
 
 -- ---- numbers

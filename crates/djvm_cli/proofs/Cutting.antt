@@ -12,9 +12,9 @@ use Rattle.std.proofs.lemmas.List.Sums.{sum_by-cons}
 use Rattle.dj_edge.specs.trusted.Held.{File, is_class_path}
 use Rattle.dj_edge.specs.InMemory.{String, file_in, files_in, PathsDiffer}
 use Rattle.dj_edge.proofs.Pairs.{AllPairs-map, AllPairs-unmap}
-use Rattle.dj_sandbox.specs.ClassSets.{PathsRise, AreByPath}
-use Rattle.dj_sandbox.specs.trusted.Limits.{most_files, most_file_bytes, most_total_bytes, total_bytes, AreWithin}
-use Rattle.dj_sandbox.proofs.ByPath.{rising_differ, in_order_already}
+use Rattle.dj_class_set.specs.ClassSets.{PathsRise, AreByPath}
+use Rattle.dj_class_set.specs.trusted.Limits.{most_files, most_file_bytes, most_total_bytes, total_bytes, AreWithin}
+use Rattle.dj_class_set.proofs.ByPath.{rising_differ, in_order_already}
 use Rattle.djvm_cli.specs.declared.load.SourceFile.{SourceFile}
 use Rattle.djvm_cli.specs.trusted.Report.{within_folder}
 use Rattle.djvm_cli.specs.Views.{source_view}

@@ -5,12 +5,12 @@ use Rattle.dj_edge.specs.declared.host.HostAnswer.{HostAnswer}
 use Rattle.dj_names.specs.declared.run.Costs.{Costs}
 use Rattle.dj_names.specs.trusted.Types.{Name}
 use Rattle.dj_report.specs.declared.report.Report.{Report}
-use Rattle.dj_sandbox.specs.trusted.Entry.{entry_name}
-use Rattle.dj_sandbox.specs.trusted.Judging.{RunsRaw}
-use Rattle.dj_sandbox.specs.trusted.Limits.{AreWithin}
-use Rattle.dj_sandbox.specs.trusted.RawRules.{AreRawViolations}
-use Rattle.dj_running.specs.trusted.Runs.{IsRawRun}
-use Rattle.dj_words.specs.trusted.DoneJobs.{FolderJob, Check, Raw, OnFolder, Assemble, done_job_of}
+use Rattle.dj_class_set.specs.trusted.Entry.{entry_name}
+use Rattle.dj_class_set.specs.trusted.Judging.{RunsRaw}
+use Rattle.dj_class_set.specs.trusted.Limits.{AreWithin}
+use Rattle.dj_class_set.specs.trusted.RawRules.{AreRawViolations}
+use Rattle.dj_sandbox.specs.trusted.Runs.{IsRawRun}
+use Rattle.dj_command_line.specs.trusted.DoneJobs.{FolderJob, Check, Raw, OnFolder, Assemble, done_job_of}
 use Rattle.djvm_cli.specs.trusted.Engine.{AreRuns, AreRunsOf, AddsRuns, AddsPrefix, AddsFew, MakesNoRun}
 use Rattle.djvm_cli.specs.trusted.Jobs.{IsRawJob}
 use Rattle.djvm_cli.specs.trusted.Report.{FindsInput, ReadsInput, files_within, input_of}

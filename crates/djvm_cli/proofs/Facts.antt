@@ -2,7 +2,7 @@
 use Rattle.std.specs.Prelude.{◌≡◌, ℕ, List, [], ◌∷◌, ◌++◌, Some, None, map, codes}
 use Rattle.std.proofs.Common.{refl}
 use Rattle.dj_edge.specs.trusted.Held.{Held}
-use Rattle.dj_words.specs.trusted.DoneJobs.{Check, Verify, Raw, OnFolder, Assemble, done_job_of}
+use Rattle.dj_command_line.specs.trusted.DoneJobs.{Check, Verify, Raw, OnFolder, Assemble, done_job_of}
 use Rattle.djvm_cli.specs.trusted.Report.{class_paths, asks}
 use Rattle.djvm_cli.specs.trusted.Ends.{report_statuses, AsksInOrder}
 

@@ -8,11 +8,11 @@ use Rattle.dj_names.specs.declared.run.Costs.{Costs}
 use Rattle.dj_names.specs.trusted.Types.{Name}
 use Rattle.dj_report.specs.declared.report.Report.{Report}
 use Rattle.dj_host.specs.trusted.Hosted.{given_since}
-use Rattle.dj_sandbox.specs.declared.error.SandboxError.{SandboxError}
-use Rattle.dj_sandbox.specs.trusted.RawRules.{AreRawViolations}
-use Rattle.dj_running.specs.trusted.Runs.{AreRawRuns}
-use Rattle.dj_running.specs.Runs.{AddsRawRuns}
-use Rattle.dj_words.specs.trusted.DoneJobs.{DoneJob, FolderJob, Check, Verify, Raw, OnFolder, Assemble}
+use Rattle.dj_class_set.specs.declared.error.SandboxError.{SandboxError}
+use Rattle.dj_class_set.specs.trusted.RawRules.{AreRawViolations}
+use Rattle.dj_sandbox.specs.trusted.Runs.{AreRawRuns}
+use Rattle.dj_sandbox.specs.Runs.{AddsRawRuns}
+use Rattle.dj_command_line.specs.trusted.DoneJobs.{DoneJob, FolderJob, Check, Verify, Raw, OnFolder, Assemble}
 use Rattle.djvm_cli.specs.declared.load.Stop.{Stop}
 use Rattle.djvm_cli.specs.trusted.Engine.{Reaches, AreJudgedRuns, AreFolderRuns, AreRuns, AreFewRuns, AreRunsOf}
 use Rattle.djvm_cli.specs.Engine.{Adds, Leaves, LeavesRaw, LeavesJudged, LeavesJob}

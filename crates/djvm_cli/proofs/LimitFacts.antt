@@ -10,11 +10,11 @@ use Rattle.dj_report.specs.declared.report.Report.TheVariants as reports
 use Rattle.dj_report.specs.declared.report.Limit.TheVariants as limits
 use Rattle.dj_report.specs.trusted.Text.{report_text}
 use Rattle.dj_report.specs.declared.report.Violation.{Violation}
-use Rattle.dj_sandbox.specs.trusted.Checked.{AreCheckViolations}
-use Rattle.dj_sandbox.specs.trusted.Limits.{AreWithin, IsFirstPast, IsTooLong, IsTooMuch, total_bytes}
-use Rattle.dj_source.specs.declared.error.AsmError.TheVariants as asm_errors
+use Rattle.dj_class_set.specs.trusted.Checked.{AreCheckViolations}
+use Rattle.dj_class_set.specs.trusted.Limits.{AreWithin, IsFirstPast, IsTooLong, IsTooMuch, total_bytes}
+use Rattle.dj_asm_source.specs.declared.error.AsmError.TheVariants as asm_errors
 use Rattle.dj_asm.specs.trusted.Texts.{IsTextOfBytes, TextFault}
-use Rattle.dj_words.specs.trusted.DoneJobs.{Check, Verify, OnFolder, done_job_of}
+use Rattle.dj_command_line.specs.trusted.DoneJobs.{Check, Verify, OnFolder, done_job_of}
 use Rattle.djvm_cli.specs.trusted.Report.{CountsFiles, ReadsInput, ReadsText, FindsInput, ReadsFiles, Assembles, IsReport, files_within}
 use Rattle.djvm_cli.specs.trusted.Ends.{ReadEnds, OutOfMemory, MeansUsage}
 use Rattle.djvm_cli.specs.Ends.{WritesPrefix, IsReportStatus}

@@ -28,9 +28,9 @@ use Rattle.djvm_cli.specs.declared.load.Stop.TheVariants as stops
 use Rattle.djvm_cli.specs.declared.load.NextFile.{NextFile}
 use Rattle.djvm_cli.specs.declared.load.NextFile.TheVariants as next_files
 use Rattle.djvm_cli.specs.declared.load.Loaded.TheVariants as loads
-use Rattle.dj_sandbox.specs.ClassSets.{TextsRise}
-use Rattle.dj_sandbox.specs.trusted.Limits.{most_file_bytes, most_total_bytes, total_bytes, AreWithin}
-use Rattle.dj_sandbox.proofs.ByPath.{texts_rise}
+use Rattle.dj_class_set.specs.ClassSets.{TextsRise}
+use Rattle.dj_class_set.specs.trusted.Limits.{most_file_bytes, most_total_bytes, total_bytes, AreWithin}
+use Rattle.dj_class_set.proofs.ByPath.{texts_rise}
 use Rattle.djvm_cli.specs.Steps.{files_at, Counted, IsLoaded}
 use Rattle.djvm_cli.specs.Next.{IsNextRead, IsNext}
 use Rattle.djvm_cli.specs.Views.{source_view}

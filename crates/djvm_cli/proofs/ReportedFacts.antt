@@ -5,9 +5,9 @@ use Rattle.dj_edge.specs.trusted.Held.{File}
 use Rattle.dj_names.specs.declared.run.Thresholds.{Thresholds}
 use Rattle.dj_report.specs.declared.report.Report.{Report}
 use Rattle.dj_report.specs.trusted.Text.{report_text}
-use Rattle.dj_sandbox.specs.trusted.Limits.{most_files, most_file_bytes, most_total_bytes, most_input_bytes, IsFirstPast, IsTooLong, IsTooMuch}
-use Rattle.dj_sandbox.specs.Limits.{most_thresholds, IsWithinMost}
-use Rattle.dj_words.specs.trusted.Words.{alloc_setting, invoke_setting, jump_setting, throw_setting}
+use Rattle.dj_class_set.specs.trusted.Limits.{most_files, most_file_bytes, most_total_bytes, most_input_bytes, IsFirstPast, IsTooLong, IsTooMuch}
+use Rattle.dj_class_set.specs.Limits.{most_thresholds, IsWithinMost}
+use Rattle.dj_command_line.specs.trusted.Words.{alloc_setting, invoke_setting, jump_setting, throw_setting}
 use Rattle.djvm_cli.specs.trusted.Report.{CountsFiles, ReadsInput, ReadsFiles}
 
 -- ---- limits

@@ -17,8 +17,8 @@ use Rattle.dj_report.specs.declared.report.Report.{Report}
 use Rattle.dj_report.specs.declared.report.Report.TheVariants as reports
 use Rattle.dj_report.specs.declared.report.Limit.{Limit}
 use Rattle.dj_report.specs.declared.report.Limit.TheVariants as limits
-use Rattle.dj_sandbox.specs.ClassSets.{TextsRise, PathsRise}
-use Rattle.dj_sandbox.specs.trusted.Limits.{most_files, AreWithin}
+use Rattle.dj_class_set.specs.ClassSets.{TextsRise, PathsRise}
+use Rattle.dj_class_set.specs.trusted.Limits.{most_files, AreWithin}
 use Rattle.djvm_cli.specs.declared.load.SourceFile.{SourceFile}
 use Rattle.djvm_cli.specs.declared.load.Listing.{Listing}
 use Rattle.djvm_cli.specs.declared.load.Listing.TheVariants as listings
@@ -27,7 +27,7 @@ use Rattle.djvm_cli.specs.declared.load.Loaded.TheVariants as loads
 use Rattle.djvm_cli.specs.declared.load.Input.{Input}
 use Rattle.djvm_cli.specs.declared.load.Input.TheVariants as inputs
 use Rattle.djvm_cli.specs.Inputs.{IsJobInput}
-use Rattle.dj_words.specs.trusted.DoneJobs.{FolderJob}
+use Rattle.dj_command_line.specs.trusted.DoneJobs.{FolderJob}
 use Rattle.djvm_cli.specs.trusted.Jobs.{folder_of}
 use Rattle.djvm_cli.specs.trusted.Report.{input_asks, CountsFiles, FindsInput, ReadsFiles, judging, folder_stages, input_of, within_folder, files_within}
 use Rattle.djvm_cli.specs.Steps.{files_at, IsListed, AreClassPaths, AreRising, AreRead, IsLoaded}

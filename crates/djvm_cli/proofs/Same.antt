@@ -17,13 +17,13 @@ use Rattle.dj_report.specs.declared.report.Report.TheVariants as reports
 use Rattle.dj_report.specs.declared.report.Limit.{Limit}
 use Rattle.dj_report.specs.declared.report.Limit.TheVariants as limits
 use Rattle.dj_report.specs.trusted.Text.{report_text, report_status}
-use Rattle.dj_sandbox.specs.trusted.Limits.{most_file_bytes, most_input_bytes, most_total_bytes, total_bytes, AreWithin, IsFirstPast, IsTooLong, IsTooMuch}
-use Rattle.dj_sandbox.specs.trusted.Entry.{entry_name}
-use Rattle.dj_sandbox.proofs.OneJudgement.{check_one, run_one}
-use Rattle.dj_sandbox.proofs.RawJudgement.{raw_one}
-use Rattle.dj_source.specs.declared.error.AsmError.{AsmError}
-use Rattle.dj_source.specs.declared.error.AsmError.TheVariants as asm_errors
-use Rattle.dj_words.specs.trusted.DoneJobs.{DoneJob, FolderJob, Check, Verify, Raw, OnFolder, Assemble, done_job_of}
+use Rattle.dj_class_set.specs.trusted.Limits.{most_file_bytes, most_input_bytes, most_total_bytes, total_bytes, AreWithin, IsFirstPast, IsTooLong, IsTooMuch}
+use Rattle.dj_class_set.specs.trusted.Entry.{entry_name}
+use Rattle.dj_class_set.proofs.OneJudgement.{check_one, run_one}
+use Rattle.dj_class_set.proofs.RawJudgement.{raw_one}
+use Rattle.dj_asm_source.specs.declared.error.AsmError.{AsmError}
+use Rattle.dj_asm_source.specs.declared.error.AsmError.TheVariants as asm_errors
+use Rattle.dj_command_line.specs.trusted.DoneJobs.{DoneJob, FolderJob, Check, Verify, Raw, OnFolder, Assemble, done_job_of}
 use Rattle.djvm_cli.specs.trusted.Jobs.{folder_of, IsRawJob}
 use Rattle.djvm_cli.specs.trusted.Report.{RefusesWords, CountsFiles, ReadsWhole, FindsInput, ReadsFiles, NamesFault, Assembles, judging, folder_stages, text_stages, stages, files_within, input_of}
 use Rattle.djvm_cli.specs.OneReport.{HasOneReport, HasOneEnd, HasOnePrefix, HasOneAnswer}

@@ -3,9 +3,9 @@ use Rattle.std.proofs.Common.{◌≡◌, ℕ, List, Option, Some, None, inl, inr
 use Rattle.dj_edge.specs.trusted.Held.{File, Held}
 use Rattle.dj_edge.specs.declared.host.HostAnswer.{HostAnswer}
 use Rattle.dj_names.specs.declared.run.Costs.{Costs}
-use Rattle.dj_sandbox.specs.trusted.Entry.{entry_name}
-use Rattle.dj_running.proofs.OneRun.{same_raw_runs}
-use Rattle.dj_words.specs.trusted.DoneJobs.{DoneJob, FolderJob, Check, Verify, Raw, OnFolder, Assemble, done_job_of}
+use Rattle.dj_class_set.specs.trusted.Entry.{entry_name}
+use Rattle.dj_sandbox.proofs.OneRun.{same_raw_runs}
+use Rattle.dj_command_line.specs.trusted.DoneJobs.{DoneJob, FolderJob, Check, Verify, Raw, OnFolder, Assemble, done_job_of}
 use Rattle.djvm_cli.specs.trusted.Engine.{AreJudgedRuns, AreFolderRuns, AreRuns}
 use Rattle.djvm_cli.specs.trusted.Jobs.{folder_of}
 use Rattle.djvm_cli.specs.OneReport.{HasSameRuns}

@@ -5,7 +5,7 @@ use Rattle.std.proofs.lemmas.Bool.{cases_lt}
 use Rattle.std.proofs.lemmas.List.{append_assoc}
 use Rattle.std.proofs.lemmas.List.Sums.{sum_by-append, sum_by-cons}
 use Rattle.dj_edge.specs.trusted.Held.{File}
-use Rattle.dj_sandbox.specs.trusted.Limits.{most_file_bytes, most_total_bytes, total_bytes, AreWithin, IsFirstPast, IsTooLong, IsTooMuch}
+use Rattle.dj_class_set.specs.trusted.Limits.{most_file_bytes, most_total_bytes, total_bytes, AreWithin, IsFirstPast, IsTooLong, IsTooMuch}
 
 -- ---- the limits
 

@@ -11,17 +11,17 @@ use Rattle.dj_report.specs.declared.report.Report.{Report}
 use Rattle.dj_report.specs.declared.report.Report.TheVariants as reports
 use Rattle.dj_report.specs.declared.report.Limit.{Limit}
 use Rattle.dj_report.specs.declared.report.Limit.TheVariants as limits
-use Rattle.dj_sandbox.specs.trusted.Limits.{most_files, most_file_bytes, most_input_bytes}
-use Rattle.dj_sandbox.specs.trusted.Entry.{entry_name}
-use Rattle.dj_sandbox.proofs.SomeJudgement.{check_answers, run_answers}
-use Rattle.dj_source.proofs.LabelTextLaws.{label_fault_or_none}
-use Rattle.dj_source.specs.declared.error.AsmError.{AsmError}
-use Rattle.dj_source.specs.declared.error.AsmError.TheVariants as asm_errors
+use Rattle.dj_class_set.specs.trusted.Limits.{most_files, most_file_bytes, most_input_bytes}
+use Rattle.dj_class_set.specs.trusted.Entry.{entry_name}
+use Rattle.dj_class_set.proofs.SomeJudgement.{check_answers, run_answers}
+use Rattle.dj_asm_source.proofs.LabelTextLaws.{label_fault_or_none}
+use Rattle.dj_asm_source.specs.declared.error.AsmError.{AsmError}
+use Rattle.dj_asm_source.specs.declared.error.AsmError.TheVariants as asm_errors
 use Rattle.dj_edge.specs.declared.host.HostAnswer.{HostAnswer}
-use Rattle.dj_sandbox.specs.trusted.Judging.{JudgesRaw}
-use Rattle.dj_sandbox.proofs.RawJudgement.{raw_rules_answer}
-use Rattle.dj_running.specs.Laws.{HasRawRun}
-use Rattle.dj_words.specs.trusted.DoneJobs.{DoneJob, FolderJob, Check, Verify, Raw, OnFolder, Assemble, done_job_of}
+use Rattle.dj_class_set.specs.trusted.Judging.{JudgesRaw}
+use Rattle.dj_class_set.proofs.RawJudgement.{raw_rules_answer}
+use Rattle.dj_sandbox.specs.Laws.{HasRawRun}
+use Rattle.dj_command_line.specs.trusted.DoneJobs.{DoneJob, FolderJob, Check, Verify, Raw, OnFolder, Assemble, done_job_of}
 use Rattle.djvm_cli.specs.trusted.Jobs.{folder_of, IsRawJob}
 use Rattle.djvm_cli.specs.trusted.Report.{RefusesWords, CountsFiles, ReadsWhole, FindsInput, ReadsFiles, Assembles, judging, folder_stages, text_stages, stages, files_within, input_of}
 use Rattle.djvm_cli.specs.OneReport.{HasSomeReport}

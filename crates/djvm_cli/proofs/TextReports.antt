@@ -6,7 +6,7 @@ use Rattle.dj_edge.specs.trusted.Held.{Held, bytes_at}
 use Rattle.dj_edge.proofs.Lists.{reported_so, ok_so}
 use Rattle.dj_report.specs.trusted.Stages.{IsDecided}
 use Rattle.dj_report.specs.declared.report.Report.{Report}
-use Rattle.dj_sandbox.specs.trusted.Limits.{most_file_bytes}
+use Rattle.dj_class_set.specs.trusted.Limits.{most_file_bytes}
 use Rattle.djvm_cli.specs.declared.load.Input.{Input}
 use Rattle.djvm_cli.specs.declared.load.Input.TheVariants as inputs
 use Rattle.djvm_cli.specs.declared.load.Stop.{Stop}

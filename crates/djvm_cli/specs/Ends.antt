@@ -3,8 +3,8 @@ use Rattle.std.specs.Prelude.{◌≡◌, ℕ, List, [], ◌∷◌, Option, IsSom
 use Rattle.std.specs.Io.KnownBytes.{Appends}
 use Rattle.dj_edge.specs.trusted.Held.{Held}
 use Rattle.dj_edge.specs.trusted.Counts.{IsPrefix}
-use Rattle.dj_sandbox.specs.trusted.Statuses.{IsAmong}
-use Rattle.dj_words.specs.trusted.DoneJobs.{DoneJob}
+use Rattle.dj_class_set.specs.trusted.Statuses.{IsAmong}
+use Rattle.dj_command_line.specs.trusted.DoneJobs.{DoneJob}
 use Rattle.djvm_cli.specs.trusted.Ends.{read_fault, write_fault, no_memory, report_statuses}
 
 -- a prefix of the text was written

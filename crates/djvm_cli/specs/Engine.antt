@@ -5,8 +5,8 @@ use Rattle.dj_edge.specs.declared.host.HostAnswer.{HostAnswer}
 use Rattle.dj_names.specs.declared.run.Costs.{Costs}
 use Rattle.dj_host.specs.trusted.Hosted.{given_since}
 use Rattle.dj_names.specs.trusted.Types.{Name}
-use Rattle.dj_running.specs.trusted.Runs.{AreRawRuns}
-use Rattle.dj_words.specs.trusted.DoneJobs.{DoneJob, FolderJob, OnFolder}
+use Rattle.dj_sandbox.specs.trusted.Runs.{AreRawRuns}
+use Rattle.dj_command_line.specs.trusted.DoneJobs.{DoneJob, FolderJob, OnFolder}
 use Rattle.djvm_cli.specs.trusted.Jobs.{IsRawJob}
 use Rattle.djvm_cli.specs.trusted.Engine.{AreJudgedRuns, AreRuns, AreFewRuns, AreRunsOf, AddsSuch}
 

@@ -5,7 +5,7 @@ use Rattle.dj_report.specs.declared.report.Report.TheVariants as reports
 use Rattle.dj_report.specs.declared.report.Limit.TheVariants as limits
 use Rattle.djvm_cli.specs.declared.load.Input.{Input}
 use Rattle.djvm_cli.specs.declared.load.Input.TheVariants as inputs
-use Rattle.dj_words.specs.trusted.DoneJobs.{FolderJob, OnFolder}
+use Rattle.dj_command_line.specs.trusted.DoneJobs.{FolderJob, OnFolder}
 use Rattle.djvm_cli.specs.trusted.Report.{FindsInput, input_of}
 use Rattle.djvm_cli.specs.Ends.{IsReportStatus}
 

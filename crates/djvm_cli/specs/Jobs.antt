@@ -1,7 +1,7 @@
 -- Beside trusted/Jobs.antt: what no clause of the call `djvm` reaches.
 use Rattle.std.specs.Prelude.{⊤}
-use Rattle.dj_sandbox.specs.Limits.{IsWithinMost}
-use Rattle.dj_words.specs.trusted.DoneJobs.{DoneJob, FolderJob, Check, Verify, Raw, OnFolder, Assemble}
+use Rattle.dj_class_set.specs.Limits.{IsWithinMost}
+use Rattle.dj_command_line.specs.trusted.DoneJobs.{DoneJob, FolderJob, Check, Verify, Raw, OnFolder, Assemble}
 
 -- the thresholds of the job are at most their maxima
 abbrev pub IsAllowed : FolderJob → Type 0

@@ -4,7 +4,7 @@ use Rattle.dj_edge.specs.trusted.Held.{File}
 use Rattle.djvm_cli.specs.declared.load.NextFile.{NextFile}
 use Rattle.djvm_cli.specs.declared.load.NextFile.TheVariants as next_files
 use Rattle.dj_report.specs.declared.report.Limit.TheVariants as limits
-use Rattle.dj_sandbox.specs.trusted.Limits.{most_file_bytes, most_total_bytes}
+use Rattle.dj_class_set.specs.trusted.Limits.{most_file_bytes, most_total_bytes}
 use Rattle.djvm_cli.specs.Views.{source_view}
 
 -- the file has the path and is within the limits, after files of n bytes together

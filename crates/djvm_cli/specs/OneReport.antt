@@ -6,7 +6,7 @@ use Rattle.dj_edge.specs.declared.host.HostAnswer.{HostAnswer}
 use Rattle.dj_names.specs.declared.run.Costs.{Costs}
 use Rattle.dj_report.specs.declared.report.Report.{Report}
 use Rattle.dj_report.specs.trusted.Text.{report_text}
-use Rattle.dj_words.specs.trusted.DoneJobs.{done_job_of}
+use Rattle.dj_command_line.specs.trusted.DoneJobs.{done_job_of}
 use Rattle.djvm_cli.specs.trusted.Jobs.{IsRawJob}
 use Rattle.djvm_cli.specs.trusted.Report.{IsReport}
 use Rattle.djvm_cli.specs.trusted.Ends.{Finished, Broken}

@@ -9,8 +9,8 @@ use Rattle.djvm_cli.specs.declared.load.Listing.TheVariants as listings
 use Rattle.djvm_cli.specs.declared.load.Loaded.{Loaded}
 use Rattle.djvm_cli.specs.declared.load.Loaded.TheVariants as loads
 use Rattle.dj_report.specs.declared.report.Limit.TheVariants as limits
-use Rattle.dj_sandbox.specs.ClassSets.{TextsRise}
-use Rattle.dj_sandbox.specs.trusted.Limits.{most_files, AreWithin, IsFirstPast, IsTooLong, IsTooMuch}
+use Rattle.dj_class_set.specs.ClassSets.{TextsRise}
+use Rattle.dj_class_set.specs.trusted.Limits.{most_files, AreWithin, IsFirstPast, IsTooLong, IsTooMuch}
 use Rattle.djvm_cli.specs.trusted.Report.{class_paths}
 use Rattle.djvm_cli.specs.Views.{source_view}
 use Rattle.dj_edge.specs.InMemory.{String}

@@ -4,7 +4,7 @@ use crate::notes::Notes;
 use crate::out_sink::OutSink;
 use crate::texts::{TIMES, class_file};
 use dj_edge::{MemFiles, Order, paths_differ};
-use dj_running::PlainEngine;
+use dj_sandbox::PlainEngine;
 use std::alloc::{AllocError, Global};
 use std::cell::{Cell, RefCell};
 use std::fmt::Display;

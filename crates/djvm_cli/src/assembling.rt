@@ -2,8 +2,8 @@ ghost use Rattle.std.specs.Prelude.{◌≡◌, ◌≤◌, [], ◌∷◌, Some, N
 ghost use Rattle.dj_edge.specs.trusted.Counts.{GrowsByPrefix};
 ghost use Rattle.dj_report.specs.trusted.Stages.{IsDecided};
 ghost use Rattle.dj_report.specs.trusted.Text.{report_status};
-ghost use Rattle.dj_sandbox.specs.trusted.Limits.{most_file_bytes};
-ghost use Rattle.dj_words.specs.trusted.DoneJobs.{Assemble};
+ghost use Rattle.dj_class_set.specs.trusted.Limits.{most_file_bytes};
+ghost use Rattle.dj_command_line.specs.trusted.DoneJobs.{Assemble};
 ghost use Rattle.djvm_cli.specs.declared.load.Stop.TheVariants.{Memory};
 ghost use Rattle.djvm_cli.specs.Ends.{IsReportStatus};
 ghost use Rattle.djvm_cli.specs.trusted.Report.{Assembles, text_stages};

@@ -1,14 +1,14 @@
 ghost use Rattle.std.specs.Prelude.{◌≡◌, ◌≤◌, length, map, All, IsTrue, IfOk, IfErr, string_bytes};
 ghost use Rattle.dj_edge.specs.trusted.Held.{is_class_path};
 ghost use Rattle.dj_edge.specs.InMemory.{file_in, files_in};
-ghost use Rattle.dj_sandbox.specs.ClassSets.{PathsRise};
-ghost use Rattle.dj_sandbox.specs.trusted.Limits.{most_files, AreWithin};
+ghost use Rattle.dj_class_set.specs.ClassSets.{PathsRise};
+ghost use Rattle.dj_class_set.specs.trusted.Limits.{most_files, AreWithin};
 ghost use Rattle.djvm_cli.specs.trusted.Report.{within_folder};
 ghost use Rattle.djvm_cli.specs.Views.{source_view};
 ghost use Rattle.djvm_cli.specs.declared.load.Stop.TheVariants.{Memory};
 
 use crate::load::{SourceFile, Stop};
-use dj_sandbox::ClassSet;
+use dj_class_set::ClassSet;
 use std::alloc::{AllocError, Global};
 
 /// The file under its path within the folder. Its bytes aren't copied.

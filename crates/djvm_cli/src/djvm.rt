@@ -4,13 +4,13 @@ ghost use Rattle.dj_edge.specs.trusted.Counts.{Rose, GrowsByPrefix};
 ghost use Rattle.dj_report.specs.trusted.Stages.{IsDecided};
 ghost use Rattle.dj_report.specs.trusted.Text.{report_text, report_status};
 ghost use Rattle.dj_host.specs.trusted.Hosted.{given_since};
-ghost use Rattle.dj_sandbox.specs.trusted.Entry.{entry_name};
-ghost use Rattle.dj_sandbox.specs.trusted.Judging.{raw_stages};
-ghost use Rattle.dj_sandbox.specs.trusted.Limits.{most_input_bytes};
-ghost use Rattle.dj_sandbox.specs.trusted.Statuses.{IsAmong};
-ghost use Rattle.dj_sandbox.specs.Statuses.{raw_statuses};
+ghost use Rattle.dj_class_set.specs.trusted.Entry.{entry_name};
+ghost use Rattle.dj_class_set.specs.trusted.Judging.{raw_stages};
+ghost use Rattle.dj_class_set.specs.trusted.Limits.{most_input_bytes};
+ghost use Rattle.dj_class_set.specs.trusted.Statuses.{IsAmong};
+ghost use Rattle.dj_class_set.specs.Statuses.{raw_statuses};
 ghost use Rattle.djvm_cli.specs.declared.load.Stop.TheVariants.{Memory};
-ghost use Rattle.dj_words.specs.trusted.DoneJobs.{OnFolder, done_job_of};
+ghost use Rattle.dj_command_line.specs.trusted.DoneJobs.{OnFolder, done_job_of};
 ghost use Rattle.djvm_cli.specs.trusted.Engine.{AddsRuns, AddsPrefix, AddsFew, MakesNoRun};
 ghost use Rattle.djvm_cli.specs.Engine.{LeavesRaw, LeavesJudged, LeavesJob};
 ghost use Rattle.djvm_cli.specs.trusted.Jobs.{folder_of, IsRawJob};
@@ -19,16 +19,16 @@ ghost use Rattle.djvm_cli.specs.trusted.Report.{judging, folder_stages, folder_a
 ghost use Rattle.djvm_cli.specs.trusted.Ends.{IsStatus, read_fault, write_fault, no_memory, IsRight, Finished, ReadEnds, WriteFault, OutOfMemory, AsksInOrder, MeansUsage};
 ghost use Rattle.djvm_cli.specs.Ends.{IsReportStatus, IsWritten, WritesPrefix};
 ghost use Rattle.djvm_cli.specs.Steps.{Counted};
-ghost use Rattle.dj_words.specs.Views.{folder_job_view, job_view};
+ghost use Rattle.dj_command_line.specs.Views.{folder_job_view, job_view};
 
 use crate::assembling::report_of_text;
 use crate::cut::class_set;
 use crate::load::{Input, Listing, Loaded, Stop, list_paths, read_files, read_job_input};
+use dj_class_set::{ClassSet, check, entry_name, verify};
+use dj_command_line::{Command, FolderCommand, command_of};
 use dj_edge::{Files, Host, Sink, SinkError, put_all};
 use dj_report::{Limit, Report, bytes_of, status_of};
-use dj_running::{Engine, raw};
-use dj_sandbox::{ClassSet, check, entry_name, verify};
-use dj_words::{Command, FolderCommand, command_of};
+use dj_sandbox::{Engine, raw};
 use std::alloc::Global;
 
 /// The folder of the class files.

@@ -3,18 +3,18 @@ ghost use Rattle.djvm_cli.specs.declared.load.Stop.TheVariants.{Memory};
 ghost use Rattle.djvm_cli.specs.declared.load.Input.TheVariants.{Absent};
 ghost use Rattle.dj_edge.specs.trusted.Held.{bytes_at};
 ghost use Rattle.dj_edge.specs.trusted.Counts.{GrowsByPrefix};
-ghost use Rattle.dj_sandbox.specs.trusted.Limits.{most_total_bytes, most_input_bytes};
+ghost use Rattle.dj_class_set.specs.trusted.Limits.{most_total_bytes, most_input_bytes};
 ghost use Rattle.djvm_cli.specs.Steps.{Counted, IsListed, AreClassPaths, AreRising, AreRead, IsLoaded, files_at};
 ghost use Rattle.djvm_cli.specs.Inputs.{IsShortInput, IsAbsentWhereKnown, IsReadInput, IsJobInput, IsInputOf};
 ghost use Rattle.djvm_cli.specs.trusted.Report.{input_asks};
-ghost use Rattle.dj_words.specs.Views.{folder_job_view};
+ghost use Rattle.dj_command_line.specs.Views.{folder_job_view};
 ghost use Rattle.djvm_cli.specs.Next.{IsNextRead, IsNext};
 
+use dj_class_set::SandboxError;
+use dj_command_line::FolderCommand;
 use dj_edge::{Files, ListError, ReadError};
 use dj_names::Name;
 use dj_report::Limit;
-use dj_sandbox::SandboxError;
-use dj_words::FolderCommand;
 use std::alloc::{AllocError, AllocFailed, Global};
 
 /// Why a job has no report.

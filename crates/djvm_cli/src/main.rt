@@ -19,7 +19,7 @@ mod texts;
 
 use clock_host::ClockHost;
 use dj_edge::FolderFiles;
-use dj_running::PlainEngine;
+use dj_sandbox::PlainEngine;
 use notes::Notes;
 use out_sink::OutSink;
 use std::alloc::AllocError;

@@ -3,7 +3,7 @@ use crate::texts;
 use crate::texts::class_file;
 use dj_edge::{Host, HostError, MemFiles, MemHost, MemSink, Order, paths_differ};
 use dj_names::Costs;
-use dj_running::PlainEngine;
+use dj_sandbox::PlainEngine;
 use std::alloc::{AllocError, Global};
 use std::test::Fail;
 

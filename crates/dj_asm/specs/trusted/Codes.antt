@@ -18,10 +18,10 @@ use Rattle.dj_layout.specs.trusted.Layouts.{IsLaidOut}
 use Rattle.dj_frames.specs.trusted.Written.{stack_map_bytes}
 use Rattle.dj_class.specs.trusted.ClassFile.{AttributeInfo}
 use Rattle.dj_class.specs.trusted.Code.{CodeInfo}
-use Rattle.dj_source.specs.trusted.Lines.{Label, FrameType, Simple, Object, New, Frame, Same, Stack1, Chop, Append, Full, Operation, Plain, Push, Local, Increment, Load, LoadLong, Jump, Table, Lookup, Member, Dynamic, ClassOf, Array, Multi, Catch, Line, Beside, Framed, Does}
-use Rattle.dj_entries.specs.trusted.Entries as entries
-use Rattle.dj_entries.specs.trusted.Entries.{Entry}
-use Rattle.dj_entries.specs.trusted.Needs.{literal_entry, member_entry, stack_map_name}
+use Rattle.dj_asm_source.specs.trusted.Lines.{Label, FrameType, Simple, Object, New, Frame, Same, Stack1, Chop, Append, Full, Operation, Plain, Push, Local, Increment, Load, LoadLong, Jump, Table, Lookup, Member, Dynamic, ClassOf, Array, Multi, Catch, Line, Beside, Framed, Does}
+use Rattle.dj_asm_pool.specs.trusted.Entries as entries
+use Rattle.dj_asm_pool.specs.trusted.Entries.{Entry}
+use Rattle.dj_asm_pool.specs.trusted.Needs.{literal_entry, member_entry, stack_map_name}
 
 -- the number of the instruction at each label, and the index of each entry of the pool
 pub record Places : Type 0 where

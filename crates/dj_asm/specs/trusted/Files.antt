@@ -3,12 +3,12 @@ use Rattle.std.specs.Prelude.{◌≡◌, ℕ, ℤ, unsigned_abs, List, [], ◌�
 use Rattle.std.specs.List.{AllZip}
 use Rattle.dj_class.specs.trusted.ClassFile.{AttributeInfo, MemberInfo, ClassFile}
 use Rattle.dj_class.specs.trusted.Code.{CodeInfo, code_info_bytes}
-use Rattle.dj_bytes.specs.trusted.Spelling.{u2}
-use Rattle.dj_source.specs.trusted.Lines.{Line, Value}
-use Rattle.dj_source.specs.trusted.Sources.{Source, FieldSource, MethodSource, Bodiless, Coded, body_lines}
-use Rattle.dj_source.specs.trusted.Labels.{label_number}
-use Rattle.dj_entries.specs.trusted.Entries.{Entry, Utf8, Class, pool_of}
-use Rattle.dj_entries.specs.trusted.Needs.{value_entry, code_name, constant_value_name, entries_of, index_in}
+use Rattle.dj_cursor.specs.trusted.Spelling.{u2}
+use Rattle.dj_asm_source.specs.trusted.Lines.{Line, Value}
+use Rattle.dj_asm_source.specs.trusted.Sources.{Source, FieldSource, MethodSource, Bodiless, Coded, body_lines}
+use Rattle.dj_asm_source.specs.trusted.Labels.{label_number}
+use Rattle.dj_asm_pool.specs.trusted.Entries.{Entry, Utf8, Class, pool_of}
+use Rattle.dj_asm_pool.specs.trusted.Needs.{value_entry, code_name, constant_value_name, entries_of, index_in}
 use Rattle.dj_asm.specs.trusted.Codes.{Places, IsCodeOf}
 
 -- JVMS 4.7.2: the ConstantValue of a field

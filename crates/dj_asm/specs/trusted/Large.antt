@@ -6,11 +6,11 @@ use Rattle.dj_ops.specs.trusted.Instructions.{IsProper}
 use Rattle.dj_layout.specs.trusted.Places.{starts_from, end_from}
 use Rattle.dj_layout.specs.trusted.Layouts.{placed, most_bytes}
 use Rattle.dj_layout.specs.trusted.Faults.{Reaches}
-use Rattle.dj_source.specs.trusted.Lines.{Frame, Full, Operation, Catch, Line, Implements, Field, Abstract, Method, Beside, Framed, Does, End}
-use Rattle.dj_source.specs.trusted.Sources.{Source, lines_of}
-use Rattle.dj_source.specs.trusted.Labels.{instruction_count, AreMethodLines}
-use Rattle.dj_entries.specs.trusted.Needs.{index_in}
-use Rattle.dj_entries.specs.trusted.Room.{IsPastPool}
+use Rattle.dj_asm_source.specs.trusted.Lines.{Frame, Full, Operation, Catch, Line, Implements, Field, Abstract, Method, Beside, Framed, Does, End}
+use Rattle.dj_asm_source.specs.trusted.Sources.{Source, lines_of}
+use Rattle.dj_asm_source.specs.trusted.Labels.{instruction_count, AreMethodLines}
+use Rattle.dj_asm_pool.specs.trusted.Needs.{index_in}
+use Rattle.dj_asm_pool.specs.trusted.Room.{IsPastPool}
 use Rattle.dj_asm.specs.trusted.Codes.{IsInstrOf, AreInstrsOf}
 use Rattle.dj_asm.specs.trusted.Files.{places_of}
 

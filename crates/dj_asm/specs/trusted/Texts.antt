@@ -1,12 +1,12 @@
 -- What a text means, or else its first fault: one of its words, else one of its labels, else one of what doesn't fit.
 use Rattle.std.specs.Prelude.{◌≡◌, ℕ, ◌<◌, ◌⊎◌, List, Some, slice_get}
-use Rattle.dj_source.specs.declared.error.AsmError.{AsmError}
-use Rattle.dj_source.specs.declared.error.AsmError.TheVariants as asm_errors
-use Rattle.dj_source.specs.trusted.Sources.{Source, IsTextOf}
-use Rattle.dj_source.specs.trusted.Faults.{WordFault}
-use Rattle.dj_source.specs.trusted.Labels.{IsMislabelled, LabelFault, line_numbers}
+use Rattle.dj_asm_source.specs.declared.error.AsmError.{AsmError}
+use Rattle.dj_asm_source.specs.declared.error.AsmError.TheVariants as asm_errors
+use Rattle.dj_asm_source.specs.trusted.Sources.{Source, IsTextOf}
+use Rattle.dj_asm_source.specs.trusted.Faults.{WordFault}
+use Rattle.dj_asm_source.specs.trusted.Labels.{IsMislabelled, LabelFault, line_numbers}
 use Rattle.dj_class.specs.trusted.ClassFile.{ClassFile, class_bytes}
-use Rattle.dj_entries.specs.trusted.Room.{NoLine}
+use Rattle.dj_asm_pool.specs.trusted.Room.{NoLine}
 use Rattle.dj_asm.specs.trusted.Files.{IsFileOf}
 use Rattle.dj_asm.specs.trusted.Large.{IsTooLarge}
 

@@ -3,10 +3,10 @@ use Rattle.std.specs.Prelude.{◌==◌, ℕ, ◌+◌, Bool, false, unsigned_abs,
 use Rattle.std.specs.List.{flat_map, enumerate_from}
 use Rattle.dj_names.specs.trusted.Types.{Name}
 use Rattle.dj_names.specs.trusted.ModifiedUtf8.{units_text}
-use Rattle.dj_source.specs.trusted.Lines as lines
-use Rattle.dj_source.specs.trusted.Lines.{Value, IntValue, LongValue, StringValue, Literal, IntLiteral, StringLiteral, ClassLiteral, FrameType, Object, Frame, Stack1, Append, Full, Operation, Load, LoadLong, Member, ClassOf, Multi, Catch, Line, Super, Implements, Abstract, Beside, Framed, Does}
-use Rattle.dj_source.specs.trusted.Sources.{Source, MethodSource, head_lines, method_lines}
-use Rattle.dj_entries.specs.trusted.Entries.{Entry, Utf8, Integer, Long, Class, Text, Field, Method, InterfaceMethod, Dynamic, with_parts, each_once, index_of}
+use Rattle.dj_asm_source.specs.trusted.Lines as lines
+use Rattle.dj_asm_source.specs.trusted.Lines.{Value, IntValue, LongValue, StringValue, Literal, IntLiteral, StringLiteral, ClassLiteral, FrameType, Object, Frame, Stack1, Append, Full, Operation, Load, LoadLong, Member, ClassOf, Multi, Catch, Line, Super, Implements, Abstract, Beside, Framed, Does}
+use Rattle.dj_asm_source.specs.trusted.Sources.{Source, MethodSource, head_lines, method_lines}
+use Rattle.dj_asm_pool.specs.trusted.Entries.{Entry, Utf8, Integer, Long, Class, Text, Field, Method, InterfaceMethod, Dynamic, with_parts, each_once, index_of}
 
 -- ---- what a line needs
 

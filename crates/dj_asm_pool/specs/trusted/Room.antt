@@ -1,8 +1,8 @@
 -- Lines that need an entry for which there is no room, and the first line that is such.
 use Rattle.std.specs.Prelude.{◌≡◌, ℕ, ◌+◌, ◌^◌, ◌<◌, ◌≤◌, length, Contains}
-use Rattle.dj_source.specs.trusted.Sources.{Source}
-use Rattle.dj_entries.specs.trusted.Entries.{Entry, Utf8, width}
-use Rattle.dj_entries.specs.trusted.Needs.{Need, needs_of, index_in}
+use Rattle.dj_asm_source.specs.trusted.Sources.{Source}
+use Rattle.dj_asm_pool.specs.trusted.Entries.{Entry, Utf8, width}
+use Rattle.dj_asm_pool.specs.trusted.Needs.{Need, needs_of, index_in}
 
 -- JVMS 4.4.7: a text has at most 65,535 bytes
 abbrev pub IsShort : Entry → Type 0

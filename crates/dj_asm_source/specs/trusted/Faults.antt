@@ -1,9 +1,9 @@
 -- The fault of a text whose words mean no source: the first token, in reading order, with which no text begins that has the tokens before it.
 use Rattle.std.specs.Prelude.{◌≡◌, ℕ, ◌⊎◌, List, [], ◌∷◌, ◌++◌, map}
-use Rattle.dj_source.specs.declared.error.AsmError.{AsmError}
-use Rattle.dj_source.specs.declared.error.AsmError.TheVariants as asm_errors
-use Rattle.dj_tokens.specs.trusted.Words.{Token, Placed, tokens_of, end_line}
-use Rattle.dj_source.specs.trusted.Sources.{Source, IsSource, IsSizedSource, Reads, token_of, IsTextOf}
+use Rattle.dj_asm_source.specs.declared.error.AsmError.{AsmError}
+use Rattle.dj_asm_source.specs.declared.error.AsmError.TheVariants as asm_errors
+use Rattle.dj_asm_tokens.specs.trusted.Words.{Token, Placed, tokens_of, end_line}
+use Rattle.dj_asm_source.specs.trusted.Sources.{Source, IsSource, IsSizedSource, Reads, token_of, IsTextOf}
 
 -- such a source begins with these tokens
 pub record Begins (IsSuch : Source → Type 0) (tokens : List Token) : Type 0 where

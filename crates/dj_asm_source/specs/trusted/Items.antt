@@ -2,7 +2,7 @@
 use Rattle.std.specs.Prelude.{◌≡◌, ℕ, ◌≤◌, ◌⊎◌, ℤ, pos, neg_ℤ, List, ◌∷◌, ◌++◌, length}
 use Rattle.std.specs.Str.Parse.{IsNumeral, digits_value}
 use Rattle.dj_names.specs.trusted.ModifiedUtf8.{units_text}
-use Rattle.dj_tokens.specs.trusted.Words.{Token, Word, Quoted, LineEnd}
+use Rattle.dj_asm_tokens.specs.trusted.Words.{Token, Word, Quoted, LineEnd}
 
 pub data Item : Type 0 where
   -- this word

@@ -2,11 +2,11 @@
 use Rattle.std.specs.Prelude.{◌≡◌, ◌≢◌, ℕ, ◌+◌, ◌<◌, ◌⊎◌, Bool, true, false, not, List, [], ◌∷◌, ◌++◌, length, take, map, Contains, Some, slice_get}
 use Rattle.std.specs.List.{flat_map, filter, prefix_len, AllByRecursion, count_by}
 use Rattle.dj_names.specs.trusted.Types.{same_name}
-use Rattle.dj_source.specs.declared.error.AsmError.{AsmError}
-use Rattle.dj_source.specs.declared.error.AsmError.TheVariants as asm_errors
-use Rattle.dj_tokens.specs.trusted.Words.{Token, LineEnd, Placed, tokens_of}
-use Rattle.dj_source.specs.trusted.Lines.{Label, FrameType, Simple, Object, New, Frame, Same, Stack1, Chop, Append, Full, Operation, Jump, Table, Lookup, Labelled, Catch, Line, Beside, Framed, Does}
-use Rattle.dj_source.specs.trusted.Sources.{Source, MethodSource, head_lines, method_lines, IsTextOf}
+use Rattle.dj_asm_source.specs.declared.error.AsmError.{AsmError}
+use Rattle.dj_asm_source.specs.declared.error.AsmError.TheVariants as asm_errors
+use Rattle.dj_asm_tokens.specs.trusted.Words.{Token, LineEnd, Placed, tokens_of}
+use Rattle.dj_asm_source.specs.trusted.Lines.{Label, FrameType, Simple, Object, New, Frame, Same, Stack1, Chop, Append, Full, Operation, Jump, Table, Lookup, Labelled, Catch, Line, Beside, Framed, Does}
+use Rattle.dj_asm_source.specs.trusted.Sources.{Source, MethodSource, head_lines, method_lines, IsTextOf}
 
 -- ---- what a label stands for
 

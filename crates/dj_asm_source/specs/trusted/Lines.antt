@@ -8,8 +8,8 @@ use Rattle.dj_names.specs.trusted.Descriptors.{IsFieldDescriptor, IsMethodDescri
 use Rattle.dj_ops.specs.trusted.Forms.{Bare, SignedByte, SignedShort, Slot, ShortOffset, LongOffset, ClassIndex, form_of}
 use Rattle.dj_ops.specs.trusted.Instructions.{IsPushed, IsArrayType}
 use Rattle.dj_pool.specs.trusted.Pool.{IsClassText}
-use Rattle.dj_source.specs.trusted.Items.{Item, Exactly, Flags, Number, Called, Text}
-use Rattle.dj_tokens.specs.trusted.Mnemonics.{mnemonic, base_word}
+use Rattle.dj_asm_source.specs.trusted.Items.{Item, Exactly, Flags, Number, Called, Text}
+use Rattle.dj_asm_tokens.specs.trusted.Mnemonics.{mnemonic, base_word}
 
 abbrev pub Label : Type 0
 Label = List ℕ

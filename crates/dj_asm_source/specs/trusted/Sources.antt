@@ -2,9 +2,9 @@
 use Rattle.std.specs.Prelude.{ℕ, ℤ, List, [], ◌∷◌, ◌++◌, map, Option, Some, None}
 use Rattle.std.specs.List.{flat_map, AllByRecursion, AllZip}
 use Rattle.dj_names.specs.trusted.Types.{Name}
-use Rattle.dj_tokens.specs.trusted.Words.{Token, Placed, tokens_of}
-use Rattle.dj_source.specs.trusted.Items.{Item, Ended, Says}
-use Rattle.dj_source.specs.trusted.Lines.{Value, Frame, Operation, Aside, Line, Class, Version, Super, Implements, Field, Abstract, Method, Stack, Locals, Beside, Framed, Does, End, items_of, IsLine, IsSized}
+use Rattle.dj_asm_tokens.specs.trusted.Words.{Token, Placed, tokens_of}
+use Rattle.dj_asm_source.specs.trusted.Items.{Item, Ended, Says}
+use Rattle.dj_asm_source.specs.trusted.Lines.{Value, Frame, Operation, Aside, Line, Class, Version, Super, Implements, Field, Abstract, Method, Stack, Locals, Beside, Framed, Does, End, items_of, IsLine, IsSized}
 
 -- ---- sources
 

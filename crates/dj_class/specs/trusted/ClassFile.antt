@@ -1,7 +1,7 @@
 -- Class files (JVMS 4.1 to 4.7): the parts, the bytes that spell them, and which of them are valid. dj_pool defines the constant pool.
 use Rattle.std.specs.Prelude.{◌≡◌, ℕ, ◌^◌, ◌<◌, ◌⊎◌, ⊤, List, [], ◌∷◌, ◌++◌, length, IsSomeAnd}
 use Rattle.std.specs.List.{AllByRecursion}
-use Rattle.dj_bytes.specs.trusted.Spelling.{u2, u4, table_bytes}
+use Rattle.dj_cursor.specs.trusted.Spelling.{u2, u4, table_bytes}
 use Rattle.dj_names.specs.trusted.Names.{IsUnqualifiedName, IsMethodName, IsClassName}
 use Rattle.dj_names.specs.trusted.Descriptors.{IsFieldDescriptor, IsMethodDescriptor}
 use Rattle.dj_pool.specs.trusted.Pool.{Constant, pool_bytes, class_name_at, NamesText, IsPool}

@@ -1,7 +1,7 @@
 -- The Code attribute (JVMS 4.7.3): its parts, the bytes that spell them, and which of them are valid.
 use Rattle.std.specs.Prelude.{◌≡◌, ℕ, ◌^◌, ◌<◌, List, ◌++◌, length}
 use Rattle.std.specs.List.{AllByRecursion}
-use Rattle.dj_bytes.specs.trusted.Spelling.{u2, u4, table_bytes}
+use Rattle.dj_cursor.specs.trusted.Spelling.{u2, u4, table_bytes}
 use Rattle.dj_ops.specs.declared.rows.CatchRow.{CatchRow}
 use Rattle.dj_class.specs.trusted.ClassFile.{AttributeInfo, attribute_bytes}
 

@@ -6,10 +6,10 @@ use Rattle.dj_names.specs.trusted.Library.{Library, deterministic_library}
 use Rattle.dj_class.specs.trusted.ClassFile.{ClassFile}
 use Rattle.dj_report.specs.declared.report.Violation.{Violation}
 use Rattle.dj_report.specs.trusted.Lines.{AreExactly}
-use Rattle.dj_check.specs.trusted.Malformed.{IsGood}
-use Rattle.dj_check.specs.trusted.Rules.{IsEarlyLine}
-use Rattle.dj_declared.specs.trusted.Files.{declared_program}
-use Rattle.dj_judge.specs.trusted.Lines.{IsLinkedLine}
+use Rattle.dj_early_rules.specs.trusted.Malformed.{IsGood}
+use Rattle.dj_early_rules.specs.trusted.Rules.{IsEarlyLine}
+use Rattle.dj_declarations.specs.trusted.Files.{declared_program}
+use Rattle.dj_rules.specs.trusted.Lines.{IsLinkedLine}
 
 -- the class files of the files, each at its file's place; none of them violates rule 1
 abbrev pub AreGoodFiles : List File → List ClassFile → Type 0

@@ -7,7 +7,7 @@ use Rattle.dj_straight.specs.trusted.Program.{Program, Class, Method, Code, Runs
 use Rattle.dj_straight.specs.trusted.Shape.{IsShapeFault}
 use Rattle.dj_straight.specs.trusted.Methods.{straight_descriptor, straight_signature}
 use Rattle.dj_report.specs.trusted.Lines.{file_line, AreExactly}
-use Rattle.dj_rules.specs.trusted.Violations.{path_units}
+use Rattle.dj_file_rules.specs.trusted.Violations.{path_units}
 
 -- each dot becomes a slash
 abbrev pub with_slashes : List ℕ → List ℕ

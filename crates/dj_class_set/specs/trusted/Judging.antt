@@ -16,15 +16,15 @@ use Rattle.dj_report.specs.trusted.Stages.{Stage}
 use Rattle.dj_report.specs.declared.report.Report.{Report}
 use Rattle.dj_report.specs.declared.report.Report.TheVariants as reports
 use Rattle.dj_report.specs.declared.report.Violation.{Violation}
-use Rattle.dj_rules.specs.trusted.Violations.{AreViolations}
+use Rattle.dj_file_rules.specs.trusted.Violations.{AreViolations}
 use Rattle.dj_straight.specs.trusted.Program.{Program}
 use Rattle.dj_straight.specs.trusted.Metered.{RunsTo}
 use Rattle.dj_straight.specs.trusted.Straight.{IsStraightSet, IsNotStraight}
 use Rattle.dj_program.specs.trusted.Programs.{IsProgramIn}
-use Rattle.dj_sandbox.specs.trusted.Limits.{most_heap_bytes}
-use Rattle.dj_sandbox.specs.trusted.Checked.{AreGoodFiles, AreCheckViolations}
-use Rattle.dj_sandbox.specs.trusted.RawRules.{entry_of, AreRawViolations}
-use Rattle.dj_sandbox.specs.trusted.Entry.{entry_method, AreRunViolations}
+use Rattle.dj_class_set.specs.trusted.Limits.{most_heap_bytes}
+use Rattle.dj_class_set.specs.trusted.Checked.{AreGoodFiles, AreCheckViolations}
+use Rattle.dj_class_set.specs.trusted.RawRules.{entry_of, AreRawViolations}
+use Rattle.dj_class_set.specs.trusted.Entry.{entry_method, AreRunViolations}
 
 -- no file violates a rule of `check`, or the violations are reported
 abbrev pub JudgesSet : List File → Stage Report

@@ -12,8 +12,8 @@ use Rattle.dj_model.specs.trusted.Types.{Declared}
 use Rattle.dj_model.specs.trusted.Program.{Program, method_at, runs_static}
 use Rattle.dj_report.specs.declared.report.Violation.{Violation}
 use Rattle.dj_report.specs.trusted.Lines.{file_line, AreExactly}
-use Rattle.dj_declared.specs.trusted.Files.{declared_program}
-use Rattle.dj_sandbox.specs.trusted.Checked.{AreGoodFiles, HoldsHierarchy, IsLineBy}
+use Rattle.dj_declarations.specs.trusted.Files.{declared_program}
+use Rattle.dj_class_set.specs.trusted.Checked.{AreGoodFiles, HoldsHierarchy, IsLineBy}
 
 -- ([B)[B: from an array of bytes to one
 abbrev pub entry_desc : Desc

@@ -1,9 +1,9 @@
 -- The jobs of the commands that djvm does so far. Words that ask for another command give no job.
 use Rattle.std.specs.Prelude.{ℕ, List, Option, Some, None}
-use Rattle.dj_bytes.specs.trusted.Options.{◌>>=◌}
+use Rattle.dj_cursor.specs.trusted.Options.{◌>>=◌}
 use Rattle.dj_names.specs.declared.run.Thresholds.{Thresholds}
-use Rattle.dj_words.specs.trusted.Words.{Word, Job, job_of}
-use Rattle.dj_words.specs.trusted.Words as words
+use Rattle.dj_command_line.specs.trusted.Words.{Word, Job, job_of}
+use Rattle.dj_command_line.specs.trusted.Words as words
 
 -- a job on the class files of a folder
 pub data FolderJob : Type 0 where

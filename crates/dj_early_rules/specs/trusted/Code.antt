@@ -10,7 +10,7 @@ use Rattle.dj_class.specs.trusted.Code.{CodeInfo, IsCode}
 use Rattle.dj_labels.specs.declared.labelled.Labelled.{Labelled}
 use Rattle.dj_labels.specs.trusted.Labels.{IsCut, IsLabelled}
 use Rattle.dj_frames.specs.trusted.StackMaps.{types_of, IsStackMap}
-use Rattle.dj_check.specs.trusted.Attributes.{codes_of, maps_of}
+use Rattle.dj_early_rules.specs.trusted.Attributes.{codes_of, maps_of}
 
 -- the method's Code attribute is this one
 pub record IsCodeOf (pool : List Constant) (m : MemberInfo) (code : CodeInfo) : Type 0 where

@@ -5,8 +5,8 @@ use Rattle.dj_pool.specs.trusted.Pool.{Constant, text_at, class_name_at}
 use Rattle.dj_class.specs.trusted.ClassFile.{MemberInfo, ClassFile}
 pub use Rattle.dj_class.specs.trusted.Names.{names_in, interface_names}
 use Rattle.dj_library.specs.trusted.Heads.{Head, library_heads}
-use Rattle.dj_rules.specs.trusted.Violations.{this_name}
-use Rattle.dj_check.specs.trusted.Malformed.{IsGood}
+use Rattle.dj_file_rules.specs.trusted.Violations.{this_name}
+use Rattle.dj_early_rules.specs.trusted.Malformed.{IsGood}
 
 -- ---- the head of a class file
 

@@ -3,8 +3,8 @@ use Rattle.std.specs.Prelude.{◌≡◌, ℕ, ◌⊎◌, ⊤, List, Option, Some
 use Rattle.dj_ops.specs.declared.instruction.Instr.{Instr}
 use Rattle.dj_ops.specs.declared.instruction.Instr.TheVariants as instrs
 use Rattle.dj_pool.specs.trusted.Pool.{Constant, Float, Double, Class, Handle, MethodType, constant_at}
-use Rattle.dj_check.specs.trusted.Opcodes.{is_float_op, is_float_base, is_short_literal, is_subroutine_jump}
-use Rattle.dj_check.specs.trusted.Classes.{NamesReflective, NamesGetClass}
+use Rattle.dj_early_rules.specs.trusted.Opcodes.{is_float_op, is_float_base, is_short_literal, is_subroutine_jump}
+use Rattle.dj_early_rules.specs.trusted.Classes.{NamesReflective, NamesGetClass}
 
 -- ---- operands
 

@@ -1,14 +1,14 @@
 -- Rule 1, MALFORMED: what is forbidden in a class file beyond what its reader checks. Each condition is a definition of its own.
 use Rattle.std.specs.Prelude.{◌≡◌, ◌≢◌, ℕ, ◌≤◌, ◌<◌, ◌^◌, ◌⊎◌, List, [], length, codes, Contains, Some}
 use Rattle.std.specs.Int.{IsBitSet}
-use Rattle.dj_bytes.specs.trusted.Spelling.{u2}
+use Rattle.dj_cursor.specs.trusted.Spelling.{u2}
 use Rattle.dj_pool.specs.trusted.Pool.{Constant, Integer, Float, Long, Double, Text, constant_at, text_at}
 use Rattle.dj_class.specs.trusted.Access as access
 use Rattle.dj_class.specs.trusted.ClassFile.{MemberInfo, ClassFile, IsClassFile, IsMalformed}
 use Rattle.dj_class.specs.trusted.Code.{CodeInfo, IsCode}
 use Rattle.dj_labels.specs.declared.labelled.Labelled.{Labelled}
 use Rattle.dj_labels.specs.trusted.Labels.{IsLabelled}
-use Rattle.dj_check.specs.trusted.Attributes.{codes_of, values_of, maps_of}
+use Rattle.dj_early_rules.specs.trusted.Attributes.{codes_of, values_of, maps_of}
 
 -- ---- methods
 

@@ -4,9 +4,9 @@ use Rattle.std.specs.Int.{IsBitSet}
 use Rattle.dj_pool.specs.trusted.Pool.{Constant, Float, Double, Class, NameAndType, MethodType, text_at}
 use Rattle.dj_class.specs.trusted.Access as access
 use Rattle.dj_class.specs.trusted.ClassFile.{MemberInfo, ClassFile}
-use Rattle.dj_check.specs.trusted.Attributes.{codes_of}
-use Rattle.dj_check.specs.trusted.Floats.{NamesFloat, NamesFloatArray}
-use Rattle.dj_check.specs.trusted.Code.{HasFloatMap}
+use Rattle.dj_early_rules.specs.trusted.Attributes.{codes_of}
+use Rattle.dj_early_rules.specs.trusted.Floats.{NamesFloat, NamesFloatArray}
+use Rattle.dj_early_rules.specs.trusted.Code.{HasFloatMap}
 
 -- rule 12, for a constant: a float or a double; a name and type or a method's type with a float or a double; a class that is an array of them
 abbrev pub IsFloatConstant : List Constant → Constant → Type 0

@@ -5,10 +5,10 @@ use Rattle.dj_pool.specs.trusted.Pool.{Constant, class_name_at}
 use Rattle.dj_class.specs.trusted.ClassFile.{MemberInfo, ClassFile}
 use Rattle.dj_labels.specs.declared.labelled.Protected.{Protected}
 use Rattle.dj_labels.specs.declared.labelled.Labelled.{Labelled}
-use Rattle.dj_check.specs.trusted.Classes.{IsUncatchable}
-use Rattle.dj_check.specs.trusted.Code.{IsLabelledOf}
-use Rattle.dj_check.specs.trusted.Members.{IsFloatMethod, HasInterfaceCode}
-use Rattle.dj_check.specs.trusted.Instructions.{IsDynamic, IsReflection, IsFloat, IsSubroutine, IsBreakpoint, IsMultiArray}
+use Rattle.dj_early_rules.specs.trusted.Classes.{IsUncatchable}
+use Rattle.dj_early_rules.specs.trusted.Code.{IsLabelledOf}
+use Rattle.dj_early_rules.specs.trusted.Members.{IsFloatMethod, HasInterfaceCode}
+use Rattle.dj_early_rules.specs.trusted.Instructions.{IsDynamic, IsReflection, IsFloat, IsSubroutine, IsBreakpoint, IsMultiArray}
 
 -- an instruction violates the rule of this number
 abbrev pub InstrViolates : List Constant → Instr → ℕ → Type 0

@@ -5,13 +5,13 @@ use Rattle.dj_edge.specs.trusted.Held.{File}
 use Rattle.dj_class.specs.trusted.ClassFile.{MemberInfo, ClassFile}
 use Rattle.dj_report.specs.declared.report.Violation.{Violation}
 use Rattle.dj_report.specs.trusted.Lines.{file_line}
-use Rattle.dj_rules.specs.trusted.Violations.{member_text, this_name, IsClassLine}
-use Rattle.dj_hierarchy.specs.trusted.Hierarchy.{ViolatesHierarchy}
-use Rattle.dj_check.specs.trusted.Malformed.{IsRefused, IsGood}
-use Rattle.dj_check.specs.trusted.Heads.{head_of, StandsAmong, HasRepeats}
-use Rattle.dj_check.specs.trusted.Classes.{IsReserved}
-use Rattle.dj_check.specs.trusted.Members.{HasFloatConstant, IsFloatField}
-use Rattle.dj_check.specs.trusted.Methods.{MethodViolates}
+use Rattle.dj_file_rules.specs.trusted.Violations.{member_text, this_name, IsClassLine}
+use Rattle.dj_hierarchy_rule.specs.trusted.Hierarchy.{ViolatesHierarchy}
+use Rattle.dj_early_rules.specs.trusted.Malformed.{IsRefused, IsGood}
+use Rattle.dj_early_rules.specs.trusted.Heads.{head_of, StandsAmong, HasRepeats}
+use Rattle.dj_early_rules.specs.trusted.Classes.{IsReserved}
+use Rattle.dj_early_rules.specs.trusted.Members.{HasFloatConstant, IsFloatField}
+use Rattle.dj_early_rules.specs.trusted.Methods.{MethodViolates}
 
 -- ---- lines of one class file
 

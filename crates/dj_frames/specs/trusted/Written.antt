@@ -1,6 +1,6 @@
 -- The body of a stack map as djvm writes it: each frame has the short form where there is one (JVMS 4.7.4).
 use Rattle.std.specs.Prelude.{ℕ, ◌+◌, ◌-◌, List, [], ◌∷◌, ◌++◌, length, Option, Some, None, slice_index, nat_le, if◌then◌else◌}
-use Rattle.dj_bytes.specs.trusted.Spelling.{u1, u2}
+use Rattle.dj_cursor.specs.trusted.Spelling.{u1, u2}
 use Rattle.dj_ops.specs.declared.frames.Form.{Form}
 use Rattle.dj_ops.specs.declared.frames.Form.TheVariants as forms
 use Rattle.dj_ops.specs.declared.frames.Frame.{Frame}

@@ -6,10 +6,10 @@ use Rattle.dj_ops.specs.declared.instruction.Instr.{Instr}
 use Rattle.dj_pool.specs.trusted.Pool.{Constant}
 use Rattle.dj_model.specs.trusted.Types.{constructor_name}
 use Rattle.dj_model.specs.trusted.Program.{Program, Class, class_at, is_interface}
-use Rattle.dj_check.specs.trusted.Classes.{BeginsWith}
-use Rattle.dj_check.specs.trusted.Instructions.{NamesSuch}
-use Rattle.dj_declared.specs.trusted.Members.{has_method_named}
-use Rattle.dj_link.specs.trusted.Named.{named_type, class_of_type, NamesNoClass, NamesNoMember, MakesSuch}
+use Rattle.dj_early_rules.specs.trusted.Classes.{BeginsWith}
+use Rattle.dj_early_rules.specs.trusted.Instructions.{NamesSuch}
+use Rattle.dj_declarations.specs.trusted.Members.{has_method_named}
+use Rattle.dj_link_rules.specs.trusted.Named.{named_type, class_of_type, NamesNoClass, NamesNoMember, MakesSuch}
 
 -- a name in the library's packages
 abbrev pub IsOfLibrary : Name → Type 0

@@ -9,13 +9,13 @@ use Rattle.dj_labels.specs.declared.labelled.Protected.{Protected}
 use Rattle.dj_labels.specs.declared.labelled.Labelled.{Labelled}
 use Rattle.dj_report.specs.declared.report.Violation.{Violation}
 use Rattle.dj_model.specs.trusted.Program.{Program}
-use Rattle.dj_rules.specs.trusted.Violations.{this_name}
-use Rattle.dj_check.specs.trusted.Malformed.{IsGood}
-use Rattle.dj_check.specs.trusted.Code.{IsLabelledOf}
-use Rattle.dj_check.specs.trusted.Methods.{InstrViolates, CatchesError}
-use Rattle.dj_check.specs.trusted.Rules.{IsMemberLine}
-use Rattle.dj_link.specs.trusted.Foreign.{IsForeign, IsForeignConstant}
-use Rattle.dj_link.specs.trusted.Unlinked.{IsUnlinked, IsUnlinkedCatch}
+use Rattle.dj_file_rules.specs.trusted.Violations.{this_name}
+use Rattle.dj_early_rules.specs.trusted.Malformed.{IsGood}
+use Rattle.dj_early_rules.specs.trusted.Code.{IsLabelledOf}
+use Rattle.dj_early_rules.specs.trusted.Methods.{InstrViolates, CatchesError}
+use Rattle.dj_early_rules.specs.trusted.Rules.{IsMemberLine}
+use Rattle.dj_link_rules.specs.trusted.Foreign.{IsForeign, IsForeignConstant}
+use Rattle.dj_link_rules.specs.trusted.Unlinked.{IsUnlinked, IsUnlinkedCatch}
 
 -- rule 17 where the first condition is met; else rule 18 where the second is. A line of rule 17 hides that of rule 18
 abbrev pub IsFirstOf : Type 0 → Type 0 → ℕ → Type 0

@@ -9,8 +9,8 @@ use Rattle.dj_pool.specs.trusted.Pool.{Constant, Field, Method, InterfaceMethod,
 use Rattle.dj_model.specs.trusted.Types.{Member}
 use Rattle.dj_model.specs.trusted.Program.{Program, class_at, is_static}
 use Rattle.dj_model.specs.trusted.Linking.{FoundField, FoundMethod, resolve_field, resolve_method, class_or_object}
-use Rattle.dj_check.specs.trusted.Classes.{class_text_index, names_at}
-use Rattle.dj_declared.specs.trusted.Files.{desc_in, type_in}
+use Rattle.dj_early_rules.specs.trusted.Classes.{class_text_index, names_at}
+use Rattle.dj_declarations.specs.trusted.Files.{desc_in, type_in}
 
 -- ---- classes
 

@@ -10,8 +10,8 @@ use Rattle.dj_model.specs.trusted.Program as programs
 use Rattle.dj_model.specs.trusted.Program.{Program, class_at, flags_of, is_interface, is_abstract}
 use Rattle.dj_model.specs.trusted.Linking.{chain, is_among}
 use Rattle.dj_model.specs.trusted.Numbers.{agrees}
-use Rattle.dj_check.specs.trusted.Instructions.{index_of, NamesSuch}
-use Rattle.dj_link.specs.trusted.Named.{named_type, class_of_type, named_member, is_static_found, NamesNoClass, NamesNoMember, MakesSuch}
+use Rattle.dj_early_rules.specs.trusted.Instructions.{index_of, NamesSuch}
+use Rattle.dj_link_rules.specs.trusted.Named.{named_type, class_of_type, named_member, is_static_found, NamesNoClass, NamesNoMember, MakesSuch}
 
 -- ---- tags
 

@@ -1,6 +1,6 @@
 -- Bytes as UTF-16 units (JVMS 4.4.7), at most this many.
 use Rattle.std.specs.Prelude.{ℕ, zero, suc, List, [], ◌∷◌, Option, Some, None}
-use Rattle.dj_bytes.specs.trusted.Options.{◌>>=◌}
+use Rattle.dj_cursor.specs.trusted.Options.{◌>>=◌}
 use Rattle.dj_names.specs.trusted.UnitReading.{unit_read}
 
 -- the units that all the bytes spell, where they are at most n

@@ -9,8 +9,8 @@ use Rattle.dj_labels.specs.declared.labelled.Labelled.{Labelled}
 use Rattle.dj_labels.specs.trusted.Labels.{IsLabelled}
 use Rattle.dj_model.specs.trusted.Instructions.{Named}
 use Rattle.dj_model.specs.trusted.Program.{Code, Range}
-use Rattle.dj_check.specs.trusted.Attributes.{maps_of}
-use Rattle.dj_check.specs.trusted.Code.{IsCodeOf, HasFrames}
+use Rattle.dj_early_rules.specs.trusted.Attributes.{maps_of}
+use Rattle.dj_early_rules.specs.trusted.Code.{IsCodeOf, HasFrames}
 use Rattle.dj_program.specs.trusted.Naming.{named_at, instruction_in}
 
 -- ---- what code is made of

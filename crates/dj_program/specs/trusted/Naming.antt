@@ -9,9 +9,9 @@ use Rattle.dj_model.specs.trusted.Types.{Member}
 use Rattle.dj_model.specs.trusted.Instructions.{Named, Nothing, AnInt, ALong, AText, AClass, AField, AMethod, AnInterfaceMethod, Another, Instruction}
 use Rattle.dj_model.specs.trusted.Opcodes.{instruction_of}
 use Rattle.dj_model.specs.trusted.Program as programs
-use Rattle.dj_check.specs.trusted.Attributes.{values_of}
-use Rattle.dj_check.specs.trusted.Instructions.{index_of}
-use Rattle.dj_declared.specs.trusted.Files.{desc_in, type_in, name_in}
+use Rattle.dj_early_rules.specs.trusted.Attributes.{values_of}
+use Rattle.dj_early_rules.specs.trusted.Instructions.{index_of}
+use Rattle.dj_declarations.specs.trusted.Files.{desc_in, type_in, name_in}
 
 -- ---- texts and members
 

@@ -5,7 +5,7 @@ use Rattle.dj_pool.specs.trusted.Pool.{Constant}
 use Rattle.dj_class.specs.trusted.ClassFile.{MemberInfo, ClassFile}
 use Rattle.dj_model.specs.trusted.Program.{Program, Class, Method, Field, Body, Abstract, Runs}
 use Rattle.dj_model.specs.trusted.Libraries.{joined, library_program}
-use Rattle.dj_declared.specs.trusted.Files.{is_bodiless, declared_method, declared_field, declared_class}
+use Rattle.dj_declarations.specs.trusted.Files.{is_bodiless, declared_method, declared_field, declared_class}
 use Rattle.dj_program.specs.trusted.Naming.{constant_in}
 use Rattle.dj_program.specs.trusted.Codes.{CodeParts, code_in, IsMethodCode}
 

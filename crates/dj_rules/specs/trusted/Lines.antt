@@ -4,12 +4,12 @@ use Rattle.dj_edge.specs.trusted.Held.{File}
 use Rattle.dj_class.specs.trusted.ClassFile.{MemberInfo, ClassFile}
 use Rattle.dj_report.specs.declared.report.Violation.{Violation}
 use Rattle.dj_model.specs.trusted.Program.{Program}
-use Rattle.dj_rules.specs.trusted.Violations.{IsNative, IsFinalizer}
-use Rattle.dj_check.specs.trusted.Malformed.{IsGood}
-use Rattle.dj_check.specs.trusted.Methods.{MethodViolates}
-use Rattle.dj_check.specs.trusted.Rules.{IsMemberLine}
-use Rattle.dj_link.specs.trusted.Lines.{MethodLinkViolates, IsLinkLine}
-use Rattle.dj_shape.specs.trusted.Rule.{LacksShape}
+use Rattle.dj_file_rules.specs.trusted.Violations.{IsNative, IsFinalizer}
+use Rattle.dj_early_rules.specs.trusted.Malformed.{IsGood}
+use Rattle.dj_early_rules.specs.trusted.Methods.{MethodViolates}
+use Rattle.dj_early_rules.specs.trusted.Rules.{IsMemberLine}
+use Rattle.dj_link_rules.specs.trusted.Lines.{MethodLinkViolates, IsLinkLine}
+use Rattle.dj_shape_rule.specs.trusted.Rule.{LacksShape}
 
 -- the method violates none of the rules 7 to 18
 pub record IsUnreported (program : Program) (c : ClassFile) (m : MemberInfo) : Type 0 where

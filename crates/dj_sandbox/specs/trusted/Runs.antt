@@ -10,9 +10,9 @@ use Rattle.dj_model.specs.trusted.Program.{Program}
 use Rattle.dj_model.specs.trusted.Runs.{plain_run}
 use Rattle.dj_model.specs.trusted.Runs as model_runs
 use Rattle.dj_program.specs.trusted.Programs.{IsProgramIn}
-use Rattle.dj_sandbox.specs.trusted.Checked.{AreGoodFiles}
-use Rattle.dj_sandbox.specs.trusted.RawRules.{entry_of, AreRawViolations}
-use Rattle.dj_sandbox.specs.trusted.Judging.{raw_terms}
+use Rattle.dj_class_set.specs.trusted.Checked.{AreGoodFiles}
+use Rattle.dj_class_set.specs.trusted.RawRules.{entry_of, AreRawViolations}
+use Rattle.dj_class_set.specs.trusted.Judging.{raw_terms}
 
 -- the costs and the steps of a run of the files' entry that takes exactly these answers
 abbrev pub IsRawRun : List File → Name → List ℕ → ℕ → List HostAnswer → Costs × ℕ → Type 0

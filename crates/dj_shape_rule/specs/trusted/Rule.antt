@@ -5,7 +5,7 @@ use Rattle.dj_class.specs.trusted.ClassFile.{MemberInfo}
 use Rattle.dj_model.specs.trusted.Program.{is_static}
 use Rattle.dj_model.specs.trusted.Kinds.{Signature, signature_of}
 use Rattle.dj_model.specs.trusted.Shape.{IsShapeFault}
-use Rattle.dj_declared.specs.trusted.Files.{desc_in, name_in}
+use Rattle.dj_declarations.specs.trusted.Files.{desc_in, name_in}
 use Rattle.dj_program.specs.trusted.Codes.{CodeParts, code_in, IsMethodCode}
 
 -- the kinds that a method takes and returns; its descriptor is the text of this index. None where it has a float or a double

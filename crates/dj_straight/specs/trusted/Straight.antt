@@ -13,7 +13,7 @@ use Rattle.dj_class.specs.trusted.Code.{CodeInfo, IsCode}
 use Rattle.dj_straight.specs.trusted.Instructions.{instruction_of}
 use Rattle.dj_straight.specs.trusted.Program.{Program, Class, Method, Code, Runs}
 use Rattle.dj_straight.specs.trusted.Methods.{straight_descriptor, object_name}
-use Rattle.dj_rules.specs.trusted.Violations.{this_name}
+use Rattle.dj_file_rules.specs.trusted.Violations.{this_name}
 
 -- the text at the index of the attribute's name is this one
 abbrev pub is_named : List Constant → List ℕ → AttributeInfo → Bool

@@ -11,9 +11,9 @@ ghost use Rattle.dj_straight.specs.Finds.{Finds, found_code};
 use crate::cut::read_instrs;
 use crate::program::{Action, action_of};
 use dj_class::{Attribute, CodeView, read_code};
+use dj_file_rules::is_memory;
 use dj_ops::Instr;
 use dj_pool::Pool;
-use dj_rules::is_memory;
 use std::alloc::{AllocError, Global};
 
 /// Straight code.

@@ -6,8 +6,8 @@ use Rattle.dj_edge.specs.declared.host.HostAnswer.{HostAnswer}
 use Rattle.dj_edge.specs.trusted.Counts.{Rose, IsPrefix, GrowsByPrefix}
 use Rattle.dj_report.specs.declared.report.Report.{Report}
 use Rattle.dj_report.specs.trusted.Text.{report_text, report_status}
-use Rattle.dj_sandbox.specs.trusted.Statuses.{IsAmong}
-use Rattle.dj_words.specs.trusted.DoneJobs.{DoneJob, Check, Verify, Raw, OnFolder, Assemble, done_job_of}
+use Rattle.dj_class_set.specs.trusted.Statuses.{IsAmong}
+use Rattle.dj_command_line.specs.trusted.DoneJobs.{DoneJob, Check, Verify, Raw, OnFolder, Assemble, done_job_of}
 use Rattle.djvm_cli.specs.trusted.Report.{IsReport, asks}
 
 -- the store failed or lacks a file; the sink failed; there was no memory

@@ -3,10 +3,10 @@ use Rattle.std.specs.Prelude.{◌≡◌, ◌⊎◌, ⊤, ℕ, List, [], ◌∷�
 use Rattle.dj_edge.specs.trusted.Held.{File, Held, class_files}
 use Rattle.dj_edge.specs.declared.host.HostAnswer.{HostAnswer}
 use Rattle.dj_names.specs.declared.run.Costs.{Costs}
-use Rattle.dj_sandbox.specs.trusted.Entry.{entry_name}
+use Rattle.dj_class_set.specs.trusted.Entry.{entry_name}
 use Rattle.dj_names.specs.trusted.Types.{Name}
-use Rattle.dj_running.specs.trusted.Runs.{IsRawRun, AreRawRuns}
-use Rattle.dj_words.specs.trusted.DoneJobs.{DoneJob, FolderJob, Raw, OnFolder, done_job_of}
+use Rattle.dj_sandbox.specs.trusted.Runs.{IsRawRun, AreRawRuns}
+use Rattle.dj_command_line.specs.trusted.DoneJobs.{DoneJob, FolderJob, Raw, OnFolder, done_job_of}
 use Rattle.djvm_cli.specs.trusted.Jobs.{folder_of}
 use Rattle.djvm_cli.specs.trusted.Report.{CountsFiles, FindsInput, ReadsFiles, files_within, input_of}
 

@@ -1,6 +1,6 @@
 -- What the jobs that djvm does have in common.
 use Rattle.std.specs.Prelude.{⊤, List, ℕ, Option, Some}
-use Rattle.dj_words.specs.trusted.DoneJobs.{DoneJob, FolderJob, Check, Verify, Raw, OnFolder}
+use Rattle.dj_command_line.specs.trusted.DoneJobs.{DoneJob, FolderJob, Check, Verify, Raw, OnFolder}
 
 abbrev pub folder_of : FolderJob → List ℕ
 folder_of (Check folder) = folder

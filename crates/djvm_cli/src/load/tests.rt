@@ -2,9 +2,9 @@ ghost use Rattle.std.specs.Prelude.{None, []};
 
 use crate::assembling::report_of_text;
 use crate::load::{list_paths, read_files, read_job_input};
+use dj_command_line::FolderCommand;
 use dj_edge::{Files, ListError, ReadError};
 use dj_names::Thresholds;
-use dj_words::FolderCommand;
 use std::alloc::Global;
 use std::test::Fail;
 

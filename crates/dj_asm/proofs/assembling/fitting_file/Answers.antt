@@ -1,9 +1,9 @@
 use Rattle.std.proofs.Common.{◌≡◌, List, Option, None, map, sym, ◌∙◌, subst, rules}
-use Rattle.dj_source.specs.trusted.Lines.{Line}
-use Rattle.dj_source.specs.trusted.Sources.{Source}
-use Rattle.dj_source.specs.LineViews.{line_view}
-use Rattle.dj_source.specs.SourceLines.{AreLinesOf}
-use Rattle.dj_entries.specs.Room.{IsFirst}
+use Rattle.dj_asm_source.specs.trusted.Lines.{Line}
+use Rattle.dj_asm_source.specs.trusted.Sources.{Source}
+use Rattle.dj_asm_source.specs.LineViews.{line_view}
+use Rattle.dj_asm_source.specs.SourceLines.{AreLinesOf}
+use Rattle.dj_asm_pool.specs.Room.{IsFirst}
 use Rattle.dj_asm.specs.trusted.Large.{IsTooLarge}
 use Rattle.dj_asm.specs.Assembling.{IsJudged, IsFirstBeside}
 use Rattle.dj_asm.proofs.AssembleLaws.{first_of_both, judged, none_found, fits_or_found}

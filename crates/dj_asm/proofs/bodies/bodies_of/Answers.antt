@@ -1,7 +1,7 @@
 use Rattle.std.proofs.Common.{rules, ◌≡◌, ◌-◌, ◌<◌, [], ◌∷◌, ◌++◌, length, map, take, drop, ap, sym, ◌∙◌, subst, append-nil}
 use Rattle.std.proofs.lemmas.List.{take_rest}
-use Rattle.dj_source.specs.LineViews.{line_view}
-use Rattle.dj_source.specs.LabelReading.{section_size}
+use Rattle.dj_asm_source.specs.LineViews.{line_view}
+use Rattle.dj_asm_source.specs.LabelReading.{section_size}
 use Rattle.dj_asm.specs.Filing.{IsBody, MayHaveBody, AreBodies}
 use Rattle.dj_asm.proofs.FileSteps.{may_more, bodies_more, no_bodies}
 use Rattle.dj_asm.proofs.bodies.bodies_of.Goals as goal

@@ -1,5 +1,5 @@
 use Rattle.std.proofs.Common.{ℕ, ◌≤◌, ◌-◌, List, ◌++◌, length, map, drop}
-use Rattle.dj_source.specs.LineViews.{line_view}
+use Rattle.dj_asm_source.specs.LineViews.{line_view}
 use Rattle.dj_asm.specs.Filing.{MayHaveBodies, AreBodies}
 use Rattle.dj_asm.proofs.bodies.bodies_of.Given as goal
 

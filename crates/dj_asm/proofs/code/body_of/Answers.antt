@@ -1,6 +1,6 @@
 use Rattle.std.proofs.Common.{◌≡◌, map, rules}
-use Rattle.dj_source.specs.LineViews.{line_view}
-use Rattle.dj_entries.specs.Pooling.{found_index}
+use Rattle.dj_asm_source.specs.LineViews.{line_view}
+use Rattle.dj_asm_pool.specs.Pooling.{found_index}
 use Rattle.dj_asm.specs.trusted.Codes.{frames_in}
 use Rattle.dj_asm.specs.trusted.Files.{places_of}
 use Rattle.dj_asm.proofs.MethodCode.{lines_frames}

@@ -1,5 +1,5 @@
 use Rattle.std.proofs.Common.{rules, ◌≡◌, ◌<◌, true, false, ◌∙◌}
-use Rattle.dj_source.specs.LineViews.{line_view}
+use Rattle.dj_asm_source.specs.LineViews.{line_view}
 use Rattle.dj_asm.specs.Judging.{is_kind}
 use Rattle.dj_asm.proofs.JudgedFirst.{next_counted, next_other}
 use Rattle.dj_asm.proofs.counted.first_past.Goals.{then-is_kind+else-count-ge-MOST_LINES, else-is_kind}

@@ -1,6 +1,6 @@
 use Rattle.std.proofs.Common.{◌≡◌, map, take}
 use Rattle.std.specs.List.{count_by}
-use Rattle.dj_source.specs.LineViews.{line_view}
+use Rattle.dj_asm_source.specs.LineViews.{line_view}
 use Rattle.dj_asm.specs.Judging.{NoneBelow, is_kind, is_past}
 use Rattle.dj_asm.proofs.counted.first_past.Given as goal
 

@@ -1,6 +1,6 @@
 use Rattle.std.proofs.Common.{ℕ, List, ◌-◌, length, map, take, drop, ap, ◌∙◌}
 use Rattle.dj_class.specs.trusted.ClassFile.{class_bytes}
-use Rattle.dj_source.specs.LineViews.{line_view}
+use Rattle.dj_asm_source.specs.LineViews.{line_view}
 use Rattle.dj_asm.specs.Filing.{file_in}
 use Rattle.dj_asm.proofs.FileLines.{has_code_lines, may_have_code, code_file}
 use Rattle.dj_asm.proofs.file.write_file.Goals as goal

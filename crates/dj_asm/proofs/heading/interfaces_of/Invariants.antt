@@ -1,7 +1,7 @@
 use Rattle.std.proofs.Common.{◌≡◌, map, take}
 use Rattle.std.specs.List.{flat_map}
-use Rattle.dj_source.specs.LineViews.{line_view}
-use Rattle.dj_entries.specs.Pooling.{found_index}
+use Rattle.dj_asm_source.specs.LineViews.{line_view}
+use Rattle.dj_asm_pool.specs.Pooling.{found_index}
 use Rattle.dj_asm.specs.Filing.{interface_indexes}
 use Rattle.dj_asm.proofs.heading.interfaces_of.Given as goal
 

@@ -1,4 +1,4 @@
-use Rattle.dj_entries.specs.Pooling.{found_index}
+use Rattle.dj_asm_pool.specs.Pooling.{found_index}
 use Rattle.dj_asm.specs.trusted.Files.{places_of}
 use Rattle.dj_asm.proofs.ProperCode.{proper_at}
 use Rattle.dj_asm.proofs.instrs.instrs_of.Goals as goal

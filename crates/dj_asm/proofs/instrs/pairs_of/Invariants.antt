@@ -1,7 +1,7 @@
 use Rattle.std.proofs.Common.{◌≡◌, ℤ, pos, map, take}
-use Rattle.dj_source.specs.trusted.Lines.{Label}
-use Rattle.dj_source.specs.trusted.Labels.{label_number}
-use Rattle.dj_source.specs.PairViews.{pair_view}
+use Rattle.dj_asm_source.specs.trusted.Lines.{Label}
+use Rattle.dj_asm_source.specs.trusted.Labels.{label_number}
+use Rattle.dj_asm_source.specs.PairViews.{pair_view}
 use Rattle.dj_asm.proofs.instrs.pairs_of.Given as goal
 
 abbrev pub invariant-loop-pair : goal.invariant-loop-pair

@@ -1,7 +1,7 @@
 use Rattle.std.proofs.Common.{rules, ◌≡◌, ◌-◌, ◌≤◌, length, map, take, drop, Some, None, ap, ◌∙◌, subst}
 use Rattle.std.proofs.lemmas.List.{take_rest}
-use Rattle.dj_source.specs.LineViews.{line_view}
-use Rattle.dj_source.specs.LabelReading.{section_size}
+use Rattle.dj_asm_source.specs.LineViews.{line_view}
+use Rattle.dj_asm_source.specs.LabelReading.{section_size}
 use Rattle.dj_asm.specs.Judging.{IsFirstOf, is_large_in}
 use Rattle.dj_asm.proofs.JudgedSections.{found_in_section, none_in_section}
 use Rattle.dj_asm.proofs.judge.first_in_sections.Goals as goal

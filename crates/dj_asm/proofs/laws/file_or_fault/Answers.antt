@@ -1,5 +1,5 @@
 use Rattle.dj_asm.proofs.FileOrFault.{file_or_fault}
-use Rattle.dj_source.proofs.LabelTextLaws.{label_fault_or_none}
+use Rattle.dj_asm_source.proofs.LabelTextLaws.{label_fault_or_none}
 use Rattle.dj_asm.proofs.laws.file_or_fault.Goals as goal
 
 pub returns : goal.returns

@@ -1,6 +1,6 @@
 use Rattle.std.proofs.Common.{◌≡◌, ◌++◌, map, drop}
-use Rattle.dj_source.specs.LineViews.{line_view}
-use Rattle.dj_entries.specs.Pooling.{found_index}
+use Rattle.dj_asm_source.specs.LineViews.{line_view}
+use Rattle.dj_asm_pool.specs.Pooling.{found_index}
 use Rattle.dj_asm.specs.Filing.{members_in}
 use Rattle.dj_asm.proofs.member_list.members_of.Given as goal
 

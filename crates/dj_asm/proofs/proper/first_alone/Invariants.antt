@@ -1,5 +1,5 @@
 use Rattle.std.proofs.Common.{map}
-use Rattle.dj_source.specs.LineViews.{line_view}
+use Rattle.dj_asm_source.specs.LineViews.{line_view}
 use Rattle.dj_asm.specs.Judging.{NoneBelow, alone}
 use Rattle.dj_asm.proofs.proper.first_alone.Given as goal
 

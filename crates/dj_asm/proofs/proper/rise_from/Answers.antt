@@ -1,8 +1,8 @@
 use Rattle.std.proofs.Common.{rules, ◌≡◌, ◌+◌, ◌<◌, ◌≤ℤ◌, ◌<ℤ◌, ℤ, pos, [], length, map, drop, slice_index_or, w32, SFits, to_z, of_z, ap, ◌∙◌, arith}
 use Rattle.std.proofs.lemmas.Int.{to_z-of_z}
 use Rattle.std.proofs.lemmas.List.{get_or_default}
-use Rattle.dj_source.specs.declared.targets.Pair as the_pair
-use Rattle.dj_source.specs.PairViews.{pair_view}
+use Rattle.dj_asm_source.specs.declared.targets.Pair as the_pair
+use Rattle.dj_asm_source.specs.PairViews.{pair_view}
 use Rattle.dj_asm.specs.Judging.{rise_from}
 use Rattle.dj_asm.proofs.JudgedLines.{rise_stops, rise_goes}
 use Rattle.dj_asm.proofs.proper.rise_from.Goals as goal

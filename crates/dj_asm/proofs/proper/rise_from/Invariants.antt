@@ -1,5 +1,5 @@
 use Rattle.std.proofs.Common.{◌≡◌, map, drop}
-use Rattle.dj_source.specs.PairViews.{pair_view}
+use Rattle.dj_asm_source.specs.PairViews.{pair_view}
 use Rattle.dj_asm.specs.Judging.{rise_from}
 use Rattle.dj_asm.proofs.proper.rise_from.Given as goal
 

@@ -1,6 +1,6 @@
 use Rattle.std.proofs.Common.{rules, ◌≡◌, true, false, Some, ◌∙◌}
-use Rattle.dj_source.specs.LineViews.{line_view}
-use Rattle.dj_source.specs.trusted.Labels.{is_instruction, label_number}
+use Rattle.dj_asm_source.specs.LineViews.{line_view}
+use Rattle.dj_asm_source.specs.trusted.Labels.{is_instruction, label_number}
 use Rattle.dj_asm.specs.Judging.{is_wide_line}
 use Rattle.dj_asm.proofs.JudgedFirst.{none_wide, next_instruction, next_line}
 use Rattle.dj_asm.proofs.reach.first_wide.Goals.{then-is_instruction, else-is_instruction}

@@ -1,6 +1,6 @@
 use Rattle.std.proofs.Common.{◌≡◌, map, take}
-use Rattle.dj_source.specs.LineViews.{line_view}
-use Rattle.dj_source.specs.trusted.Labels.{instruction_count, label_number}
+use Rattle.dj_asm_source.specs.LineViews.{line_view}
+use Rattle.dj_asm_source.specs.trusted.Labels.{instruction_count, label_number}
 use Rattle.dj_asm.specs.Judging.{NoneBelow, is_wide}
 use Rattle.dj_asm.proofs.reach.first_wide.Given as goal
 

@@ -1,7 +1,7 @@
 use Rattle.std.proofs.Common.{◌≡◌, map, drop}
 use Rattle.std.specs.List.{list_all}
-use Rattle.dj_source.specs.PairViews.{pair_view}
-use Rattle.dj_source.specs.trusted.Labels.{label_number}
+use Rattle.dj_asm_source.specs.PairViews.{pair_view}
+use Rattle.dj_asm_source.specs.trusted.Labels.{label_number}
 use Rattle.dj_asm.specs.Judging.{reaches, target}
 use Rattle.dj_asm.proofs.reach.pairs_reached.Given as goal
 

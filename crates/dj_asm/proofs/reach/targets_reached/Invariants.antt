@@ -1,7 +1,7 @@
 use Rattle.std.proofs.Common.{◌≡◌, map, drop}
 use Rattle.std.specs.List.{list_all}
-use Rattle.dj_tokens.specs.Views.{units_of}
-use Rattle.dj_source.specs.trusted.Labels.{label_number}
+use Rattle.dj_asm_tokens.specs.Views.{units_of}
+use Rattle.dj_asm_source.specs.trusted.Labels.{label_number}
 use Rattle.dj_asm.specs.Judging.{reaches}
 use Rattle.dj_asm.proofs.reach.targets_reached.Given as goal
 

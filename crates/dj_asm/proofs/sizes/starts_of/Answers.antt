@@ -1,6 +1,6 @@
 use Rattle.std.proofs.Common.{rules, ℕ, ◌≡◌, ◌+◌, List, [], ◌∷◌, ◌++◌, sym, map, subst}
-use Rattle.dj_source.specs.LineViews.{line_view}
-use Rattle.dj_source.specs.OperationViews.{operation_view}
+use Rattle.dj_asm_source.specs.LineViews.{line_view}
+use Rattle.dj_asm_source.specs.OperationViews.{operation_view}
 use Rattle.dj_asm.specs.trusted.Codes.{operation_in}
 use Rattle.dj_asm.specs.Judging.{AreSoFar, size_at}
 use Rattle.dj_asm.proofs.JudgedCode.{one_further, none_further}

@@ -2,9 +2,9 @@ use Rattle.std.proofs.Common.{◌∷◌, ◌++◌, [], map, take, sym, ap, ◌�
 use Rattle.std.proofs.lemmas.Option.{slice_get-get_or}
 use Rattle.dj_pool.specs.trusted.Pool.{indexed}
 use Rattle.dj_pool.specs.Views.{constant_of}
-use Rattle.dj_entries.specs.Pooling.{constants_in}
-use Rattle.dj_entries.proofs.PoolEntries.{entries_more, indexed_nothing}
-use Rattle.dj_entries.proofs.entries.entries_of.Goals as goal
+use Rattle.dj_asm_pool.specs.Pooling.{constants_in}
+use Rattle.dj_asm_pool.proofs.PoolEntries.{entries_more, indexed_nothing}
+use Rattle.dj_asm_pool.proofs.entries.entries_of.Goals as goal
 
 pub loop-key-init : goal.loop-key-init
 loop-key-init c = ap (map constant_of) c.new-list.ensures.items ∙ sym indexed_nothing

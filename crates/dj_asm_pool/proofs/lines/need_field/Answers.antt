@@ -1,11 +1,11 @@
 use Rattle.std.proofs.Common.{◌∷◌, [], sym, subst}
 use Rattle.std.specs.Option.{option_map}
-use Rattle.dj_source.specs.TypeViews.{value_view}
-use Rattle.dj_entries.specs.trusted.Entries.{Utf8}
-use Rattle.dj_entries.specs.trusted.Needs.{value_entries}
-use Rattle.dj_entries.specs.PoolNeeds.{PutsNeeds}
-use Rattle.dj_entries.proofs.NeedSteps.{needs_then}
-use Rattle.dj_entries.proofs.lines.need_field.Goals as goal
+use Rattle.dj_asm_source.specs.TypeViews.{value_view}
+use Rattle.dj_asm_pool.specs.trusted.Entries.{Utf8}
+use Rattle.dj_asm_pool.specs.trusted.Needs.{value_entries}
+use Rattle.dj_asm_pool.specs.PoolNeeds.{PutsNeeds}
+use Rattle.dj_asm_pool.proofs.NeedSteps.{needs_then}
+use Rattle.dj_asm_pool.proofs.lines.need_field.Goals as goal
 
 pub returns : goal.returns
 returns c =

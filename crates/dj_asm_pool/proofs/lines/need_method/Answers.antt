@@ -1,9 +1,9 @@
 use Rattle.std.proofs.Common.{◌∷◌, [], sym, subst}
-use Rattle.dj_entries.specs.trusted.Entries.{Utf8}
-use Rattle.dj_entries.specs.trusted.Needs.{code_name}
-use Rattle.dj_entries.specs.PoolNeeds.{PutsNeeds}
-use Rattle.dj_entries.proofs.NeedSteps.{needs_then}
-use Rattle.dj_entries.proofs.lines.need_method.Goals as goal
+use Rattle.dj_asm_pool.specs.trusted.Entries.{Utf8}
+use Rattle.dj_asm_pool.specs.trusted.Needs.{code_name}
+use Rattle.dj_asm_pool.specs.PoolNeeds.{PutsNeeds}
+use Rattle.dj_asm_pool.proofs.NeedSteps.{needs_then}
+use Rattle.dj_asm_pool.proofs.lines.need_method.Goals as goal
 
 pub returns : goal.returns
 returns c =

@@ -1,9 +1,9 @@
 use Rattle.std.proofs.Common.{◌∷◌, [], sym, subst}
-use Rattle.dj_source.specs.TypeViews.{value_view}
-use Rattle.dj_entries.specs.trusted.Needs.{value_entry, constant_value_name}
-use Rattle.dj_entries.specs.PoolNeeds.{PutsNeeds}
-use Rattle.dj_entries.proofs.NeedSteps.{two_needs}
-use Rattle.dj_entries.proofs.lines.need_named_value.Goals as goal
+use Rattle.dj_asm_source.specs.TypeViews.{value_view}
+use Rattle.dj_asm_pool.specs.trusted.Needs.{value_entry, constant_value_name}
+use Rattle.dj_asm_pool.specs.PoolNeeds.{PutsNeeds}
+use Rattle.dj_asm_pool.proofs.NeedSteps.{two_needs}
+use Rattle.dj_asm_pool.proofs.lines.need_named_value.Goals as goal
 
 pub returns : goal.returns
 returns c =

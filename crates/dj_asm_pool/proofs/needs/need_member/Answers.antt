@@ -1,8 +1,8 @@
 use Rattle.std.proofs.Common.{◌∷◌, [], sym, subst}
-use Rattle.dj_entries.specs.trusted.Needs.{member_entry}
-use Rattle.dj_entries.specs.PoolNeeds.{PutsNeeds}
-use Rattle.dj_entries.proofs.NeedSteps.{member_need}
-use Rattle.dj_entries.proofs.needs.need_member.Goals as goal
+use Rattle.dj_asm_pool.specs.trusted.Needs.{member_entry}
+use Rattle.dj_asm_pool.specs.PoolNeeds.{PutsNeeds}
+use Rattle.dj_asm_pool.proofs.NeedSteps.{member_need}
+use Rattle.dj_asm_pool.proofs.needs.need_member.Goals as goal
 
 pub returns : goal.returns
 returns c =

@@ -1,8 +1,8 @@
 use Rattle.std.proofs.Common.{◌∷◌, [], sym, subst}
-use Rattle.dj_entries.specs.trusted.Entries.{Utf8}
-use Rattle.dj_entries.specs.PoolNeeds.{PutsNeeds}
-use Rattle.dj_entries.proofs.NeedSteps.{two_needs}
-use Rattle.dj_entries.proofs.needs.need_names.Goals as goal
+use Rattle.dj_asm_pool.specs.trusted.Entries.{Utf8}
+use Rattle.dj_asm_pool.specs.PoolNeeds.{PutsNeeds}
+use Rattle.dj_asm_pool.proofs.NeedSteps.{two_needs}
+use Rattle.dj_asm_pool.proofs.needs.need_names.Goals as goal
 
 pub returns : goal.returns
 returns c =

@@ -1,9 +1,9 @@
 use Rattle.std.proofs.Common.{◌∷◌, [], refl, sym, subst}
-use Rattle.dj_entries.specs.trusted.Entries as entries
-use Rattle.dj_entries.specs.PoolNeeds.{PutsNeeds}
-use Rattle.dj_entries.proofs.PoolChains.{alone}
-use Rattle.dj_entries.proofs.NeedSteps.{text_need}
-use Rattle.dj_entries.proofs.needs.need_text.Goals as goal
+use Rattle.dj_asm_pool.specs.trusted.Entries as entries
+use Rattle.dj_asm_pool.specs.PoolNeeds.{PutsNeeds}
+use Rattle.dj_asm_pool.proofs.PoolChains.{alone}
+use Rattle.dj_asm_pool.proofs.NeedSteps.{text_need}
+use Rattle.dj_asm_pool.proofs.needs.need_text.Goals as goal
 
 pub returns : goal.returns
 returns c =

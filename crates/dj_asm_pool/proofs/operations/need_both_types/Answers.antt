@@ -1,10 +1,10 @@
 use Rattle.std.proofs.Common.{◌++◌, map, sym, subst}
 use Rattle.std.specs.List.{flat_map}
-use Rattle.dj_source.specs.TypeViews.{type_view}
-use Rattle.dj_entries.specs.trusted.Needs.{type_entries}
-use Rattle.dj_entries.specs.PoolNeeds.{PutsNeeds}
-use Rattle.dj_entries.proofs.NeedSteps.{needs_then}
-use Rattle.dj_entries.proofs.operations.need_both_types.Goals as goal
+use Rattle.dj_asm_source.specs.TypeViews.{type_view}
+use Rattle.dj_asm_pool.specs.trusted.Needs.{type_entries}
+use Rattle.dj_asm_pool.specs.PoolNeeds.{PutsNeeds}
+use Rattle.dj_asm_pool.proofs.NeedSteps.{needs_then}
+use Rattle.dj_asm_pool.proofs.operations.need_both_types.Goals as goal
 
 pub returns : goal.returns
 returns c =

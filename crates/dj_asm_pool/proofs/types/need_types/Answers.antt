@@ -1,11 +1,11 @@
 use Rattle.std.proofs.Common.{◌&&◌, ◌+◌, Some, map, take, sym, ap, ◌∙◌, subst}
 use Rattle.std.proofs.lemmas.Option.{slice_get-get_or}
 use Rattle.std.specs.List.{flat_map}
-use Rattle.dj_source.specs.TypeViews.{type_view}
-use Rattle.dj_entries.specs.trusted.Needs.{type_entries}
-use Rattle.dj_entries.specs.PoolNeeds.{PutsNeeds}
-use Rattle.dj_entries.proofs.NeedSteps.{needs_then, types_more}
-use Rattle.dj_entries.proofs.types.need_types.Goals as goal
+use Rattle.dj_asm_source.specs.TypeViews.{type_view}
+use Rattle.dj_asm_pool.specs.trusted.Needs.{type_entries}
+use Rattle.dj_asm_pool.specs.PoolNeeds.{PutsNeeds}
+use Rattle.dj_asm_pool.proofs.NeedSteps.{needs_then, types_more}
+use Rattle.dj_asm_pool.proofs.types.need_types.Goals as goal
 
 pub loop-ty-preserved : goal.loop-ty-preserved
 loop-ty-preserved c =

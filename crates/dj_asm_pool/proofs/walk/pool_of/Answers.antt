@@ -1,12 +1,12 @@
 use Rattle.std.proofs.Common.{◌≡◌, ◌-◌, ◌≤◌, ◌++◌, length, map, take, drop, ap, ◌∙◌, subst, arith}
 use Rattle.std.specs.List.{enumerate_from}
 use Rattle.std.proofs.lemmas.List.{take_rest, length-drop}
-use Rattle.dj_source.specs.LineViews.{line_view}
-use Rattle.dj_source.specs.LabelReading.{section_size}
-use Rattle.dj_entries.specs.trusted.Needs.{method_needs}
-use Rattle.dj_entries.specs.Walking.{Walks}
-use Rattle.dj_entries.proofs.Walking.{sections_step, sections_end, walked_pool}
-use Rattle.dj_entries.proofs.walk.pool_of.Goals as goal
+use Rattle.dj_asm_source.specs.LineViews.{line_view}
+use Rattle.dj_asm_source.specs.LabelReading.{section_size}
+use Rattle.dj_asm_pool.specs.trusted.Needs.{method_needs}
+use Rattle.dj_asm_pool.specs.Walking.{Walks}
+use Rattle.dj_asm_pool.proofs.Walking.{sections_step, sections_end, walked_pool}
+use Rattle.dj_asm_pool.proofs.walk.pool_of.Goals as goal
 
 pub returns : goal.returns
 returns c = λ s are.

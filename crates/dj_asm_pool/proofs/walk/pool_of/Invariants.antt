@@ -1,9 +1,9 @@
 use Rattle.std.proofs.Common.{◌≡◌, ◌≤◌, ◌-◌, List, ◌++◌, length, map, drop}
-use Rattle.dj_source.specs.LineViews.{line_view}
-use Rattle.dj_source.specs.LabelReading.{sections_of}
-use Rattle.dj_entries.specs.trusted.Needs.{Need}
-use Rattle.dj_entries.specs.Walking.{AreWalked, section_needs}
-use Rattle.dj_entries.proofs.walk.pool_of.Given as goal
+use Rattle.dj_asm_source.specs.LineViews.{line_view}
+use Rattle.dj_asm_source.specs.LabelReading.{sections_of}
+use Rattle.dj_asm_pool.specs.trusted.Needs.{Need}
+use Rattle.dj_asm_pool.specs.Walking.{AreWalked, section_needs}
+use Rattle.dj_asm_pool.proofs.walk.pool_of.Given as goal
 
 -- the sections so far are walked
 abbrev pub invariant-loop-before : goal.invariant-loop-before

@@ -1,9 +1,9 @@
 use Rattle.std.proofs.Common.{◌++◌, map}
 use Rattle.std.specs.List.{enumerate_from}
-use Rattle.dj_source.specs.LineViews.{line_view}
-use Rattle.dj_entries.specs.trusted.Needs.{head_entries, instruction_entries, catch_entries, needs}
-use Rattle.dj_entries.proofs.Walking.{walks_then, walks_last}
-use Rattle.dj_entries.proofs.walk.walk_code.Goals as goal
+use Rattle.dj_asm_source.specs.LineViews.{line_view}
+use Rattle.dj_asm_pool.specs.trusted.Needs.{head_entries, instruction_entries, catch_entries, needs}
+use Rattle.dj_asm_pool.proofs.Walking.{walks_then, walks_last}
+use Rattle.dj_asm_pool.proofs.walk.walk_code.Goals as goal
 
 pub returns : goal.returns
 returns c =

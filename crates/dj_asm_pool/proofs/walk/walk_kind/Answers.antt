@@ -1,11 +1,11 @@
 use Rattle.std.proofs.Common.{◌+◌, Some, map, take, sym, ap, ◌∙◌, subst}
 use Rattle.std.specs.List.{enumerate_from}
 use Rattle.std.proofs.lemmas.Option.{slice_get-get_or}
-use Rattle.dj_source.specs.LineViews.{line_view}
-use Rattle.dj_entries.specs.trusted.Needs.{needs, needs_at}
-use Rattle.dj_entries.specs.Walking.{kind_entries, Walks}
-use Rattle.dj_entries.proofs.Walking.{needs_more, walks_then}
-use Rattle.dj_entries.proofs.walk.walk_kind.Goals as goal
+use Rattle.dj_asm_source.specs.LineViews.{line_view}
+use Rattle.dj_asm_pool.specs.trusted.Needs.{needs, needs_at}
+use Rattle.dj_asm_pool.specs.Walking.{kind_entries, Walks}
+use Rattle.dj_asm_pool.proofs.Walking.{needs_more, walks_then}
+use Rattle.dj_asm_pool.proofs.walk.walk_kind.Goals as goal
 
 pub loop-index-preserved : goal.loop-index-preserved
 loop-index-preserved c =

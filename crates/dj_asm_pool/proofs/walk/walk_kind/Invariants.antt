@@ -1,9 +1,9 @@
 use Rattle.std.proofs.Common.{take, map}
 use Rattle.std.specs.List.{enumerate_from}
-use Rattle.dj_source.specs.LineViews.{line_view}
-use Rattle.dj_entries.specs.trusted.Needs.{needs}
-use Rattle.dj_entries.specs.Walking.{kind_entries, Walks}
-use Rattle.dj_entries.proofs.walk.walk_kind.Given as goal
+use Rattle.dj_asm_source.specs.LineViews.{line_view}
+use Rattle.dj_asm_pool.specs.trusted.Needs.{needs}
+use Rattle.dj_asm_pool.specs.Walking.{kind_entries, Walks}
+use Rattle.dj_asm_pool.proofs.walk.walk_kind.Given as goal
 
 -- the lines so far are walked
 abbrev pub invariant-loop-index : goal.invariant-loop-index

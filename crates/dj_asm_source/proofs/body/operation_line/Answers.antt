@@ -1,9 +1,9 @@
 use Rattle.std.proofs.lemmas.Result.{err_from_is_err_and}
-use Rattle.dj_source.specs.trusted.Lines.{Operation, Does}
-use Rattle.dj_source.specs.LineReading.{operation}
-use Rattle.dj_tokens.specs.Views.{left_of}
-use Rattle.dj_source.proofs.TypeLists.{stop_map}
-use Rattle.dj_source.proofs.body.operation_line.Goals as goal
+use Rattle.dj_asm_source.specs.trusted.Lines.{Operation, Does}
+use Rattle.dj_asm_source.specs.LineReading.{operation}
+use Rattle.dj_asm_tokens.specs.Views.{left_of}
+use Rattle.dj_asm_source.proofs.TypeLists.{stop_map}
+use Rattle.dj_asm_source.proofs.body.operation_line.Goals as goal
 
 pub returns-in_err-operation : goal.returns-in_err-operation
 returns-in_err-operation c =

@@ -1,12 +1,12 @@
 use Rattle.std.proofs.Common.{List, subst}
 use Rattle.std.proofs.lemmas.Result.{err_from_is_err_and}
-use Rattle.dj_source.specs.trusted.Lines.{FrameType}
-use Rattle.dj_source.specs.Reading.{Read}
-use Rattle.dj_tokens.specs.Views.{left_of}
-use Rattle.dj_source.specs.TypeViews.{type_view}
-use Rattle.dj_source.specs.Stops.{GivesRead}
-use Rattle.dj_source.proofs.TypeLists.{up_to_end, up_to_more, up_to_stop}
-use Rattle.dj_source.proofs.frame.one_more.Goals as goal
+use Rattle.dj_asm_source.specs.trusted.Lines.{FrameType}
+use Rattle.dj_asm_source.specs.Reading.{Read}
+use Rattle.dj_asm_tokens.specs.Views.{left_of}
+use Rattle.dj_asm_source.specs.TypeViews.{type_view}
+use Rattle.dj_asm_source.specs.Stops.{GivesRead}
+use Rattle.dj_asm_source.proofs.TypeLists.{up_to_end, up_to_more, up_to_stop}
+use Rattle.dj_asm_source.proofs.frame.one_more.Goals as goal
 
 pub returns-in_err-third : goal.returns-in_err-third
 returns-in_err-third c =

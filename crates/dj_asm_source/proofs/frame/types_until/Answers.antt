@@ -1,13 +1,13 @@
 use Rattle.std.proofs.Common.{◌≡◌, ◌++◌, List, sym, subst}
 use Rattle.std.proofs.lemmas.Result.{err_from_is_err_and}
-use Rattle.dj_source.specs.trusted.Lines.{FrameType}
-use Rattle.dj_source.specs.Reading.{read_map}
-use Rattle.dj_source.specs.LineReading.{types_until}
-use Rattle.dj_tokens.specs.Views.{left_of}
-use Rattle.dj_source.specs.TypeViews.{type_view}
-use Rattle.dj_source.specs.StartViews.{ends_types}
-use Rattle.dj_source.proofs.TypeLists.{until_end, until_more, until_stop}
-use Rattle.dj_source.proofs.frame.types_until.Goals as goal
+use Rattle.dj_asm_source.specs.trusted.Lines.{FrameType}
+use Rattle.dj_asm_source.specs.Reading.{read_map}
+use Rattle.dj_asm_source.specs.LineReading.{types_until}
+use Rattle.dj_asm_tokens.specs.Views.{left_of}
+use Rattle.dj_asm_source.specs.TypeViews.{type_view}
+use Rattle.dj_asm_source.specs.StartViews.{ends_types}
+use Rattle.dj_asm_source.proofs.TypeLists.{until_end, until_more, until_stop}
+use Rattle.dj_asm_source.proofs.frame.types_until.Goals as goal
 
 pub returns-in-Some : goal.returns-in-Some
 returns-in-Some c =

@@ -1,9 +1,9 @@
 use Rattle.std.proofs.Common.{◌≡◌, ◌++◌, length}
-use Rattle.dj_source.specs.Reading.{read_map}
-use Rattle.dj_source.specs.LineReading.{types_until}
-use Rattle.dj_tokens.specs.Views.{left_of}
-use Rattle.dj_source.specs.StartViews.{ends_types}
-use Rattle.dj_source.proofs.frame.types_until.Given as goal
+use Rattle.dj_asm_source.specs.Reading.{read_map}
+use Rattle.dj_asm_source.specs.LineReading.{types_until}
+use Rattle.dj_asm_tokens.specs.Views.{left_of}
+use Rattle.dj_asm_source.specs.StartViews.{ends_types}
+use Rattle.dj_asm_source.proofs.frame.types_until.Given as goal
 
 -- what is left follows
 abbrev pub invariant-loop-rest : goal.invariant-loop-rest

@@ -1,8 +1,8 @@
 use Rattle.std.proofs.Common.{◌≡◌, length}
 use Rattle.std.specs.Cmp.Lexicographic.{slice_cmp}
 use Rattle.std.specs.Ordering.{nat_cmp}
-use Rattle.dj_tokens.specs.trusted.Words.{word_units}
-use Rattle.dj_source.proofs.label_table.compare_words.Given as goal
+use Rattle.dj_asm_tokens.specs.trusted.Words.{word_units}
+use Rattle.dj_asm_source.proofs.label_table.compare_words.Given as goal
 
 -- what is left of both decides
 abbrev pub invariant-loop-unit : goal.invariant-loop-unit

@@ -2,10 +2,10 @@ use Rattle.std.proofs.Common.{rules}
 use Rattle.std.specs.Cmp.Lexicographic.{slice_cmp}
 use Rattle.std.specs.Ordering.{nat_cmp, is_lt}
 use Rattle.std.proofs.lemmas.List.Sorted.{IsPartitionPoint-from_clause}
-use Rattle.dj_tokens.specs.trusted.Words.{word_units}
-use Rattle.dj_source.specs.LabelViews.{label_of_mark}
-use Rattle.dj_source.proofs.LabelTables.{parted_by}
-use Rattle.dj_source.proofs.label_table.first_not_before.Goals as goal
+use Rattle.dj_asm_tokens.specs.trusted.Words.{word_units}
+use Rattle.dj_asm_source.specs.LabelViews.{label_of_mark}
+use Rattle.dj_asm_source.proofs.LabelTables.{parted_by}
+use Rattle.dj_asm_source.proofs.label_table.first_not_before.Goals as goal
 
 pub returns-clause-point : goal.returns-clause-point
 returns-clause-point c =

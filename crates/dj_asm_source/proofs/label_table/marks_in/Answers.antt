@@ -1,9 +1,9 @@
 use Rattle.std.proofs.Common.{◌≡◌, ◌≤◌, ◌+◌, ◌++◌, ℕ, List, map, drop, subst, sym, ◌∙◌}
-use Rattle.dj_source.specs.LabelReading.{marks_from, marks_of}
-use Rattle.dj_source.specs.LabelViews.{mark_row}
-use Rattle.dj_source.specs.LineViews.{line_view}
-use Rattle.dj_source.proofs.LabelTables.{number_more, marked_more}
-use Rattle.dj_source.proofs.label_table.marks_in.Goals as goal
+use Rattle.dj_asm_source.specs.LabelReading.{marks_from, marks_of}
+use Rattle.dj_asm_source.specs.LabelViews.{mark_row}
+use Rattle.dj_asm_source.specs.LineViews.{line_view}
+use Rattle.dj_asm_source.proofs.LabelTables.{number_more, marked_more}
+use Rattle.dj_asm_source.proofs.label_table.marks_in.Goals as goal
 
 pub loop-place-preserved : goal.loop-place-preserved
 loop-place-preserved c =

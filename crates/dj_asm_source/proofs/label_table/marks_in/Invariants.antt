@@ -1,8 +1,8 @@
 use Rattle.std.proofs.Common.{◌≡◌, ◌≤◌, ◌++◌, drop, map}
-use Rattle.dj_source.specs.LabelReading.{marks_from, marks_of}
-use Rattle.dj_source.specs.LabelViews.{mark_row}
-use Rattle.dj_source.specs.LineViews.{line_view}
-use Rattle.dj_source.proofs.label_table.marks_in.Given as goal
+use Rattle.dj_asm_source.specs.LabelReading.{marks_from, marks_of}
+use Rattle.dj_asm_source.specs.LabelViews.{mark_row}
+use Rattle.dj_asm_source.specs.LineViews.{line_view}
+use Rattle.dj_asm_source.proofs.label_table.marks_in.Given as goal
 
 -- the marks so far, and those of the lines that are left
 abbrev pub invariant-loop-place : goal.invariant-loop-place

@@ -1,7 +1,7 @@
 use Rattle.std.proofs.Common.{rules}
-use Rattle.dj_source.specs.LabelViews.{is_label_before}
-use Rattle.dj_source.proofs.LabelTables.{compares_labels}
-use Rattle.dj_source.proofs.label_table.sort_by_label.Goals as goal
+use Rattle.dj_asm_source.specs.LabelViews.{is_label_before}
+use Rattle.dj_asm_source.proofs.LabelTables.{compares_labels}
+use Rattle.dj_asm_source.proofs.label_table.sort_by_label.Goals as goal
 
 pub returns-clause-sorted : goal.returns-clause-sorted
 returns-clause-sorted c =

@@ -1,9 +1,9 @@
 use Rattle.std.proofs.Common.{rules, ◌≡◌, ◌-◌, ◌≤◌, length, map, take, drop, ap, sym, ◌∙◌, subst}
 use Rattle.std.proofs.lemmas.List.{take_rest}
-use Rattle.dj_source.specs.LineViews.{line_view}
-use Rattle.dj_source.specs.LabelReading.{section_size, mislabelled_in}
-use Rattle.dj_source.proofs.Labellings.{next_section, found_section}
-use Rattle.dj_source.proofs.labelling.first_mislabelled.Goals as goal
+use Rattle.dj_asm_source.specs.LineViews.{line_view}
+use Rattle.dj_asm_source.specs.LabelReading.{section_size, mislabelled_in}
+use Rattle.dj_asm_source.proofs.Labellings.{next_section, found_section}
+use Rattle.dj_asm_source.proofs.labelling.first_mislabelled.Goals as goal
 
 pub returns-in-Some : goal.returns-in-Some
 returns-in-Some c =

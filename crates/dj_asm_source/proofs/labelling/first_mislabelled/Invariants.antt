@@ -1,7 +1,7 @@
 use Rattle.std.proofs.Common.{◌≡◌, ◌≤◌, ◌-◌, length, map, drop}
-use Rattle.dj_source.specs.LineViews.{line_view}
-use Rattle.dj_source.specs.LabelReading.{sections_of, mislabelled_after, first_mislabelled}
-use Rattle.dj_source.proofs.labelling.first_mislabelled.Given as goal
+use Rattle.dj_asm_source.specs.LineViews.{line_view}
+use Rattle.dj_asm_source.specs.LabelReading.{sections_of, mislabelled_after, first_mislabelled}
+use Rattle.dj_asm_source.proofs.labelling.first_mislabelled.Given as goal
 
 -- the sections that are left decide
 abbrev pub invariant-loop-before : goal.invariant-loop-before

@@ -1,7 +1,7 @@
 use Rattle.std.proofs.Common.{◌≡◌, map, drop}
-use Rattle.dj_source.specs.LineViews.{line_view}
-use Rattle.dj_source.specs.LabelReading.{mislabelled_from}
-use Rattle.dj_source.proofs.labelling.mislabelled_by.Given as goal
+use Rattle.dj_asm_source.specs.LineViews.{line_view}
+use Rattle.dj_asm_source.specs.LabelReading.{mislabelled_from}
+use Rattle.dj_asm_source.proofs.labelling.mislabelled_by.Given as goal
 
 -- the lines that are left decide
 abbrev pub invariant-loop-place : goal.invariant-loop-place

@@ -1,10 +1,10 @@
 use Rattle.std.proofs.Common.{◌≡◌, ℤ, map, drop}
 use Rattle.std.specs.List.{list_all}
-use Rattle.dj_source.specs.trusted.Lines.{Label}
-use Rattle.dj_source.specs.PairViews.{pair_view}
-use Rattle.dj_source.specs.trusted.Labels.{AtInstruction}
-use Rattle.dj_source.specs.LabelReading.{is_met}
-use Rattle.dj_source.proofs.labelling.pairs_are_met.Given as goal
+use Rattle.dj_asm_source.specs.trusted.Lines.{Label}
+use Rattle.dj_asm_source.specs.PairViews.{pair_view}
+use Rattle.dj_asm_source.specs.trusted.Labels.{AtInstruction}
+use Rattle.dj_asm_source.specs.LabelReading.{is_met}
+use Rattle.dj_asm_source.proofs.labelling.pairs_are_met.Given as goal
 
 -- the pairs that are left decide
 abbrev pub invariant-loop-pair : goal.invariant-loop-pair

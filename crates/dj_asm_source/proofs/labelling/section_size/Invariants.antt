@@ -1,8 +1,8 @@
 use Rattle.std.proofs.Common.{◌≡◌, ◌+◌, ◌≤◌, ◌-◌, length, map, drop}
 use Rattle.std.specs.List.{prefix_len}
-use Rattle.dj_source.specs.LineViews.{line_view}
-use Rattle.dj_source.specs.LabelReading.{is_inside, section_size}
-use Rattle.dj_source.proofs.labelling.section_size.Given as goal
+use Rattle.dj_asm_source.specs.LineViews.{line_view}
+use Rattle.dj_asm_source.specs.LabelReading.{is_inside, section_size}
+use Rattle.dj_asm_source.proofs.labelling.section_size.Given as goal
 
 -- the lines so far, and those of the section that are left
 abbrev pub invariant-loop-size : goal.invariant-loop-size

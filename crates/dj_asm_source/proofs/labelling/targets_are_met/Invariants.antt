@@ -1,9 +1,9 @@
 use Rattle.std.proofs.Common.{◌≡◌, map, drop}
 use Rattle.std.specs.List.{list_all}
-use Rattle.dj_tokens.specs.Views.{units_of}
-use Rattle.dj_source.specs.trusted.Labels.{AtInstruction}
-use Rattle.dj_source.specs.LabelReading.{is_met}
-use Rattle.dj_source.proofs.labelling.targets_are_met.Given as goal
+use Rattle.dj_asm_tokens.specs.Views.{units_of}
+use Rattle.dj_asm_source.specs.trusted.Labels.{AtInstruction}
+use Rattle.dj_asm_source.specs.LabelReading.{is_met}
+use Rattle.dj_asm_source.proofs.labelling.targets_are_met.Given as goal
 
 -- the targets that are left decide
 abbrev pub invariant-loop-target : goal.invariant-loop-target

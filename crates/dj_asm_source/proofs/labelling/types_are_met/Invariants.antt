@@ -1,9 +1,9 @@
 use Rattle.std.proofs.Common.{◌≡◌, map, drop}
 use Rattle.std.specs.List.{list_all, flat_map}
-use Rattle.dj_source.specs.TypeViews.{type_view}
-use Rattle.dj_source.specs.trusted.Labels.{type_uses}
-use Rattle.dj_source.specs.LabelReading.{is_met}
-use Rattle.dj_source.proofs.labelling.types_are_met.Given as goal
+use Rattle.dj_asm_source.specs.TypeViews.{type_view}
+use Rattle.dj_asm_source.specs.trusted.Labels.{type_uses}
+use Rattle.dj_asm_source.specs.LabelReading.{is_met}
+use Rattle.dj_asm_source.proofs.labelling.types_are_met.Given as goal
 
 -- the types that are left decide
 abbrev pub invariant-loop-ty : goal.invariant-loop-ty

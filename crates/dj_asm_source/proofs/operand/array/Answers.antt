@@ -1,12 +1,12 @@
 use Rattle.std.proofs.Common.{ℕ}
 use Rattle.std.proofs.lemmas.Result.{err_from_is_err_and}
 use Rattle.std.specs.Bool.{⊤}
-use Rattle.dj_source.specs.trusted.Lines.{Array}
-use Rattle.dj_source.specs.Reading.{read_then}
-use Rattle.dj_source.specs.LineReading.{base, line_end}
-use Rattle.dj_tokens.specs.Views.{left_of}
-use Rattle.dj_source.proofs.TypeLists.{stop_map, then_stops}
-use Rattle.dj_source.proofs.operand.array.Goals as goal
+use Rattle.dj_asm_source.specs.trusted.Lines.{Array}
+use Rattle.dj_asm_source.specs.Reading.{read_then}
+use Rattle.dj_asm_source.specs.LineReading.{base, line_end}
+use Rattle.dj_asm_tokens.specs.Views.{left_of}
+use Rattle.dj_asm_source.proofs.TypeLists.{stop_map, then_stops}
+use Rattle.dj_asm_source.proofs.operand.array.Goals as goal
 
 pub returns-in_err-base : goal.returns-in_err-base
 returns-in_err-base c =

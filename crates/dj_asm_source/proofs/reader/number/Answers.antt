@@ -1,12 +1,12 @@
 use Rattle.std.proofs.Common.{◌≡◌, FitsSigned, rules, arith}
 use Rattle.std.specs.Int.{w64}
 use Rattle.std.proofs.lemmas.Int.{to_z-of_z, ints}
-use Rattle.dj_tokens.specs.Numbers.{Value, number_within}
-use Rattle.dj_tokens.specs.WordReading.{number_in}
-use Rattle.dj_tokens.specs.Views.{units_of, left_of}
-use Rattle.dj_source.specs.Stops.{lowest, highest}
-use Rattle.dj_source.proofs.ReaderLaws.{value_within, number_got}
-use Rattle.dj_source.proofs.reader.number.Goals as goal
+use Rattle.dj_asm_tokens.specs.Numbers.{Value, number_within}
+use Rattle.dj_asm_tokens.specs.WordReading.{number_in}
+use Rattle.dj_asm_tokens.specs.Views.{units_of, left_of}
+use Rattle.dj_asm_source.specs.Stops.{lowest, highest}
+use Rattle.dj_asm_source.proofs.ReaderLaws.{value_within, number_got}
+use Rattle.dj_asm_source.proofs.reader.number.Goals as goal
 
 pub returns-in-Value-clause-read : goal.returns-in-Value-clause-read
 returns-in-Value-clause-read c =

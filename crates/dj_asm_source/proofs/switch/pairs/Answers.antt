@@ -2,12 +2,12 @@ use Rattle.std.proofs.Common.{◌≡◌, ◌++◌, List, ℤ, None, sym, subst, 
 use Rattle.std.specs.Int.{w32}
 use Rattle.std.proofs.lemmas.Int.{to_z-of_z}
 use Rattle.std.proofs.lemmas.Result.{err_from_is_err_and}
-use Rattle.dj_source.specs.trusted.Lines.{Label}
-use Rattle.dj_source.specs.Reading.{read_map}
-use Rattle.dj_source.specs.LineReading.{LabelPairs, pairs_after}
-use Rattle.dj_tokens.specs.Views.{units_of, left_of}
-use Rattle.dj_source.proofs.PairLists.{pairs_end, pairs_end_stop, pairs_stop, pairs_key_stop, pairs_target_stop, pairs_more, pair_shorter}
-use Rattle.dj_source.proofs.switch.pairs.Goals as goal
+use Rattle.dj_asm_source.specs.trusted.Lines.{Label}
+use Rattle.dj_asm_source.specs.Reading.{read_map}
+use Rattle.dj_asm_source.specs.LineReading.{LabelPairs, pairs_after}
+use Rattle.dj_asm_tokens.specs.Views.{units_of, left_of}
+use Rattle.dj_asm_source.proofs.PairLists.{pairs_end, pairs_end_stop, pairs_stop, pairs_key_stop, pairs_target_stop, pairs_more, pair_shorter}
+use Rattle.dj_asm_source.proofs.switch.pairs.Goals as goal
 
 pub returns-in_err-spot : goal.returns-in_err-spot
 returns-in_err-spot c =

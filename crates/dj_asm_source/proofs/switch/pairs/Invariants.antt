@@ -1,8 +1,8 @@
 use Rattle.std.proofs.Common.{◌≡◌, ◌++◌, None, length}
-use Rattle.dj_source.specs.Reading.{read_map}
-use Rattle.dj_source.specs.LineReading.{LabelPairs, pairs_after}
-use Rattle.dj_tokens.specs.Views.{left_of}
-use Rattle.dj_source.proofs.switch.pairs.Given as goal
+use Rattle.dj_asm_source.specs.Reading.{read_map}
+use Rattle.dj_asm_source.specs.LineReading.{LabelPairs, pairs_after}
+use Rattle.dj_asm_tokens.specs.Views.{left_of}
+use Rattle.dj_asm_source.proofs.switch.pairs.Given as goal
 
 -- what is left follows
 abbrev pub invariant-loop-pairs : goal.invariant-loop-pairs

@@ -1,11 +1,11 @@
 use Rattle.std.proofs.Common.{◌≡◌, ◌++◌, List, sym, subst, ◌∙◌}
 use Rattle.std.proofs.lemmas.Result.{err_from_is_err_and}
-use Rattle.dj_source.specs.trusted.Lines.{Label}
-use Rattle.dj_source.specs.Reading.{read_map}
-use Rattle.dj_source.specs.LineReading.{targets}
-use Rattle.dj_tokens.specs.Views.{units_of, left_of}
-use Rattle.dj_source.proofs.SwitchLists.{targets_end, targets_end_stop, targets_more, targets_stop}
-use Rattle.dj_source.proofs.switch.targets.Goals as goal
+use Rattle.dj_asm_source.specs.trusted.Lines.{Label}
+use Rattle.dj_asm_source.specs.Reading.{read_map}
+use Rattle.dj_asm_source.specs.LineReading.{targets}
+use Rattle.dj_asm_tokens.specs.Views.{units_of, left_of}
+use Rattle.dj_asm_source.proofs.SwitchLists.{targets_end, targets_end_stop, targets_more, targets_stop}
+use Rattle.dj_asm_source.proofs.switch.targets.Goals as goal
 
 pub returns-in_err-spot : goal.returns-in_err-spot
 returns-in_err-spot c =

@@ -1,9 +1,9 @@
 use Rattle.std.proofs.Common.{◌≡◌, ◌++◌, List, length}
-use Rattle.dj_source.specs.trusted.Lines.{Label}
-use Rattle.dj_source.specs.Reading.{read_map}
-use Rattle.dj_source.specs.LineReading.{targets}
-use Rattle.dj_tokens.specs.Views.{left_of}
-use Rattle.dj_source.proofs.switch.targets.Given as goal
+use Rattle.dj_asm_source.specs.trusted.Lines.{Label}
+use Rattle.dj_asm_source.specs.Reading.{read_map}
+use Rattle.dj_asm_source.specs.LineReading.{targets}
+use Rattle.dj_asm_tokens.specs.Views.{left_of}
+use Rattle.dj_asm_source.proofs.switch.targets.Given as goal
 
 -- what is left follows
 abbrev pub invariant-loop-targets : goal.invariant-loop-targets

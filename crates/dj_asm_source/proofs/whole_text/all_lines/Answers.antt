@@ -1,10 +1,10 @@
 use Rattle.std.proofs.Common.{Bool, true, Ok, sym, subst}
 use Rattle.std.proofs.lemmas.Result.{err_from_is_err_and}
-use Rattle.dj_source.specs.Unread.{UnreadLines}
-use Rattle.dj_source.specs.SourceLines.{TextLines}
-use Rattle.dj_source.specs.Readings.{no_lines, IsReading, GoesOn}
-use Rattle.dj_source.proofs.ReadingLaws.{starts}
-use Rattle.dj_source.proofs.whole_text.all_lines.Goals as goal
+use Rattle.dj_asm_source.specs.Unread.{UnreadLines}
+use Rattle.dj_asm_source.specs.SourceLines.{TextLines}
+use Rattle.dj_asm_source.specs.Readings.{no_lines, IsReading, GoesOn}
+use Rattle.dj_asm_source.proofs.ReadingLaws.{starts}
+use Rattle.dj_asm_source.proofs.whole_text.all_lines.Goals as goal
 
 pub loop-read-init : goal.loop-read-init
 loop-read-init c =

@@ -1,6 +1,6 @@
 use Rattle.std.proofs.Common.{length}
-use Rattle.dj_source.specs.Readings.{IsReading}
-use Rattle.dj_source.proofs.whole_text.all_lines.Given as goal
+use Rattle.dj_asm_source.specs.Readings.{IsReading}
+use Rattle.dj_asm_source.proofs.whole_text.all_lines.Given as goal
 
 -- what was read and what is left are the text
 abbrev pub invariant-loop-read : goal.invariant-loop-read

@@ -1,5 +1,5 @@
 use Rattle.std.proofs.Common.{◌+◌, ◌≤◌, length}
-use Rattle.dj_source.proofs.whole_text.lines_with_words.Given as goal
+use Rattle.dj_asm_source.proofs.whole_text.lines_with_words.Given as goal
 
 -- each line has a byte
 abbrev pub invariant-loop-bytes : goal.invariant-loop-bytes

@@ -1,11 +1,11 @@
 use Rattle.std.proofs.Common.{◌<◌, length, Ok, sym, subst}
-use Rattle.dj_source.specs.declared.unread.Row.{Row}
-use Rattle.dj_source.specs.declared.unread.Row.TheVariants as rows
-use Rattle.dj_source.specs.Unread.{UnreadLines, GivesRow, LeavesRow}
-use Rattle.dj_source.specs.SourceLines.{TextLines}
-use Rattle.dj_source.specs.Readings.{IsReading}
-use Rattle.dj_source.proofs.ReadingLaws.{goes_on_said}
-use Rattle.dj_source.proofs.whole_text.put_row.Goals as goal
+use Rattle.dj_asm_source.specs.declared.unread.Row.{Row}
+use Rattle.dj_asm_source.specs.declared.unread.Row.TheVariants as rows
+use Rattle.dj_asm_source.specs.Unread.{UnreadLines, GivesRow, LeavesRow}
+use Rattle.dj_asm_source.specs.SourceLines.{TextLines}
+use Rattle.dj_asm_source.specs.Readings.{IsReading}
+use Rattle.dj_asm_source.proofs.ReadingLaws.{goes_on_said}
+use Rattle.dj_asm_source.proofs.whole_text.put_row.Goals as goal
 
 pub returns-in_ok-push-in-Said : goal.returns-in_ok-push-in-Said
 returns-in_ok-push-in-Said c = λ text so.

@@ -1,7 +1,7 @@
 use Rattle.std.proofs.Common.{◌≡◌, ◌+◌, ◌-◌, ℕ, List, ◌∷◌, take, drop, length, ap, ◌∙◌, arith}
 use Rattle.std.proofs.lemmas.List.{take_rest, length-drop}
-use Rattle.dj_tokens.proofs.LabelWords.{first_at, past_end, ends_after, no_units}
-use Rattle.dj_tokens.proofs.label.label_of.Goals as goal
+use Rattle.dj_asm_tokens.proofs.LabelWords.{first_at, past_end, ends_after, no_units}
+use Rattle.dj_asm_tokens.proofs.label.label_of.Goals as goal
 
 pub before_colon-requires-clause-last : goal.before_colon-requires-clause-last
 before_colon-requires-clause-last c =

@@ -1,7 +1,7 @@
 use Rattle.std.proofs.Common.{◌≡◌, ◌≤◌, ◌-◌, drop, length}
-use Rattle.dj_tokens.specs.trusted.Words.{word_units}
-use Rattle.dj_tokens.specs.Colons.{ends_colon}
-use Rattle.dj_tokens.proofs.label.label_of.Given as goal
+use Rattle.dj_asm_tokens.specs.trusted.Words.{word_units}
+use Rattle.dj_asm_tokens.specs.Colons.{ends_colon}
+use Rattle.dj_asm_tokens.proofs.label.label_of.Given as goal
 
 -- the rest says whether a colon ends the word
 abbrev pub invariant-loop-at : goal.invariant-loop-at

@@ -1,7 +1,7 @@
 use Rattle.std.proofs.Common.{◌+◌, arith}
 use Rattle.std.proofs.lemmas.List.{take_rest}
-use Rattle.dj_tokens.proofs.LineLaws.{first_line}
-use Rattle.dj_tokens.proofs.line.line_at.Goals as goal
+use Rattle.dj_asm_tokens.proofs.LineLaws.{first_line}
+use Rattle.dj_asm_tokens.proofs.line.line_at.Goals as goal
 
 pub returns-else-size-text-clause-lines : goal.returns-else-size-text-clause-lines
 returns-else-size-text-clause-lines c =

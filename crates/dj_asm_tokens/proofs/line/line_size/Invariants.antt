@@ -1,6 +1,6 @@
 use Rattle.std.proofs.Common.{◌≡◌, ◌+◌, ◌==◌, length}
 use Rattle.std.specs.List.{position_or_len}
-use Rattle.dj_tokens.proofs.line.line_size.Given as goal
+use Rattle.dj_asm_tokens.proofs.line.line_size.Given as goal
 
 -- the rest decides
 abbrev pub invariant-loop-rest : goal.invariant-loop-rest

@@ -1,6 +1,6 @@
 use Rattle.std.proofs.Common.{◌≡◌, ◌+◌, ◌≤◌, length}
 use Rattle.std.specs.Str.Lines.{lines}
-use Rattle.dj_tokens.proofs.line.lines_after.Given as goal
+use Rattle.dj_asm_tokens.proofs.line.lines_after.Given as goal
 
 -- those of the rest follow
 abbrev pub invariant-loop-after : goal.invariant-loop-after

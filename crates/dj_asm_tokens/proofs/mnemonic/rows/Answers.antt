@@ -1,9 +1,9 @@
 use Rattle.std.proofs.Common.{sym, ap, inl, inr, arith}
 use Rattle.std.proofs.lemmas.Bool.{cases_lt}
-use Rattle.dj_tokens.proofs.TableLaws.{no_rows}
-use Rattle.dj_tokens.specs.trusted.Mnemonics.{mnemonics}
-use Rattle.dj_tokens.specs.Tables.{rows_of_length}
-use Rattle.dj_tokens.proofs.mnemonic.rows.Goals as goal
+use Rattle.dj_asm_tokens.proofs.TableLaws.{no_rows}
+use Rattle.dj_asm_tokens.specs.trusted.Mnemonics.{mnemonics}
+use Rattle.dj_asm_tokens.specs.Tables.{rows_of_length}
+use Rattle.dj_asm_tokens.proofs.mnemonic.rows.Goals as goal
 
 pub returns-in-3 : goal.returns-in-3
 unfolding mnemonics

@@ -1,7 +1,7 @@
 use Rattle.std.proofs.Common.{◌≡◌, ◌≤◌, ◌<◌, length}
-use Rattle.dj_tokens.specs.trusted.Words.{word_units}
-use Rattle.dj_tokens.specs.Numbers.{flags_from}
-use Rattle.dj_tokens.proofs.number.flags_read.Given as goal
+use Rattle.dj_asm_tokens.specs.trusted.Words.{word_units}
+use Rattle.dj_asm_tokens.specs.Numbers.{flags_from}
+use Rattle.dj_asm_tokens.proofs.number.flags_read.Given as goal
 
 -- the rest decides
 abbrev pub invariant-loop-unit : goal.invariant-loop-unit

@@ -1,9 +1,9 @@
 use Rattle.std.proofs.Common.{◌∙◌}
 use Rattle.std.specs.Int.{w64}
 use Rattle.std.proofs.lemmas.Int.{to_z-of_z}
-use Rattle.dj_tokens.specs.trusted.Words.{word_units}
-use Rattle.dj_tokens.proofs.DigitLaws.{minus_read, plain_read}
-use Rattle.dj_tokens.proofs.number.number_of.Goals as goal
+use Rattle.dj_asm_tokens.specs.trusted.Words.{word_units}
+use Rattle.dj_asm_tokens.proofs.DigitLaws.{minus_read, plain_read}
+use Rattle.dj_asm_tokens.proofs.number.number_of.Goals as goal
 
 pub returns-in-Some-size_of : goal.returns-in-Some-size_of
 returns-in-Some-size_of c =

@@ -1,7 +1,7 @@
 use Rattle.std.proofs.Common.{◌≡◌, false, length}
-use Rattle.dj_tokens.specs.trusted.Words.{word_units}
-use Rattle.dj_tokens.specs.Numbers.{digits_from}
-use Rattle.dj_tokens.proofs.number.size_of.Given as goal
+use Rattle.dj_asm_tokens.specs.trusted.Words.{word_units}
+use Rattle.dj_asm_tokens.specs.Numbers.{digits_from}
+use Rattle.dj_asm_tokens.proofs.number.size_of.Given as goal
 
 -- the rest decides
 abbrev pub invariant-loop-unit : goal.invariant-loop-unit

@@ -1,7 +1,7 @@
 use Rattle.std.proofs.Common.{◌≡◌, ◌+◌, not, length}
 use Rattle.std.specs.List.{prefix_len}
-use Rattle.dj_tokens.specs.trusted.Words.{is_blank}
-use Rattle.dj_tokens.proofs.piece.word_size.Given as goal
+use Rattle.dj_asm_tokens.specs.trusted.Words.{is_blank}
+use Rattle.dj_asm_tokens.proofs.piece.word_size.Given as goal
 
 -- the rest decides
 abbrev pub invariant-loop-rest : goal.invariant-loop-rest

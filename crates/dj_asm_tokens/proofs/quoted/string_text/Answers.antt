@@ -1,10 +1,10 @@
 use Rattle.std.proofs.Common.{◌≡◌, ◌++◌, sym, ap, ◌∙◌}
 use Rattle.dj_names.specs.trusted.ModifiedUtf8.{unit_text, units_text}
-use Rattle.dj_tokens.specs.trusted.Words.{string_units}
-use Rattle.dj_tokens.specs.Strings.{Unit, string_step}
-use Rattle.dj_tokens.specs.Views.{opened_units}
-use Rattle.dj_tokens.proofs.QuotedLaws.{still_closed, text_follows, at_end, join, nothing_more}
-use Rattle.dj_tokens.proofs.quoted.string_text.Goals as goal
+use Rattle.dj_asm_tokens.specs.trusted.Words.{string_units}
+use Rattle.dj_asm_tokens.specs.Strings.{Unit, string_step}
+use Rattle.dj_asm_tokens.specs.Views.{opened_units}
+use Rattle.dj_asm_tokens.proofs.QuotedLaws.{still_closed, text_follows, at_end, join, nothing_more}
+use Rattle.dj_asm_tokens.proofs.quoted.string_text.Goals as goal
 
 pub loop-unit-preserved : goal.loop-unit-preserved
 loop-unit-preserved c =

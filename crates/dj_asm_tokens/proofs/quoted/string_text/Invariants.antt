@@ -1,8 +1,8 @@
 use Rattle.std.proofs.Common.{◌≡◌, ◌++◌, true, is_some, length}
 use Rattle.dj_names.specs.trusted.ModifiedUtf8.{units_text}
-use Rattle.dj_tokens.specs.trusted.Words.{string_units}
-use Rattle.dj_tokens.specs.Views.{opened_units}
-use Rattle.dj_tokens.proofs.quoted.string_text.Given as goal
+use Rattle.dj_asm_tokens.specs.trusted.Words.{string_units}
+use Rattle.dj_asm_tokens.specs.Views.{opened_units}
+use Rattle.dj_asm_tokens.proofs.quoted.string_text.Given as goal
 
 -- what is left follows, and is closed
 abbrev pub invariant-loop-unit : goal.invariant-loop-unit

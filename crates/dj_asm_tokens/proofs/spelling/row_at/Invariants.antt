@@ -1,8 +1,8 @@
 use Rattle.std.proofs.Common.{◌≡◌, drop, map}
-use Rattle.dj_tokens.specs.trusted.Words.{word_units}
-use Rattle.dj_tokens.specs.WordReading.{row_of}
-use Rattle.dj_tokens.specs.Tables.{row_view}
-use Rattle.dj_tokens.proofs.spelling.row_at.Given as goal
+use Rattle.dj_asm_tokens.specs.trusted.Words.{word_units}
+use Rattle.dj_asm_tokens.specs.WordReading.{row_of}
+use Rattle.dj_asm_tokens.specs.Tables.{row_view}
+use Rattle.dj_asm_tokens.proofs.spelling.row_at.Given as goal
 
 -- the rows that are left decide
 abbrev pub invariant-loop-row : goal.invariant-loop-row

@@ -1,6 +1,6 @@
 use Rattle.std.proofs.Common.{◌≡◌, length, bytes_eq}
-use Rattle.dj_tokens.specs.trusted.Words.{word_units}
-use Rattle.dj_tokens.proofs.spelling.spells.Given as goal
+use Rattle.dj_asm_tokens.specs.trusted.Words.{word_units}
+use Rattle.dj_asm_tokens.proofs.spelling.spells.Given as goal
 
 -- the rest decides
 abbrev pub invariant-loop-left : goal.invariant-loop-left

@@ -1,7 +1,7 @@
 use Rattle.std.proofs.Common.{◌≡◌, ◌≤◌, length}
 use Rattle.std.specs.Prelude.{option_map}
-use Rattle.dj_tokens.specs.trusted.Words.{string_units}
-use Rattle.dj_tokens.proofs.string.after_string.Given as goal
+use Rattle.dj_asm_tokens.specs.trusted.Words.{string_units}
+use Rattle.dj_asm_tokens.proofs.string.after_string.Given as goal
 
 -- the rest decides
 abbrev pub invariant-loop-after : goal.invariant-loop-after

@@ -1,7 +1,7 @@
 use Rattle.std.proofs.Common.{◌≡◌, ◌++◌, length}
 use Rattle.dj_names.specs.trusted.ModifiedUtf8.{units_text}
-use Rattle.dj_tokens.specs.trusted.Words.{word_units}
-use Rattle.dj_tokens.proofs.text.encoded.Given as goal
+use Rattle.dj_asm_tokens.specs.trusted.Words.{word_units}
+use Rattle.dj_asm_tokens.proofs.text.encoded.Given as goal
 
 -- what is left follows
 abbrev pub invariant-loop-unit : goal.invariant-loop-unit

@@ -1,7 +1,7 @@
 use Rattle.std.proofs.Common.{◌≡◌, refl, sym, ap, ◌∙◌, true, false}
 use Rattle.std.proofs.lemmas.Result.{err_from_is_err_and}
-use Rattle.dj_bytes.specs.Reading.{at_end}
-use Rattle.dj_bytes.specs.Views.{cursor_of}
+use Rattle.dj_cursor.specs.Reading.{at_end}
+use Rattle.dj_cursor.specs.Views.{cursor_of}
 use Rattle.dj_class.specs.Reading.{header_at}
 use Rattle.dj_class.specs.Tests.{heading_of}
 use Rattle.dj_class.proofs.Whole.{Prefix, ReadsPrefix, fields_fail, methods_fail, attributes_fail, has_attributes}

@@ -1,7 +1,7 @@
 use Rattle.std.proofs.lemmas.Result.{err_from_is_err_and}
-use Rattle.dj_bytes.specs.Reading.{many_at}
-use Rattle.dj_bytes.specs.Views.{cursor_of}
-use Rattle.dj_bytes.proofs.Loop.{goes_on, ends, is_done}
+use Rattle.dj_cursor.specs.Reading.{many_at}
+use Rattle.dj_cursor.specs.Views.{cursor_of}
+use Rattle.dj_cursor.proofs.Loop.{goes_on, ends, is_done}
 use Rattle.dj_pool.specs.Tests.{is_class}
 use Rattle.dj_class.specs.Reading.{index_at}
 use Rattle.dj_class.specs.Memory.{is_memory}

@@ -1,7 +1,7 @@
 use Rattle.std.proofs.Common.{◌≡◌, ◌-◌, map}
-use Rattle.dj_bytes.specs.Reading.{many_at}
-use Rattle.dj_bytes.specs.Views.{cursor_of}
-use Rattle.dj_bytes.proofs.Loop.{with_prefix}
+use Rattle.dj_cursor.specs.Reading.{many_at}
+use Rattle.dj_cursor.specs.Views.{cursor_of}
+use Rattle.dj_cursor.proofs.Loop.{with_prefix}
 use Rattle.dj_class.specs.Members.{member_of}
 use Rattle.dj_class.specs.Tests.{test_of}
 use Rattle.dj_class.specs.Reading.{member_at}

@@ -1,9 +1,9 @@
 use Rattle.std.proofs.Common.{◌≡◌, ◌++◌, ◌∷◌, [], map}
 use Rattle.std.proofs.lemmas.Result.{err_from_is_err_and}
 use Rattle.std.proofs.lemmas.List.{map_push}
-use Rattle.dj_bytes.specs.Reading.{many_at}
-use Rattle.dj_bytes.specs.Views.{cursor_of}
-use Rattle.dj_bytes.proofs.Loop.{goes_on, ends, is_done}
+use Rattle.dj_cursor.specs.Reading.{many_at}
+use Rattle.dj_cursor.specs.Views.{cursor_of}
+use Rattle.dj_cursor.proofs.Loop.{goes_on, ends, is_done}
 use Rattle.dj_class.specs.Parts.{attribute_of}
 use Rattle.dj_class.specs.CodeReading.{code_attribute_at}
 use Rattle.dj_class.specs.Memory.{code_is_memory}

@@ -1,7 +1,7 @@
 use Rattle.std.proofs.Common.{◌≡◌, ◌-◌, map}
-use Rattle.dj_bytes.specs.Reading.{many_at}
-use Rattle.dj_bytes.specs.Views.{cursor_of}
-use Rattle.dj_bytes.proofs.Loop.{with_prefix}
+use Rattle.dj_cursor.specs.Reading.{many_at}
+use Rattle.dj_cursor.specs.Views.{cursor_of}
+use Rattle.dj_cursor.proofs.Loop.{with_prefix}
 use Rattle.dj_class.specs.Parts.{attribute_of}
 use Rattle.dj_class.specs.CodeReading.{code_attribute_at}
 use Rattle.dj_class.proofs.code.read_code_attribute_list.Given as goal

@@ -1,9 +1,9 @@
 use Rattle.std.proofs.Common.{List, subst}
 use Rattle.dj_edge.specs.trusted.Held.{File}
 use Rattle.dj_report.specs.trusted.Stages.{IsDecided}
-use Rattle.dj_sandbox.specs.trusted.Judging.{check_stages}
-use Rattle.dj_sandbox.proofs.Lending.{lent_view, lent_few, lent_short}
-use Rattle.dj_sandbox.proofs.checking.check.Goals as goal
+use Rattle.dj_class_set.specs.trusted.Judging.{check_stages}
+use Rattle.dj_class_set.proofs.Lending.{lent_view, lent_few, lent_short}
+use Rattle.dj_class_set.proofs.checking.check.Goals as goal
 
 pub check_files-requires-clause-few : goal.check_files-requires-clause-few
 check_files-requires-clause-few c = lent_few c.deref.result.now c.in_ok-files.files.items c.args.set.now c.deref.ensures.value c.in_ok-files.ensures.lent c.path_files.ensures.set

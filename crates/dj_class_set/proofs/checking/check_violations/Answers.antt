@@ -1,12 +1,12 @@
 use Rattle.std.proofs.Common.{◌≡◌, [], map, inl, subst}
 use Rattle.dj_names.specs.trusted.Library.{Library, deterministic_library}
-use Rattle.dj_natives.specs.Views.{library_view}
+use Rattle.dj_library_types.specs.Views.{library_view}
 use Rattle.dj_report.specs.Lines.{Adds}
 use Rattle.dj_report.proofs.Adding.{exactly_found}
-use Rattle.dj_rules.specs.Views.{path_file_view}
-use Rattle.dj_sandbox.specs.trusted.Checked.{IsLineBy}
-use Rattle.dj_sandbox.proofs.LateLaws.{ok_mapped}
-use Rattle.dj_sandbox.proofs.checking.check_violations.Goals as goal
+use Rattle.dj_file_rules.specs.Views.{path_file_view}
+use Rattle.dj_class_set.specs.trusted.Checked.{IsLineBy}
+use Rattle.dj_class_set.proofs.LateLaws.{ok_mapped}
+use Rattle.dj_class_set.proofs.checking.check_violations.Goals as goal
 
 pub judge_set-requires-clause-library : goal.judge_set-requires-clause-library
 judge_set-requires-clause-library c =

@@ -2,8 +2,8 @@ use Rattle.std.proofs.Common.{◌∷◌, ◌++◌, [], map, ap, ◌∙◌}
 use Rattle.std.proofs.lemmas.List.{map-append}
 use Rattle.dj_edge.specs.InMemory.{file_in}
 use Rattle.dj_edge.proofs.Lists.{mapped_more}
-use Rattle.dj_rules.specs.Views.{path_file_view}
-use Rattle.dj_sandbox.proofs.class_set.lend_files.Goals as goal
+use Rattle.dj_file_rules.specs.Views.{path_file_view}
+use Rattle.dj_class_set.proofs.class_set.lend_files.Goals as goal
 
 pub loop-file-preserved : goal.loop-file-preserved
 loop-file-preserved c =

@@ -1,7 +1,7 @@
 use Rattle.std.proofs.Common.{◌≡◌, map, take}
 use Rattle.dj_edge.specs.InMemory.{files_in}
-use Rattle.dj_rules.specs.Views.{path_file_view}
-use Rattle.dj_sandbox.proofs.class_set.lend_files.Given as goal
+use Rattle.dj_file_rules.specs.Views.{path_file_view}
+use Rattle.dj_class_set.proofs.class_set.lend_files.Given as goal
 
 -- the files so far
 abbrev pub invariant-loop-file : goal.invariant-loop-file

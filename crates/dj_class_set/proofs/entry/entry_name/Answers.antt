@@ -1,9 +1,9 @@
 use Rattle.std.proofs.Common.{ℕ, ◌==◌, if◌then◌else◌, ap, ◌∙◌}
 use Rattle.std.proofs.lemmas.List.{take_all}
 use Rattle.dj_names.specs.trusted.ModifiedUtf8.{units_text}
-use Rattle.dj_sandbox.specs.trusted.Entry.{with_slashes}
-use Rattle.dj_sandbox.proofs.Entries.{spelled_more}
-use Rattle.dj_sandbox.proofs.entry.entry_name.Goals as goal
+use Rattle.dj_class_set.specs.trusted.Entry.{with_slashes}
+use Rattle.dj_class_set.proofs.Entries.{spelled_more}
+use Rattle.dj_class_set.proofs.entry.entry_name.Goals as goal
 
 pub loop-unit-preserved : goal.loop-unit-preserved
 loop-unit-preserved c =

@@ -2,7 +2,7 @@ use Rattle.std.proofs.Common.{◌<◌, All, subst, arith}
 use Rattle.std.proofs.lemmas.List.{take_all}
 use Rattle.std.proofs.lemmas.List.Elements.{All-more, All-contains}
 use Rattle.dj_report.specs.declared.report.Violation.{Violation}
-use Rattle.dj_sandbox.proofs.judging.breaks_hierarchy.Goals as goal
+use Rattle.dj_class_set.proofs.judging.breaks_hierarchy.Goals as goal
 
 -- of a rule after 6
 abbrev IsLater : Violation → Type 0

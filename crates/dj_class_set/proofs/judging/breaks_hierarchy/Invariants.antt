@@ -1,5 +1,5 @@
 use Rattle.std.proofs.Common.{◌<◌, All, take}
-use Rattle.dj_sandbox.proofs.judging.breaks_hierarchy.Given as goal
+use Rattle.dj_class_set.proofs.judging.breaks_hierarchy.Given as goal
 
 -- the lines so far are of later rules
 abbrev pub invariant-loop-line : goal.invariant-loop-line

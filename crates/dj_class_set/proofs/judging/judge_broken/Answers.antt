@@ -1,7 +1,7 @@
 use Rattle.std.proofs.Common.{map}
-use Rattle.dj_rules.specs.Views.{path_file_view}
-use Rattle.dj_sandbox.proofs.LateLaws.{early_alone}
-use Rattle.dj_sandbox.proofs.judging.judge_broken.Goals as goal
+use Rattle.dj_file_rules.specs.Views.{path_file_view}
+use Rattle.dj_class_set.proofs.LateLaws.{early_alone}
+use Rattle.dj_class_set.proofs.judging.judge_broken.Goals as goal
 
 pub returns : goal.returns
 returns c = λ library. record {

@@ -1,10 +1,10 @@
 use Rattle.std.proofs.Common.{◌∙◌, map, sym, ap, subst, refl}
 use Rattle.dj_report.proofs.Adding.{not_both}
-use Rattle.dj_rules.specs.Views.{path_file_view}
-use Rattle.dj_linking.specs.Linked.{Linked}
-use Rattle.dj_sandbox.specs.Late.{HasHierarchyLine}
-use Rattle.dj_sandbox.proofs.LateLaws.{line_breaks, hierarchy_holds, early_alone, early_and_late}
-use Rattle.dj_sandbox.proofs.judging.judge_linked.Goals as goal
+use Rattle.dj_file_rules.specs.Views.{path_file_view}
+use Rattle.dj_resolution.specs.Linked.{Linked}
+use Rattle.dj_class_set.specs.Late.{HasHierarchyLine}
+use Rattle.dj_class_set.proofs.LateLaws.{line_breaks, hierarchy_holds, early_alone, early_and_late}
+use Rattle.dj_class_set.proofs.judging.judge_linked.Goals as goal
 
 pub judge_files-requires-clause-plain : goal.judge_files-requires-clause-plain
 judge_files-requires-clause-plain c = λ linked has. (let (library, (classes, read, is)) = c.requires.links in ap (λ (l : Linked). l.prefix) (sym has ∙ is))

@@ -1,9 +1,9 @@
 use Rattle.std.proofs.Common.{map, subst}
-use Rattle.dj_natives.specs.Views.{library_view}
-use Rattle.dj_rules.specs.Views.{path_file_view}
-use Rattle.dj_sandbox.specs.Late.{AreLinks}
-use Rattle.dj_sandbox.proofs.LateLaws.{malformed_breaks, shared_breaks, cycle_breaks}
-use Rattle.dj_sandbox.proofs.judging.judge_set.Goals as goal
+use Rattle.dj_library_types.specs.Views.{library_view}
+use Rattle.dj_file_rules.specs.Views.{path_file_view}
+use Rattle.dj_class_set.specs.Late.{AreLinks}
+use Rattle.dj_class_set.proofs.LateLaws.{malformed_breaks, shared_breaks, cycle_breaks}
+use Rattle.dj_class_set.proofs.judging.judge_set.Goals as goal
 
 pub judge_linked-requires-clause-links : goal.judge_linked-requires-clause-links
 judge_linked-requires-clause-links c =

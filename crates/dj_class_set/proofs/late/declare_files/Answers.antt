@@ -1,9 +1,9 @@
 use Rattle.std.proofs.Common.{◌+◌, List, map, take, sym, subst}
 use Rattle.dj_model.specs.trusted.Program.{Class}
-use Rattle.dj_rules.specs.Views.{path_file_view}
-use Rattle.dj_sandbox.specs.Late.{IsDeclaredFrom, AreDeclared}
-use Rattle.dj_sandbox.proofs.LateLaws.{one_more_declared, has_malformed}
-use Rattle.dj_sandbox.proofs.late.declare_files.Goals as goal
+use Rattle.dj_file_rules.specs.Views.{path_file_view}
+use Rattle.dj_class_set.specs.Late.{IsDeclaredFrom, AreDeclared}
+use Rattle.dj_class_set.proofs.LateLaws.{one_more_declared, has_malformed}
+use Rattle.dj_class_set.proofs.late.declare_files.Goals as goal
 
 pub loop-file-preserved : goal.loop-file-preserved
 loop-file-preserved c =

@@ -3,10 +3,10 @@ use Rattle.dj_edge.proofs.Lists.{ok_so}
 use Rattle.dj_model.specs.trusted.Program.{Class}
 use Rattle.dj_model.specs.trusted.Libraries.{joined}
 use Rattle.dj_loader.proofs.Moved.{rise_of_table}
-use Rattle.dj_natives.specs.Views.{library_view}
-use Rattle.dj_sandbox.specs.Late.{IsLinkOf, AreLinksOf}
-use Rattle.dj_sandbox.proofs.LateLaws.{few_all, are_links_of}
-use Rattle.dj_sandbox.proofs.late.link_classes.Goals as goal
+use Rattle.dj_library_types.specs.Views.{library_view}
+use Rattle.dj_class_set.specs.Late.{IsLinkOf, AreLinksOf}
+use Rattle.dj_class_set.proofs.LateLaws.{few_all, are_links_of}
+use Rattle.dj_class_set.proofs.late.link_classes.Goals as goal
 
 pub of-requires : goal.of-requires
 of-requires c = few_all (library_view c.args.library.now) c.args.declared.items c.add_library.new.declared.items c.requires.library c.requires.few c.in_ok-add_library.ensures

@@ -2,12 +2,12 @@ use Rattle.std.proofs.Common.{Option, map, subst}
 use Rattle.std.specs.Option.{option_map}
 use Rattle.std.specs.Global.{Vec}
 use Rattle.dj_edge.proofs.Lists.{ok_so}
-use Rattle.dj_natives.specs.Views.{library_view}
+use Rattle.dj_library_types.specs.Views.{library_view}
 use Rattle.dj_model.specs.trusted.Program.{Class}
-use Rattle.dj_rules.specs.Views.{path_file_view}
-use Rattle.dj_sandbox.specs.Late.{AreDeclaredOrNot, AreLinksOf, AreLinks}
-use Rattle.dj_sandbox.proofs.LateLaws.{few_declared, are_links}
-use Rattle.dj_sandbox.proofs.late.link_files.Goals as goal
+use Rattle.dj_file_rules.specs.Views.{path_file_view}
+use Rattle.dj_class_set.specs.Late.{AreDeclaredOrNot, AreLinksOf, AreLinks}
+use Rattle.dj_class_set.proofs.LateLaws.{few_declared, are_links}
+use Rattle.dj_class_set.proofs.late.link_files.Goals as goal
 
 pub link_classes-requires-clause-few : goal.link_classes-requires-clause-few
 link_classes-requires-clause-few c =

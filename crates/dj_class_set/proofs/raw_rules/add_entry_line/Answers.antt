@@ -3,9 +3,9 @@ use Rattle.dj_report.specs.declared.report.Violation.{Violation}
 use Rattle.dj_report.specs.trusted.Lines.{file_line}
 use Rattle.dj_report.specs.Lines.{Adds}
 use Rattle.dj_report.proofs.Adding.{adds_nothing, adds_when, not_both}
-use Rattle.dj_sandbox.specs.RawEntry.{EntryLine}
-use Rattle.dj_sandbox.specs.trusted.RawRules.{runs_entry}
-use Rattle.dj_sandbox.proofs.raw_rules.add_entry_line.Goals as goal
+use Rattle.dj_class_set.specs.RawEntry.{EntryLine}
+use Rattle.dj_class_set.specs.trusted.RawRules.{runs_entry}
+use Rattle.dj_class_set.proofs.raw_rules.add_entry_line.Goals as goal
 
 pub returns-then-runs_entry : goal.returns-then-runs_entry
 returns-then-runs_entry c =

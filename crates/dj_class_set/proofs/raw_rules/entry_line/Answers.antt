@@ -1,5 +1,5 @@
 use Rattle.std.proofs.Common.{◌≡◌, ◌++◌, ◌∙◌, ℕ, List, None, codes, ap}
-use Rattle.dj_sandbox.proofs.raw_rules.entry_line.Goals as goal
+use Rattle.dj_class_set.proofs.raw_rules.entry_line.Goals as goal
 
 pub returns : goal.returns
 returns c =

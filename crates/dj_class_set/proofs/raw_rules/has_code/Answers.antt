@@ -1,7 +1,7 @@
 use Rattle.std.specs.Prelude.{slice_get}
-use Rattle.dj_classes.specs.Tables.{methods_at}
-use Rattle.dj_sandbox.proofs.RawLaws.{native_reported, own_reported}
-use Rattle.dj_sandbox.proofs.raw_rules.has_code.Goals as goal
+use Rattle.dj_class_table.specs.Tables.{methods_at}
+use Rattle.dj_class_set.proofs.RawLaws.{native_reported, own_reported}
+use Rattle.dj_class_set.proofs.raw_rules.has_code.Goals as goal
 
 pub returns-in-Some : goal.returns-in-Some
 returns-in-Some c = native_reported (slice_get (methods_at c.args.table.now c.args.class) c.args.member) c.method_native.result _ c.method_native.ensures c.in-Some.is

@@ -1,10 +1,10 @@
 use Rattle.std.proofs.Common.{[]}
 use Rattle.dj_edge.proofs.Lists.{ok_so}
 use Rattle.dj_report.specs.Lines.{Adds}
-use Rattle.dj_sandbox.specs.RawEntry.{EntryLine}
-use Rattle.dj_sandbox.specs.trusted.RawRules.{IsRawLine}
-use Rattle.dj_sandbox.proofs.RawLaws.{raw_found, raw_broken}
-use Rattle.dj_sandbox.proofs.raw_rules.raw_lines.Goals as goal
+use Rattle.dj_class_set.specs.RawEntry.{EntryLine}
+use Rattle.dj_class_set.specs.trusted.RawRules.{IsRawLine}
+use Rattle.dj_class_set.proofs.RawLaws.{raw_found, raw_broken}
+use Rattle.dj_class_set.proofs.raw_rules.raw_lines.Goals as goal
 
 pub returns-in-Some : goal.returns-in-Some
 returns-in-Some c = λ files is.

@@ -1,12 +1,12 @@
 use Rattle.std.proofs.Common.{◌≡◌, map, inr, subst}
 use Rattle.dj_names.specs.trusted.Library.{Library, raw_library}
-use Rattle.dj_natives.specs.Views.{library_view}
+use Rattle.dj_library_types.specs.Views.{library_view}
 use Rattle.dj_report.proofs.Adding.{exactly_found}
-use Rattle.dj_rules.specs.Views.{path_file_view}
-use Rattle.dj_sandbox.specs.trusted.RawRules.{IsRawLine}
-use Rattle.dj_sandbox.specs.Late.{IsJudgedSet}
-use Rattle.dj_sandbox.proofs.LateLaws.{ok_mapped}
-use Rattle.dj_sandbox.proofs.raw_rules.raw_violations.Goals as goal
+use Rattle.dj_file_rules.specs.Views.{path_file_view}
+use Rattle.dj_class_set.specs.trusted.RawRules.{IsRawLine}
+use Rattle.dj_class_set.specs.Late.{IsJudgedSet}
+use Rattle.dj_class_set.proofs.LateLaws.{ok_mapped}
+use Rattle.dj_class_set.proofs.raw_rules.raw_violations.Goals as goal
 
 pub judge_set-requires-clause-library : goal.judge_set-requires-clause-library
 judge_set-requires-clause-library c =

@@ -1,7 +1,7 @@
 use Rattle.std.proofs.Common.{◌∙◌}
-use Rattle.dj_classes.specs.Tables.{methods_at}
-use Rattle.dj_sandbox.proofs.RawLaws.{entry_described, named_within, named_static, named_none}
-use Rattle.dj_sandbox.proofs.raw_rules.runs_entry_of.Goals as goal
+use Rattle.dj_class_table.specs.Tables.{methods_at}
+use Rattle.dj_class_set.proofs.RawLaws.{entry_described, named_within, named_static, named_none}
+use Rattle.dj_class_set.proofs.raw_rules.runs_entry_of.Goals as goal
 
 pub method_named-requires-clause-described : goal.method_named-requires-clause-described
 method_named-requires-clause-described c = entry_described

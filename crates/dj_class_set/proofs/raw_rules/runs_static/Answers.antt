@@ -1,8 +1,8 @@
 use Rattle.std.proofs.Common.{◌∙◌, sym}
 use Rattle.std.specs.Prelude.{slice_get}
-use Rattle.dj_classes.specs.Tables.{methods_at}
-use Rattle.dj_sandbox.proofs.RawLaws.{static_yes, static_no}
-use Rattle.dj_sandbox.proofs.raw_rules.runs_static.Goals as goal
+use Rattle.dj_class_table.specs.Tables.{methods_at}
+use Rattle.dj_class_set.proofs.RawLaws.{static_yes, static_no}
+use Rattle.dj_class_set.proofs.raw_rules.runs_static.Goals as goal
 
 pub returns-then-is_static : goal.returns-then-is_static
 returns-then-is_static c =

@@ -1,8 +1,8 @@
 use Rattle.std.proofs.Common.{subst}
 use Rattle.dj_model.specs.trusted.Program.{Program}
 use Rattle.dj_report.specs.Lines.{Adds}
-use Rattle.dj_sandbox.specs.RawEntry.{EntryLine}
-use Rattle.dj_sandbox.proofs.raw_rules.with_entry_line.Goals as goal
+use Rattle.dj_class_set.specs.RawEntry.{EntryLine}
+use Rattle.dj_class_set.proofs.raw_rules.with_entry_line.Goals as goal
 
 pub returns : goal.returns
 returns c =

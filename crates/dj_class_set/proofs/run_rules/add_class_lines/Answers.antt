@@ -1,13 +1,13 @@
 use Rattle.std.proofs.Common.{List, Option, map, subst, sym}
 use Rattle.dj_straight.specs.declared.program.StraightMethod.{StraightMethod}
 use Rattle.dj_straight.specs.declared.program.StraightClass.{StraightClass}
-use Rattle.dj_sandbox.specs.trusted.Entry.{IsShapeLine, IsShapeLineOf}
+use Rattle.dj_class_set.specs.trusted.Entry.{IsShapeLine, IsShapeLineOf}
 use Rattle.dj_report.specs.Lines.{Adds}
 use Rattle.dj_straight.specs.Methods.{method_view, program_view}
-use Rattle.dj_rules.specs.Views.{path_file_view}
+use Rattle.dj_file_rules.specs.Views.{path_file_view}
 use Rattle.dj_report.proofs.Adding.{on_ok}
-use Rattle.dj_sandbox.proofs.RunRules.{adds_class}
-use Rattle.dj_sandbox.proofs.run_rules.add_class_lines.Goals as goal
+use Rattle.dj_class_set.proofs.RunRules.{adds_class}
+use Rattle.dj_class_set.proofs.run_rules.add_class_lines.Goals as goal
 
 pub returns-in-Some-Some-clause-lines : goal.returns-in-Some-Some-clause-lines
 returns-in-Some-Some-clause-lines c =

@@ -4,8 +4,8 @@ use Rattle.dj_report.specs.trusted.Lines.{file_line}
 use Rattle.dj_report.specs.Lines.{Adds}
 use Rattle.dj_report.proofs.Adding.{adds_when}
 use Rattle.dj_straight.specs.Methods.{program_view}
-use Rattle.dj_sandbox.specs.trusted.Entry.{has_entry}
-use Rattle.dj_sandbox.proofs.run_rules.add_entry_line.Goals as goal
+use Rattle.dj_class_set.specs.trusted.Entry.{has_entry}
+use Rattle.dj_class_set.proofs.run_rules.add_entry_line.Goals as goal
 
 pub returns : goal.returns
 returns c =

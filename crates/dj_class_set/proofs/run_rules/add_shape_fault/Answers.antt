@@ -3,8 +3,8 @@ use Rattle.dj_report.specs.declared.report.Violation.{Violation}
 use Rattle.dj_report.specs.Lines.{Adds}
 use Rattle.dj_straight.specs.trusted.Methods.{straight_descriptor}
 use Rattle.dj_straight.specs.Methods.{method_view}
-use Rattle.dj_sandbox.specs.Shaped.{shape_line}
-use Rattle.dj_sandbox.proofs.run_rules.add_shape_fault.Goals as goal
+use Rattle.dj_class_set.specs.Shaped.{shape_line}
+use Rattle.dj_class_set.proofs.run_rules.add_shape_fault.Goals as goal
 
 pub returns : goal.returns
 returns c =

@@ -3,10 +3,10 @@ use Rattle.std.proofs.lemmas.Option.{MatchOption-at_none, MatchOption-at_some}
 use Rattle.dj_straight.specs.trusted.Shape.{IsShapeFault}
 use Rattle.dj_straight.specs.trusted.Methods.{straight_signature}
 use Rattle.dj_straight.specs.Methods.{code_view}
-use Rattle.dj_sandbox.specs.Shaped.{IsShaped}
+use Rattle.dj_class_set.specs.Shaped.{IsShaped}
 use Rattle.dj_report.proofs.Adding.{on_ok}
-use Rattle.dj_sandbox.proofs.RunRules.{adds_fault, adds_no_fault}
-use Rattle.dj_sandbox.proofs.run_rules.add_shape_line.Goals as goal
+use Rattle.dj_class_set.proofs.RunRules.{adds_fault, adds_no_fault}
+use Rattle.dj_class_set.proofs.run_rules.add_shape_line.Goals as goal
 
 pub shape_fault-requires : goal.shape_fault-requires
 shape_fault-requires c = omega (arith, c.requires, c.args.method.now.actions.ok.0)

@@ -3,10 +3,10 @@ use Rattle.std.proofs.lemmas.List.{take_all}
 use Rattle.std.proofs.lemmas.List.Elements.{All-more}
 use Rattle.dj_straight.specs.declared.program.StraightMethod.{StraightMethod}
 use Rattle.dj_report.specs.Lines.{Adds, IsLineAmong}
-use Rattle.dj_sandbox.specs.Shaped.{IsReported}
+use Rattle.dj_class_set.specs.Shaped.{IsReported}
 use Rattle.dj_report.proofs.Adding.{adds_read}
-use Rattle.dj_sandbox.proofs.RunRules.{IsOwnShapeLine, adds_methods}
-use Rattle.dj_sandbox.proofs.run_rules.add_shape_lines.Goals as goal
+use Rattle.dj_class_set.proofs.RunRules.{IsOwnShapeLine, adds_methods}
+use Rattle.dj_class_set.proofs.run_rules.add_shape_lines.Goals as goal
 
 pub loop-method-preserved : goal.loop-method-preserved
 loop-method-preserved c = record {

@@ -1,12 +1,12 @@
 use Rattle.std.proofs.Common.{List, map, subst, ◌∙◌}
 use Rattle.std.proofs.lemmas.List.{length-map}
 use Rattle.dj_report.specs.declared.report.Violation.{Violation}
-use Rattle.dj_sandbox.specs.trusted.Entry.{IsShapeLineOf}
+use Rattle.dj_class_set.specs.trusted.Entry.{IsShapeLineOf}
 use Rattle.dj_report.specs.Lines.{Adds}
 use Rattle.dj_straight.specs.Methods.{program_view}
-use Rattle.dj_rules.specs.Views.{path_file_view}
-use Rattle.dj_sandbox.proofs.RunRules.{all_shaped, run_lines}
-use Rattle.dj_sandbox.proofs.run_rules.run_violations.Goals as goal
+use Rattle.dj_file_rules.specs.Views.{path_file_view}
+use Rattle.dj_class_set.proofs.RunRules.{all_shaped, run_lines}
+use Rattle.dj_class_set.proofs.run_rules.run_violations.Goals as goal
 
 pub returns-clause-lines : goal.returns-clause-lines
 returns-clause-lines c =

@@ -4,10 +4,10 @@ use Rattle.std.specs.Option.{option_copied}
 use Rattle.dj_report.specs.declared.report.PathFile.{PathFile}
 use Rattle.dj_report.specs.declared.report.Report.TheVariants.{Later}
 use Rattle.dj_straight.specs.trusted.Straight.{IsNotStraight}
-use Rattle.dj_sandbox.specs.trusted.Judging.{IsFirstPath}
-use Rattle.dj_rules.specs.Views.{path_file_view}
+use Rattle.dj_class_set.specs.trusted.Judging.{IsFirstPath}
+use Rattle.dj_file_rules.specs.Views.{path_file_view}
 use Rattle.dj_edge.proofs.Lists.{ok_so}
-use Rattle.dj_sandbox.proofs.running.later_first.Goals as goal
+use Rattle.dj_class_set.proofs.running.later_first.Goals as goal
 
 not_straight_some : (files : List PathFile) → IsNotStraight (map path_file_view files) → slice_get files 0 ≡ None → ⊥
 not_straight_some [] not none = not [] refl

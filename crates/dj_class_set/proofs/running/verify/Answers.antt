@@ -1,9 +1,9 @@
 use Rattle.std.proofs.Common.{List, subst}
 use Rattle.dj_edge.specs.trusted.Held.{File}
 use Rattle.dj_report.specs.trusted.Stages.{IsDecided}
-use Rattle.dj_sandbox.specs.trusted.Judging.{run_stages}
-use Rattle.dj_sandbox.proofs.Lending.{lent_view, lent_short}
-use Rattle.dj_sandbox.proofs.running.verify.Goals as goal
+use Rattle.dj_class_set.specs.trusted.Judging.{run_stages}
+use Rattle.dj_class_set.proofs.Lending.{lent_view, lent_short}
+use Rattle.dj_class_set.proofs.running.verify.Goals as goal
 
 pub verify_files-requires-clause-short : goal.verify_files-requires-clause-short
 verify_files-requires-clause-short c = lent_short c.deref.result.now c.in_ok-files.files.items c.args.set.now c.deref.ensures.value c.in_ok-files.ensures.lent c.path_files.ensures.set

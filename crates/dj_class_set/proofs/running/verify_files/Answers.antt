@@ -4,13 +4,13 @@ use Rattle.dj_edge.specs.trusted.Held.{File}
 use Rattle.dj_straight.specs.trusted.Program.{Program}
 use Rattle.dj_straight.specs.trusted.Straight.{IsStraightSet}
 use Rattle.dj_edge.proofs.Lists.{nil_of_empty}
-use Rattle.dj_rules.specs.trusted.Violations.{AreViolations}
-use Rattle.dj_rules.specs.Views.{path_file_view}
+use Rattle.dj_file_rules.specs.trusted.Violations.{AreViolations}
+use Rattle.dj_file_rules.specs.Views.{path_file_view}
 use Rattle.dj_straight.specs.Methods.{program_view}
 use Rattle.dj_straight.proofs.Straights.{no_initialisers}
-use Rattle.dj_sandbox.specs.trusted.Entry.{AreRunViolations}
-use Rattle.dj_sandbox.proofs.RunRules.{entry_is_there}
-use Rattle.dj_sandbox.proofs.running.verify_files.Goals as goal
+use Rattle.dj_class_set.specs.trusted.Entry.{AreRunViolations}
+use Rattle.dj_class_set.proofs.RunRules.{entry_is_there}
+use Rattle.dj_class_set.proofs.running.verify_files.Goals as goal
 
 -- a list whose slice isn't empty is not empty
 some_of_full : {X : Type 0} (xs ys : List X) → ys ≡ xs → false ≡ (length ys == 0) → xs ≡ [] → ⊥

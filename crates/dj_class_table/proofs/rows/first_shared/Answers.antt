@@ -2,11 +2,11 @@ use Rattle.std.proofs.Common.{◌≡◌, arith, sym, ◌∙◌, subst}
 use Rattle.std.specs.declared.cmp.Ordering.TheVariants.{Less}
 use Rattle.std.proofs.lemmas.List.Sorted.{all_adjacent_more}
 use Rattle.dj_names.specs.trusted.Types.{Name, same_name}
-use Rattle.dj_classes.specs.Tables.{IsLeastShared}
-use Rattle.dj_classes.specs.ClassRows.{class_cmp}
-use Rattle.dj_classes.proofs.Orders.{names_from_same, same_from_names, not_both, rise_from_adjacent}
-use Rattle.dj_classes.proofs.Shared.{first_pair, next_rises}
-use Rattle.dj_classes.proofs.rows.first_shared.Goals as goal
+use Rattle.dj_class_table.specs.Tables.{IsLeastShared}
+use Rattle.dj_class_table.specs.ClassRows.{class_cmp}
+use Rattle.dj_class_table.proofs.Orders.{names_from_same, same_from_names, not_both, rise_from_adjacent}
+use Rattle.dj_class_table.proofs.Shared.{first_pair, next_rises}
+use Rattle.dj_class_table.proofs.rows.first_shared.Goals as goal
 
 pub returns-then-eq : goal.returns-then-eq
 returns-then-eq c =

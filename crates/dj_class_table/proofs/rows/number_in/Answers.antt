@@ -1,7 +1,7 @@
 use Rattle.std.proofs.Common.{rules, sym}
 use Rattle.std.proofs.lemmas.Fn.{always_returns_same}
-use Rattle.dj_classes.proofs.Numbered.{against, number_found, number_missing}
-use Rattle.dj_classes.proofs.rows.number_in.Goals as goal
+use Rattle.dj_class_table.proofs.Numbered.{against, number_found, number_missing}
+use Rattle.dj_class_table.proofs.rows.number_in.Goals as goal
 
 pub returns-in-Ok : goal.returns-in-Ok
 returns-in-Ok c =

@@ -1,6 +1,6 @@
 use Rattle.std.proofs.Common.{◌≡◌, take}
-use Rattle.dj_classes.specs.ClassRows.{numbers_at}
-use Rattle.dj_classes.proofs.rows.numbers_at.Given as goal
+use Rattle.dj_class_table.specs.ClassRows.{numbers_at}
+use Rattle.dj_class_table.proofs.rows.numbers_at.Given as goal
 
 -- the numbers so far
 abbrev pub invariant-loop-place : goal.invariant-loop-place

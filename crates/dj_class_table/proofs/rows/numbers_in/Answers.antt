@@ -1,7 +1,7 @@
 use Rattle.std.proofs.Common.{List, ℕ, ◌≡◌, IfOk, Option, ap, ◌∙◌, subst}
-use Rattle.dj_classes.specs.ClassRows.{numbers_at}
-use Rattle.dj_classes.proofs.Listed.{numbers_listed}
-use Rattle.dj_classes.proofs.rows.numbers_in.Goals as goal
+use Rattle.dj_class_table.specs.ClassRows.{numbers_at}
+use Rattle.dj_class_table.proofs.Listed.{numbers_listed}
+use Rattle.dj_class_table.proofs.rows.numbers_in.Goals as goal
 
 pub returns : goal.returns
 returns c =

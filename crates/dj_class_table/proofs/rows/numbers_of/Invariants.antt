@@ -1,6 +1,6 @@
 use Rattle.std.proofs.Common.{◌≡◌, map, take}
-use Rattle.dj_classes.specs.Tables.{class_number}
-use Rattle.dj_classes.proofs.rows.numbers_of.Given as goal
+use Rattle.dj_class_table.specs.Tables.{class_number}
+use Rattle.dj_class_table.proofs.rows.numbers_of.Given as goal
 
 -- the numbers so far
 abbrev pub invariant-loop-name : goal.invariant-loop-name

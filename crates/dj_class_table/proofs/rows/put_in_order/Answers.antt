@@ -1,9 +1,9 @@
 use Rattle.std.proofs.Common.{rules}
 use Rattle.std.specs.Ordering.{is_lt}
 use Rattle.std.proofs.lemmas.List.Sorted.{answers_always}
-use Rattle.dj_classes.specs.ClassRows.{class_cmp}
-use Rattle.dj_classes.proofs.Orders.{class_order}
-use Rattle.dj_classes.proofs.rows.put_in_order.Goals as goal
+use Rattle.dj_class_table.specs.ClassRows.{class_cmp}
+use Rattle.dj_class_table.proofs.Orders.{class_order}
+use Rattle.dj_class_table.proofs.rows.put_in_order.Goals as goal
 
 pub returns-clause-in_order : goal.returns-clause-in_order
 returns-clause-in_order c =

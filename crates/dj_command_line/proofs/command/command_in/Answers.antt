@@ -2,11 +2,11 @@ use Rattle.std.proofs.Common.{◌≡◌, ◌∙◌, sym, ap, List, [], Option, N
 use Rattle.std.specs.Prelude.{option_and_then}
 use Rattle.clap.specs.Words.{Row, found_of, rows_of, first_of, all_of}
 use Rattle.clap.proofs.WalkLemmas.{first_value-rows, raw_values-rows}
-use Rattle.dj_words.specs.trusted.Words.{Word}
-use Rattle.dj_words.specs.trusted.DoneJobs.{DoneJob, done}
-use Rattle.dj_words.specs.WordsApp.{Values, values_of, job_of_values}
-use Rattle.dj_words.specs.Views.{job_view, texts, text_given, values_view}
-use Rattle.dj_words.proofs.command.command_in.Goals as goal
+use Rattle.dj_command_line.specs.trusted.Words.{Word}
+use Rattle.dj_command_line.specs.trusted.DoneJobs.{DoneJob, done}
+use Rattle.dj_command_line.specs.WordsApp.{Values, values_of, job_of_values}
+use Rattle.dj_command_line.specs.Views.{job_view, texts, text_given, values_view}
+use Rattle.dj_command_line.proofs.command.command_in.Goals as goal
 
 -- the job of a command, its words and its options
 abbrev job_by : Option Word → Option (List Word) → Values → Option DoneJob

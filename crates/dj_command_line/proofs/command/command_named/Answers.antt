@@ -1,9 +1,9 @@
 use Rattle.std.proofs.Common.{sym, ap, ◌∙◌}
 use Rattle.std.specs.Prelude.{option_and_then}
-use Rattle.dj_words.specs.trusted.DoneJobs.{done}
-use Rattle.dj_words.specs.Views.{texts, values_view}
-use Rattle.dj_words.proofs.Done.{job_of_raw, job_of_assemble, job_of_others}
-use Rattle.dj_words.proofs.command.command_named.Goals as goal
+use Rattle.dj_command_line.specs.trusted.DoneJobs.{done}
+use Rattle.dj_command_line.specs.Views.{texts, values_view}
+use Rattle.dj_command_line.proofs.Done.{job_of_raw, job_of_assemble, job_of_others}
+use Rattle.dj_command_line.proofs.command.command_named.Goals as goal
 
 pub returns-then-eq-3 : goal.returns-then-eq-3
 returns-then-eq-3 c =

@@ -1,14 +1,14 @@
 use Rattle.std.proofs.Common.{◌≡◌, ◌≢◌, ◌∙◌, sym, ap, refl, subst, List, [], ◌∷◌, Option, None, Some, MatchOption, String, map, string_bytes, length}
 use Rattle.std.specs.Prelude.{option_and_then}
 use Rattle.std.proofs.lemmas.Str.{IsUtf8-string_bytes}
-use Rattle.dj_bytes.specs.trusted.Options.{◌>>=◌}
+use Rattle.dj_cursor.specs.trusted.Options.{◌>>=◌}
 use Rattle.clap.specs.Words.{Row, found_of, rows_of, fault_of, matches_of}
 use Rattle.clap.specs.declared.parser.matches.ArgMatches.{ArgMatches}
-use Rattle.dj_words.specs.trusted.Words.{Word, Job, job_of}
-use Rattle.dj_words.specs.trusted.DoneJobs.{done, done_job_of}
-use Rattle.dj_words.specs.WordsApp.{app, job_in}
-use Rattle.dj_words.proofs.Walking.{AllUtf8, taken_words, refused_words}
-use Rattle.dj_words.proofs.command.command_of.Goals as goal
+use Rattle.dj_command_line.specs.trusted.Words.{Word, Job, job_of}
+use Rattle.dj_command_line.specs.trusted.DoneJobs.{done, done_job_of}
+use Rattle.dj_command_line.specs.WordsApp.{app, job_in}
+use Rattle.dj_command_line.proofs.Walking.{AllUtf8, taken_words, refused_words}
+use Rattle.dj_command_line.proofs.command.command_of.Goals as goal
 
 all_utf8 : {Z : Type 0} (words : List (String Z)) → AllUtf8 (map string_bytes words)
 all_utf8 [] = tt

@@ -1,9 +1,9 @@
 use Rattle.std.proofs.Common.{◌≡◌, map, string_bytes, sym, ap, ◌∙◌, refl, subst, true, false, List, ℕ}
 use Rattle.clap.specs.Words.{App, HasKind, app_of, is_simple, is_simple_and_free, matches_of, fault_of}
-use Rattle.dj_words.specs.WordsApp.{app}
-use Rattle.dj_words.proofs.Refusals.{refused}
-use Rattle.dj_words.proofs.ByClap.{simple, free}
-use Rattle.dj_words.proofs.line.read_line.Goals as goal
+use Rattle.dj_command_line.specs.WordsApp.{app}
+use Rattle.dj_command_line.proofs.Refusals.{refused}
+use Rattle.dj_command_line.proofs.ByClap.{simple, free}
+use Rattle.dj_command_line.proofs.line.read_line.Goals as goal
 
 pub returns-in-Ok : goal.returns-in-Ok
 returns-in-Ok c =

@@ -1,6 +1,6 @@
 use Rattle.std.proofs.Common.{◌<◌, ℕ, arith, subst, sym}
-use Rattle.dj_words.proofs.Decimal.{under_nine_digits}
-use Rattle.dj_words.proofs.number.decimal.Goals as goal
+use Rattle.dj_command_line.proofs.Decimal.{under_nine_digits}
+use Rattle.dj_command_line.proofs.number.decimal.Goals as goal
 
 pub overflow_mul-value : goal.overflow_mul-value
 overflow_mul-value c =

@@ -1,8 +1,8 @@
 use Rattle.std.proofs.Common.{◌≡◌, true, take}
 use Rattle.std.specs.Char.{is_ascii_digit}
 use Rattle.std.specs.List.{list_all}
-use Rattle.dj_words.specs.trusted.Words.{decimal_value}
-use Rattle.dj_words.proofs.number.decimal.Given as goal
+use Rattle.dj_command_line.specs.trusted.Words.{decimal_value}
+use Rattle.dj_command_line.proofs.number.decimal.Given as goal
 
 abbrev pub invariant-loop-digit : goal.invariant-loop-digit
 invariant-loop-digit l =

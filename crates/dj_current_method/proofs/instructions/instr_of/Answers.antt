@@ -1,6 +1,6 @@
 use Rattle.std.proofs.Common.{sym}
-use Rattle.dj_activations.proofs.InstructionFacts.{instr_reported, no_instr}
-use Rattle.dj_activations.proofs.instructions.instr_of.Goals as goal
+use Rattle.dj_current_method.proofs.InstructionFacts.{instr_reported, no_instr}
+use Rattle.dj_current_method.proofs.instructions.instr_of.Goals as goal
 
 pub unreachable-requires-in-None : goal.unreachable-requires-in-None
 unreachable-requires-in-None c = no_instr c.args.image.now c.args.method.number c.args.number c.in-Some.code.now c.in-Some.ensures c.requires.stands c.in-None.ensures

@@ -1,7 +1,7 @@
 use Rattle.std.proofs.Common.{sym, ◌∙◌}
 use Rattle.std.proofs.lemmas.Bool.{false≢true}
-use Rattle.dj_activations.proofs.Reported.{initialiser_reported, no_initialiser_reported}
-use Rattle.dj_activations.proofs.methods.initialised_by.Goals as goal
+use Rattle.dj_current_method.proofs.Reported.{initialiser_reported, no_initialiser_reported}
+use Rattle.dj_current_method.proofs.methods.initialised_by.Goals as goal
 
 pub returns-then-are_initialisers : goal.returns-then-are_initialisers
 returns-then-are_initialisers c =

@@ -1,7 +1,7 @@
 use Rattle.std.proofs.Common.{true, false, refl, sym, ◌∙◌}
 use Rattle.dj_model.specs.trusted.Program.{has_flag}
-use Rattle.dj_declared.proofs.FileLaws.{flag_reported, kept_by}
-use Rattle.dj_declared.proofs.file.body_of.Goals as goal
+use Rattle.dj_declarations.proofs.FileLaws.{flag_reported, kept_by}
+use Rattle.dj_declarations.proofs.file.body_of.Goals as goal
 
 pub returns-then-is_native : goal.returns-then-is_native
 returns-then-is_native c =

@@ -1,6 +1,6 @@
-use Rattle.dj_declared.specs.MemberRows.{field_row_of}
-use Rattle.dj_declared.proofs.FileLaws.{rows_more, named_more}
-use Rattle.dj_declared.proofs.file.field_rows.Goals as goal
+use Rattle.dj_declarations.specs.MemberRows.{field_row_of}
+use Rattle.dj_declarations.proofs.FileLaws.{rows_more, named_more}
+use Rattle.dj_declarations.proofs.file.field_rows.Goals as goal
 
 pub loop-field-preserved : goal.loop-field-preserved
 loop-field-preserved c =

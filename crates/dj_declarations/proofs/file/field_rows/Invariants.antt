@@ -1,7 +1,7 @@
 use Rattle.std.proofs.Common.{◌≡◌, map, take}
 use Rattle.dj_class.specs.Members.{member_of}
-use Rattle.dj_declared.specs.MemberRows.{field_row_of, AreNamed}
-use Rattle.dj_declared.proofs.file.field_rows.Given as goal
+use Rattle.dj_declarations.specs.MemberRows.{field_row_of, AreNamed}
+use Rattle.dj_declarations.proofs.file.field_rows.Given as goal
 
 -- the rows so far
 abbrev pub invariant-loop-field : goal.invariant-loop-field

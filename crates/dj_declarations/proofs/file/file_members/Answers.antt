@@ -1,8 +1,8 @@
 use Rattle.std.proofs.Common.{map, ◌∙◌}
 use Rattle.dj_class.specs.Members.{member_of}
-use Rattle.dj_declared.specs.MemberRows.{method_row_of, field_row_of}
-use Rattle.dj_declared.proofs.FileLaws.{file_sound, file_fields, file_methods, rows_of_lent, named_of_lent}
-use Rattle.dj_declared.proofs.file.file_members.Goals as goal
+use Rattle.dj_declarations.specs.MemberRows.{method_row_of, field_row_of}
+use Rattle.dj_declarations.proofs.FileLaws.{file_sound, file_fields, file_methods, rows_of_lent, named_of_lent}
+use Rattle.dj_declarations.proofs.file.file_members.Goals as goal
 
 pub invariant_of-result : goal.invariant_of-result
 invariant_of-result c =

@@ -1,9 +1,9 @@
 use Rattle.std.proofs.Common.{ap, ◌∙◌}
 use Rattle.dj_class.specs.Members.{member_of}
-use Rattle.dj_declared.specs.declared.members.MemberBody.{MemberBody}
-use Rattle.dj_declared.specs.MemberRows.{member_row_of, method_row_of}
-use Rattle.dj_declared.proofs.FileLaws.{rows_more, named_more}
-use Rattle.dj_declared.proofs.file.method_rows.Goals as goal
+use Rattle.dj_declarations.specs.declared.members.MemberBody.{MemberBody}
+use Rattle.dj_declarations.specs.MemberRows.{member_row_of, method_row_of}
+use Rattle.dj_declarations.proofs.FileLaws.{rows_more, named_more}
+use Rattle.dj_declarations.proofs.file.method_rows.Goals as goal
 
 pub loop-method-preserved : goal.loop-method-preserved
 loop-method-preserved c =

@@ -1,5 +1,5 @@
-use Rattle.dj_declared.specs.MemberRows.{AreNumbered}
-use Rattle.dj_declared.proofs.file.number_texts.Given as goal
+use Rattle.dj_declarations.specs.MemberRows.{AreNumbered}
+use Rattle.dj_declarations.proofs.file.number_texts.Given as goal
 
 -- the numbers so far
 abbrev pub invariant-loop-named : goal.invariant-loop-named

@@ -1,5 +1,5 @@
-use Rattle.dj_declared.proofs.FileLaws.{numbered_more}
-use Rattle.dj_declared.proofs.file.put_number.Goals as goal
+use Rattle.dj_declarations.proofs.FileLaws.{numbered_more}
+use Rattle.dj_declarations.proofs.file.put_number.Goals as goal
 
 pub returns : goal.returns
 returns c =

@@ -1,7 +1,7 @@
 use Rattle.std.proofs.Common.{map, ap, ◌∙◌}
-use Rattle.dj_declared.specs.MemberRows.{row_method, row_field}
-use Rattle.dj_declared.proofs.LibraryLaws.{library_sound}
-use Rattle.dj_declared.proofs.library.library_members.Goals as goal
+use Rattle.dj_declarations.specs.MemberRows.{row_method, row_field}
+use Rattle.dj_declarations.proofs.LibraryLaws.{library_sound}
+use Rattle.dj_declarations.proofs.library.library_members.Goals as goal
 
 pub invariant_of-result : goal.invariant_of-result
 invariant_of-result c = record {

@@ -1,12 +1,12 @@
 use Rattle.std.proofs.Common.{◌≡◌, Some, ap, subst, sym, ◌∙◌}
 use Rattle.dj_names.specs.trusted.Descriptors.{desc_text}
 use Rattle.dj_model.specs.trusted.Libraries.{library_method}
-use Rattle.dj_natives.specs.Views.{library_method_view}
-use Rattle.dj_declared.specs.declared.members.MemberBody.{MemberBody}
-use Rattle.dj_declared.specs.Texts.{number_in}
-use Rattle.dj_declared.specs.MemberRows.{IsRowOf}
-use Rattle.dj_declared.proofs.LibraryLaws.{row_of_method}
-use Rattle.dj_declared.proofs.library.method_row.Goals as goal
+use Rattle.dj_library_types.specs.Views.{library_method_view}
+use Rattle.dj_declarations.specs.declared.members.MemberBody.{MemberBody}
+use Rattle.dj_declarations.specs.Texts.{number_in}
+use Rattle.dj_declarations.specs.MemberRows.{IsRowOf}
+use Rattle.dj_declarations.proofs.LibraryLaws.{row_of_method}
+use Rattle.dj_declarations.proofs.library.method_row.Goals as goal
 
 pub returns : goal.returns
 returns c =

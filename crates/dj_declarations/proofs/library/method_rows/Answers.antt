@@ -1,5 +1,5 @@
-use Rattle.dj_declared.proofs.LibraryLaws.{rows_of_more}
-use Rattle.dj_declared.proofs.library.method_rows.Goals as goal
+use Rattle.dj_declarations.proofs.LibraryLaws.{rows_of_more}
+use Rattle.dj_declarations.proofs.library.method_rows.Goals as goal
 
 pub loop-method-preserved : goal.loop-method-preserved
 loop-method-preserved c =

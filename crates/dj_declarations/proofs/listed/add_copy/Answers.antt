@@ -1,7 +1,7 @@
 use Rattle.std.proofs.Common.{◌<◌, length, arith}
-use Rattle.dj_declared.proofs.FileLaws.{within_pool}
-use Rattle.dj_declared.proofs.ListLaws.{kept_by_added, named_by_added, copies_more}
-use Rattle.dj_declared.proofs.listed.add_copy.Goals as goal
+use Rattle.dj_declarations.proofs.FileLaws.{within_pool}
+use Rattle.dj_declarations.proofs.ListLaws.{kept_by_added, named_by_added, copies_more}
+use Rattle.dj_declarations.proofs.listed.add_copy.Goals as goal
 
 pub returns-clause-keep : goal.returns-clause-keep
 returns-clause-keep c = kept_by_added c.args.copies.now.names c.add_name.new.names c.args.text.now c.in_ok-place.ensures.added

@@ -3,10 +3,10 @@ use Rattle.std.specs.Prelude.{slice_get}
 use Rattle.std.specs.Option.{option_map}
 use Rattle.std.proofs.lemmas.List.{take_all}
 use Rattle.dj_pool.specs.trusted.Pool.{class_name_at}
-use Rattle.dj_declared.specs.Lists.{AreListed}
-use Rattle.dj_declared.proofs.ListLaws.{listed_is, listed_there, listed_by, listed_some, listed_none}
-use Rattle.dj_declared.proofs.listed.class_names.Goals.{in-Some+in_ok-push, in_default}
-use Rattle.dj_declared.proofs.listed.class_names.Goals as goal
+use Rattle.dj_declarations.specs.Lists.{AreListed}
+use Rattle.dj_declarations.proofs.ListLaws.{listed_is, listed_there, listed_by, listed_some, listed_none}
+use Rattle.dj_declarations.proofs.listed.class_names.Goals.{in-Some+in_ok-push, in_default}
+use Rattle.dj_declarations.proofs.listed.class_names.Goals as goal
 
 pub loop-index-preserved : goal.loop-index-preserved
 loop-index-preserved c =

@@ -1,8 +1,8 @@
 use Rattle.std.proofs.Common.{List, ℕ, ◌+◌, [], refl, sym, ◌∙◌, subst, arith, take}
 use Rattle.std.proofs.lemmas.List.{take_all, get_or_read_under}
-use Rattle.dj_declared.specs.Lists.{AreListed}
-use Rattle.dj_declared.proofs.ListLaws.{listed_is, listed_there, copied_more}
-use Rattle.dj_declared.proofs.listed.copied_names.Goals as goal
+use Rattle.dj_declarations.specs.Lists.{AreListed}
+use Rattle.dj_declarations.proofs.ListLaws.{listed_is, listed_there, copied_more}
+use Rattle.dj_declarations.proofs.listed.copied_names.Goals as goal
 
 pub loop-name-preserved : goal.loop-name-preserved
 loop-name-preserved c =

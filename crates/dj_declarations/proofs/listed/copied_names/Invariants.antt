@@ -1,6 +1,6 @@
 use Rattle.std.proofs.Common.{take}
-use Rattle.dj_declared.specs.Lists.{AreListed}
-use Rattle.dj_declared.proofs.listed.copied_names.Given as goal
+use Rattle.dj_declarations.specs.Lists.{AreListed}
+use Rattle.dj_declarations.proofs.listed.copied_names.Given as goal
 
 -- the names so far
 abbrev pub invariant-loop-name : goal.invariant-loop-name

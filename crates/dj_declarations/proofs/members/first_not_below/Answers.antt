@@ -1,8 +1,8 @@
 use Rattle.std.proofs.Common.{rules, ltb}
 use Rattle.std.proofs.lemmas.List.Sorted.{IsPartitionPoint-from_clause}
-use Rattle.dj_declared.specs.MemberRows.{key_at}
-use Rattle.dj_declared.proofs.RowLaws.{parted}
-use Rattle.dj_declared.proofs.members.first_not_below.Goals as goal
+use Rattle.dj_declarations.specs.MemberRows.{key_at}
+use Rattle.dj_declarations.proofs.RowLaws.{parted}
+use Rattle.dj_declarations.proofs.members.first_not_below.Goals as goal
 
 pub returns-clause-point : goal.returns-clause-point
 returns-clause-point c =

@@ -1,9 +1,9 @@
 use Rattle.std.proofs.Common.{◌≡◌, ℕ, ◌*◌, ◌<◌, ltb, true, false, length, get_or, subst, arith}
 use Rattle.std.specs.List.Sorted.{IsPartitionPoint}
 use Rattle.std.proofs.lemmas.List.{get_or_default}
-use Rattle.dj_declared.specs.MemberRows.{key_at}
-use Rattle.dj_declared.proofs.RowLaws.{answer_is, none_past}
-use Rattle.dj_declared.proofs.members.first_of.Goals as goal
+use Rattle.dj_declarations.specs.MemberRows.{key_at}
+use Rattle.dj_declarations.proofs.RowLaws.{answer_is, none_past}
+use Rattle.dj_declarations.proofs.members.first_of.Goals as goal
 
 pub returns-then-at-order : goal.returns-then-at-order
 returns-then-at-order c =

@@ -1,9 +1,9 @@
 use Rattle.std.proofs.Common.{ℕ, ◌+◌, get_or, sym, ap, ◌∙◌, add-zero}
-use Rattle.dj_declared.specs.declared.members.MemberBody.TheVariants.{Empty}
-use Rattle.dj_declared.specs.declared.members.MemberRow.{MemberRow}
-use Rattle.dj_declared.proofs.CountLaws.{counted_more, one_counted, none_counted}
-use Rattle.dj_declared.proofs.members.instance_counts_of.Goals as goal
-use Rattle.dj_declared.proofs.members.instance_counts_of.Goals.{then-row-eq0+in-Some, else-row-eq0}
+use Rattle.dj_declarations.specs.declared.members.MemberBody.TheVariants.{Empty}
+use Rattle.dj_declarations.specs.declared.members.MemberRow.{MemberRow}
+use Rattle.dj_declarations.proofs.CountLaws.{counted_more, one_counted, none_counted}
+use Rattle.dj_declarations.proofs.members.instance_counts_of.Goals as goal
+use Rattle.dj_declarations.proofs.members.instance_counts_of.Goals.{then-row-eq0+in-Some, else-row-eq0}
 
 pub loop-row-preserved : goal.loop-row-preserved
 loop-row-preserved c =

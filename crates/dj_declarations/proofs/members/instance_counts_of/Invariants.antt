@@ -1,5 +1,5 @@
-use Rattle.dj_declared.proofs.CountLaws.{IsCounted}
-use Rattle.dj_declared.proofs.members.instance_counts_of.Given as goal
+use Rattle.dj_declarations.proofs.CountLaws.{IsCounted}
+use Rattle.dj_declarations.proofs.members.instance_counts_of.Given as goal
 
 -- the rows so far
 abbrev pub invariant-loop-row : goal.invariant-loop-row

@@ -1,8 +1,8 @@
 use Rattle.std.proofs.Common.{rules, length, refl}
 use Rattle.std.proofs.lemmas.List.Sorted.{IsNonDecreasingBy-from_sort_by_key}
-use Rattle.dj_declared.specs.MemberRows.{key_at}
-use Rattle.dj_declared.proofs.RowLaws.{ordered_by}
-use Rattle.dj_declared.proofs.members.order_of.Goals as goal
+use Rattle.dj_declarations.specs.MemberRows.{key_at}
+use Rattle.dj_declarations.proofs.RowLaws.{ordered_by}
+use Rattle.dj_declarations.proofs.members.order_of.Goals as goal
 
 pub returns : goal.returns
 returns c =

@@ -1,6 +1,6 @@
 use Rattle.std.proofs.Common.{ℕ, ◌∷◌, ◌++◌, [], ap, ◌∙◌, arith}
-use Rattle.dj_declared.proofs.RowLaws.{counted_more}
-use Rattle.dj_declared.proofs.members.places_below.Goals as goal
+use Rattle.dj_declarations.proofs.RowLaws.{counted_more}
+use Rattle.dj_declarations.proofs.members.places_below.Goals as goal
 
 pub loop-place-preserved : goal.loop-place-preserved
 loop-place-preserved c =

@@ -1,5 +1,5 @@
-use Rattle.dj_declared.specs.MemberRows.{AreCounted}
-use Rattle.dj_declared.proofs.members.places_below.Given as goal
+use Rattle.dj_declarations.specs.MemberRows.{AreCounted}
+use Rattle.dj_declarations.proofs.members.places_below.Given as goal
 
 -- the places so far
 abbrev pub invariant-loop-place : goal.invariant-loop-place

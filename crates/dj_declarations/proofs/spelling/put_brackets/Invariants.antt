@@ -1,6 +1,6 @@
 use Rattle.std.proofs.Common.{◌≡◌, ◌++◌}
 use Rattle.std.specs.Prelude.{replicate}
-use Rattle.dj_declared.proofs.spelling.put_brackets.Given as goal
+use Rattle.dj_declarations.proofs.spelling.put_brackets.Given as goal
 
 -- the brackets so far
 abbrev pub invariant-loop : goal.invariant-loop

@@ -1,7 +1,7 @@
 use Rattle.std.proofs.Common.{◌≡◌, ◌++◌, take}
 use Rattle.std.specs.List.{flat_map}
 use Rattle.dj_names.specs.trusted.Descriptors.{type_text}
-use Rattle.dj_declared.proofs.spelling.put_types.Given as goal
+use Rattle.dj_declarations.proofs.spelling.put_types.Given as goal
 
 -- the types so far
 abbrev pub invariant-loop-ty : goal.invariant-loop-ty

@@ -1,7 +1,7 @@
 use Rattle.std.proofs.Common.{◌+◌, ◌-◌, sym, ◌∙◌, arith}
 use Rattle.std.specs.Prelude.{◌/◌}
-use Rattle.dj_declared.proofs.TextLaws.{between_higher, between_lower, found_nowhere}
-use Rattle.dj_declared.proofs.texts.number_of.Goals as goal
+use Rattle.dj_declarations.proofs.TextLaws.{between_higher, between_lower, found_nowhere}
+use Rattle.dj_declarations.proofs.texts.number_of.Goals as goal
 
 pub loop-low-preserved-in-Less : goal.loop-low-preserved-in-Less
 loop-low-preserved-in-Less c =

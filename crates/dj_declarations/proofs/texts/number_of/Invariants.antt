@@ -1,6 +1,6 @@
 use Rattle.std.proofs.Common.{◌-◌}
-use Rattle.dj_declared.proofs.TextLaws.{IsBetween}
-use Rattle.dj_declared.proofs.texts.number_of.Given as goal
+use Rattle.dj_declarations.proofs.TextLaws.{IsBetween}
+use Rattle.dj_declarations.proofs.texts.number_of.Given as goal
 
 -- the text stands between these places, if at all
 abbrev pub invariant-loop-low : goal.invariant-loop-low

@@ -1,6 +1,6 @@
 use Rattle.std.proofs.Common.{arith}
-use Rattle.dj_declared.proofs.TextLaws.{starts_before, ends_inside, text_read}
-use Rattle.dj_declared.proofs.texts.text_at.Goals as goal
+use Rattle.dj_declarations.proofs.TextLaws.{starts_before, ends_inside, text_read}
+use Rattle.dj_declarations.proofs.texts.text_at.Goals as goal
 
 pub slice_bounds-result-end : goal.slice_bounds-result-end
 slice_bounds-result-end c =

@@ -2,10 +2,10 @@ use Rattle.std.proofs.Common.{◌≡◌, ◌++◌, [], get_or, map, ap, ◌∙�
 use Rattle.std.proofs.lemmas.List.{take_all}
 use Rattle.dj_class.specs.declared.class.Attribute.{Attribute}
 use Rattle.dj_class.specs.Parts.{attribute_of}
-use Rattle.dj_check.specs.trusted.Attributes.{bodies_of}
-use Rattle.dj_check.proofs.NamedBodies.{now_of, body_if, body_more, pushed_body, same_bodies}
-use Rattle.dj_check.proofs.bodies.bodies_named.Goals.{then-is_named+in_ok-push, else-is_named}
-use Rattle.dj_check.proofs.bodies.bodies_named.Goals as goal
+use Rattle.dj_early_rules.specs.trusted.Attributes.{bodies_of}
+use Rattle.dj_early_rules.proofs.NamedBodies.{now_of, body_if, body_more, pushed_body, same_bodies}
+use Rattle.dj_early_rules.proofs.bodies.bodies_named.Goals.{then-is_named+in_ok-push, else-is_named}
+use Rattle.dj_early_rules.proofs.bodies.bodies_named.Goals as goal
 
 abbrev none : Attribute
 none = record { name = 0; body = record { ref_ptr = (0, 0); now = [] } }

@@ -1,7 +1,7 @@
 use Rattle.std.proofs.Common.{◌≡◌, map, take}
 use Rattle.dj_class.specs.Parts.{attribute_of}
-use Rattle.dj_check.specs.trusted.Attributes.{bodies_of}
-use Rattle.dj_check.proofs.bodies.bodies_named.Given as goal
+use Rattle.dj_early_rules.specs.trusted.Attributes.{bodies_of}
+use Rattle.dj_early_rules.proofs.bodies.bodies_named.Given as goal
 
 -- the bodies so far
 abbrev pub invariant-loop-attribute : goal.invariant-loop-attribute

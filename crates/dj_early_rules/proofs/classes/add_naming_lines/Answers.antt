@@ -1,9 +1,9 @@
 use Rattle.std.proofs.Common.{◌↔◌, ℕ, List, IsTrue, subst}
 use Rattle.dj_class.specs.Views.{class_of}
 use Rattle.dj_report.proofs.Adding.{on_ok}
-use Rattle.dj_check.specs.trusted.Classes.{IsReserved}
-use Rattle.dj_check.proofs.FileLaws.{naming_lines}
-use Rattle.dj_check.proofs.classes.add_naming_lines.Goals as goal
+use Rattle.dj_early_rules.specs.trusted.Classes.{IsReserved}
+use Rattle.dj_early_rules.proofs.FileLaws.{naming_lines}
+use Rattle.dj_early_rules.proofs.classes.add_naming_lines.Goals as goal
 
 pub returns : goal.returns
 returns c =

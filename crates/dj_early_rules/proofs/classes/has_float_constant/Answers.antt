@@ -1,8 +1,8 @@
 use Rattle.dj_pool.specs.Views.{constant_of}
 use Rattle.dj_report.proofs.Adding.{not_both}
-use Rattle.dj_check.specs.trusted.Members.{IsFloatConstant}
-use Rattle.dj_check.proofs.Anys.{none_more, none_at_all, from_seen_any}
-use Rattle.dj_check.proofs.classes.has_float_constant.Goals as goal
+use Rattle.dj_early_rules.specs.trusted.Members.{IsFloatConstant}
+use Rattle.dj_early_rules.proofs.Anys.{none_more, none_at_all, from_seen_any}
+use Rattle.dj_early_rules.proofs.classes.has_float_constant.Goals as goal
 
 pub loop-entry-preserved : goal.loop-entry-preserved
 loop-entry-preserved c =

@@ -2,12 +2,12 @@ use Rattle.std.proofs.Common.{◌≡◌, ℕ, List, map, ap, ◌∙◌, codes, s
 use Rattle.dj_edge.proofs.Lists.{ok_so}
 use Rattle.dj_class.specs.Members.{member_of}
 use Rattle.dj_report.proofs.Adding.{not_both}
-use Rattle.dj_check.specs.declared.code.MethodBody.{MethodBody}
-use Rattle.dj_check.specs.trusted.Attributes.{bodies_of, codes_of}
-use Rattle.dj_check.specs.Passes.{IsBodilessView, IsOwnView, IsMethodView}
-use Rattle.dj_check.proofs.NamedBodies.{now_of, each_short}
-use Rattle.dj_check.proofs.Codes.{bodiless_view, own_view}
-use Rattle.dj_check.proofs.code.code_of_method.Goals as goal
+use Rattle.dj_early_rules.specs.declared.code.MethodBody.{MethodBody}
+use Rattle.dj_early_rules.specs.trusted.Attributes.{bodies_of, codes_of}
+use Rattle.dj_early_rules.specs.Passes.{IsBodilessView, IsOwnView, IsMethodView}
+use Rattle.dj_early_rules.proofs.NamedBodies.{now_of, each_short}
+use Rattle.dj_early_rules.proofs.Codes.{bodiless_view, own_view}
+use Rattle.dj_early_rules.proofs.code.code_of_method.Goals as goal
 
 pub own_code-requires : goal.own_code-requires
 own_code-requires c =

@@ -1,8 +1,8 @@
 use Rattle.std.proofs.Common.{List, ℕ, refl, sym, subst}
 use Rattle.dj_labels.specs.Passes.{AreStarts}
-use Rattle.dj_check.specs.Passes.{bodies_in, HasFramesAt}
-use Rattle.dj_check.proofs.MapLaws.{starts_increase, have_frames}
-use Rattle.dj_check.proofs.code.code_with_labels.Goals as goal
+use Rattle.dj_early_rules.specs.Passes.{bodies_in, HasFramesAt}
+use Rattle.dj_early_rules.proofs.MapLaws.{starts_increase, have_frames}
+use Rattle.dj_early_rules.proofs.code.code_with_labels.Goals as goal
 
 pub frames_in-requires-clause-rise : goal.frames_in-requires-clause-rise
 frames_in-requires-clause-rise c =

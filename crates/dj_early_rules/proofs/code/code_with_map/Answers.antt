@@ -1,8 +1,8 @@
 use Rattle.std.proofs.Common.{List, Option, None, subst}
 use Rattle.dj_ops.specs.declared.rows.CatchRow.{CatchRow}
 use Rattle.dj_labels.specs.declared.labelled.Labelling.{Labelling}
-use Rattle.dj_check.specs.Passes.{IsLabelling}
-use Rattle.dj_check.proofs.code.code_with_map.Goals as goal
+use Rattle.dj_early_rules.specs.Passes.{IsLabelling}
+use Rattle.dj_early_rules.proofs.code.code_with_map.Goals as goal
 
 pub returns-in-None : goal.returns-in-None
 returns-in-None c =

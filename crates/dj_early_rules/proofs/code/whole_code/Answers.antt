@@ -1,8 +1,8 @@
 use Rattle.std.proofs.Common.{map, ap, ◌∙◌, codes, arith}
 use Rattle.dj_class.specs.CodeViews.{code_of}
-use Rattle.dj_check.specs.trusted.Attributes.{bodies_of}
-use Rattle.dj_check.proofs.NamedBodies.{now_of, no_bytes, each_map_short}
-use Rattle.dj_check.proofs.code.whole_code.Goals as goal
+use Rattle.dj_early_rules.specs.trusted.Attributes.{bodies_of}
+use Rattle.dj_early_rules.proofs.NamedBodies.{now_of, no_bytes, each_map_short}
+use Rattle.dj_early_rules.proofs.code.whole_code.Goals as goal
 
 pub code_with_map-requires-in-len1-clause-short : goal.code_with_map-requires-in-len1-clause-short
 code_with_map-requires-in-len1-clause-short c = (

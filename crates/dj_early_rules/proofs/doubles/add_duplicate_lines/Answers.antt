@@ -1,7 +1,7 @@
 use Rattle.dj_report.proofs.Adding.{on_ok}
-use Rattle.dj_check.specs.Doubles.{texts_in}
-use Rattle.dj_check.proofs.DoubleLaws.{lines_by_names}
-use Rattle.dj_check.proofs.doubles.add_duplicate_lines.Goals as goal
+use Rattle.dj_early_rules.specs.Doubles.{texts_in}
+use Rattle.dj_early_rules.proofs.DoubleLaws.{lines_by_names}
+use Rattle.dj_early_rules.proofs.doubles.add_duplicate_lines.Goals as goal
 
 pub returns : goal.returns
 returns c =

@@ -2,10 +2,10 @@ use Rattle.std.proofs.Common.{List, subst}
 use Rattle.std.proofs.lemmas.List.{take_all}
 use Rattle.dj_report.specs.Lines.{Adds, IsLineAmong}
 use Rattle.dj_report.proofs.Adding.{adds_one_more}
-use Rattle.dj_check.specs.declared.doubles.NamedFile.{NamedFile}
-use Rattle.dj_check.specs.Doubles.{texts_in, IsLineAmongNames}
-use Rattle.dj_check.proofs.DoubleLaws.{line_by_name}
-use Rattle.dj_check.proofs.doubles.add_lines_among.Goals as goal
+use Rattle.dj_early_rules.specs.declared.doubles.NamedFile.{NamedFile}
+use Rattle.dj_early_rules.specs.Doubles.{texts_in, IsLineAmongNames}
+use Rattle.dj_early_rules.proofs.DoubleLaws.{line_by_name}
+use Rattle.dj_early_rules.proofs.doubles.add_lines_among.Goals as goal
 
 pub loop-file-preserved : goal.loop-file-preserved
 loop-file-preserved c =

@@ -1,7 +1,7 @@
 use Rattle.std.proofs.Common.{take}
 use Rattle.dj_report.specs.Lines.{Adds, IsLineAmong}
-use Rattle.dj_check.specs.Doubles.{texts_in, IsLineAmongNames}
-use Rattle.dj_check.proofs.doubles.add_lines_among.Given as goal
+use Rattle.dj_early_rules.specs.Doubles.{texts_in, IsLineAmongNames}
+use Rattle.dj_early_rules.proofs.doubles.add_lines_among.Given as goal
 
 -- the lines of the files so far
 abbrev pub invariant-loop-file : goal.invariant-loop-file

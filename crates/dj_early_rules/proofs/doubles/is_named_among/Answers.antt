@@ -1,8 +1,8 @@
 use Rattle.std.proofs.Common.{◌↔◌, Bool, IsTrue, Contains, sym, subst}
-use Rattle.dj_check.specs.Doubles.{texts_in}
-use Rattle.dj_check.proofs.Keys.{found}
-use Rattle.dj_check.proofs.DoubleLaws.{reported_among}
-use Rattle.dj_check.proofs.doubles.is_named_among.Goals as goal
+use Rattle.dj_early_rules.specs.Doubles.{texts_in}
+use Rattle.dj_early_rules.proofs.Keys.{found}
+use Rattle.dj_early_rules.proofs.DoubleLaws.{reported_among}
+use Rattle.dj_early_rules.proofs.doubles.is_named_among.Goals as goal
 
 pub returns-in-Some : goal.returns-in-Some
 returns-in-Some c =

@@ -1,7 +1,7 @@
-use Rattle.dj_check.specs.Doubles.{texts_in}
-use Rattle.dj_check.proofs.Keys.{noted, found}
-use Rattle.dj_check.proofs.DoubleLaws.{same_name, noted_again, not_again, was_seen, was_new}
-use Rattle.dj_check.proofs.doubles.note_name.Goals as goal
+use Rattle.dj_early_rules.specs.Doubles.{texts_in}
+use Rattle.dj_early_rules.proofs.Keys.{noted, found}
+use Rattle.dj_early_rules.proofs.DoubleLaws.{same_name, noted_again, not_again, was_seen, was_new}
+use Rattle.dj_early_rules.proofs.doubles.note_name.Goals as goal
 
 pub returns-in_ok-insert-clause-seen : goal.returns-in_ok-insert-clause-seen
 returns-in_ok-insert-clause-seen c =

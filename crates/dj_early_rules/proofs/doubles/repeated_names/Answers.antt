@@ -1,6 +1,6 @@
-use Rattle.dj_check.specs.Doubles.{texts_in}
-use Rattle.dj_check.proofs.DoubleLaws.{seen_more, twice_more, all_repeated}
-use Rattle.dj_check.proofs.doubles.repeated_names.Goals as goal
+use Rattle.dj_early_rules.specs.Doubles.{texts_in}
+use Rattle.dj_early_rules.proofs.DoubleLaws.{seen_more, twice_more, all_repeated}
+use Rattle.dj_early_rules.proofs.doubles.repeated_names.Goals as goal
 
 pub loop-file-preserved : goal.loop-file-preserved
 loop-file-preserved c = record {

@@ -1,6 +1,6 @@
 use Rattle.std.proofs.Common.{ℕ, List, ◌↔◌, Contains}
-use Rattle.dj_check.specs.Doubles.{texts_in, IsBelow, IsNameAt, IsAgainAt}
-use Rattle.dj_check.proofs.doubles.repeated_names.Given as goal
+use Rattle.dj_early_rules.specs.Doubles.{texts_in, IsBelow, IsNameAt, IsAgainAt}
+use Rattle.dj_early_rules.proofs.doubles.repeated_names.Given as goal
 
 -- the names so far, and those that came again
 abbrev pub invariant-loop-file : goal.invariant-loop-file

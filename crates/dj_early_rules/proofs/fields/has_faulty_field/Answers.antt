@@ -2,9 +2,9 @@ use Rattle.std.proofs.Common.{refl, subst, sym}
 use Rattle.dj_class.specs.declared.class.MemberView.{MemberView}
 use Rattle.dj_class.specs.Members.{member_of}
 use Rattle.dj_report.proofs.Adding.{not_both}
-use Rattle.dj_check.specs.trusted.Malformed.{IsFaultyField}
-use Rattle.dj_check.proofs.Anys.{none_more, found_at, none_at_all, seen_any, from_seen_any}
-use Rattle.dj_check.proofs.fields.has_faulty_field.Goals as goal
+use Rattle.dj_early_rules.specs.trusted.Malformed.{IsFaultyField}
+use Rattle.dj_early_rules.proofs.Anys.{none_more, found_at, none_at_all, seen_any, from_seen_any}
+use Rattle.dj_early_rules.proofs.fields.has_faulty_field.Goals as goal
 
 pub returns-then-faulty : goal.returns-then-faulty
 returns-then-faulty c = (

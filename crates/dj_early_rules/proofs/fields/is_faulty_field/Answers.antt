@@ -1,9 +1,9 @@
 use Rattle.std.proofs.Common.{◌≡◌, ◌∷◌, [], ℕ, List, Bor, map, get_or, sym, ap, ◌∙◌, arith, codes}
 use Rattle.dj_class.specs.Members.{member_of}
-use Rattle.dj_check.specs.trusted.Attributes.{bodies_of, values_of}
-use Rattle.dj_check.proofs.NamedBodies.{only_body, no_bytes}
-use Rattle.dj_check.proofs.Judging.{one_value}
-use Rattle.dj_check.proofs.fields.is_faulty_field.Goals as goal
+use Rattle.dj_early_rules.specs.trusted.Attributes.{bodies_of, values_of}
+use Rattle.dj_early_rules.proofs.NamedBodies.{only_body, no_bytes}
+use Rattle.dj_early_rules.proofs.Judging.{one_value}
+use Rattle.dj_early_rules.proofs.fields.is_faulty_field.Goals as goal
 
 pub returns-in-len1 : goal.returns-in-len1
 returns-in-len1 c =

@@ -1,6 +1,6 @@
-use Rattle.dj_check.specs.Gathered.{IsClassText}
-use Rattle.dj_check.proofs.HeadLaws.{one_more_of, all_of}
-use Rattle.dj_check.proofs.heads.class_texts.Goals as goal
+use Rattle.dj_early_rules.specs.Gathered.{IsClassText}
+use Rattle.dj_early_rules.proofs.HeadLaws.{one_more_of, all_of}
+use Rattle.dj_early_rules.proofs.heads.class_texts.Goals as goal
 
 pub loop-index-preserved : goal.loop-index-preserved
 loop-index-preserved c =

@@ -1,6 +1,6 @@
 use Rattle.std.proofs.Common.{take}
-use Rattle.dj_check.specs.Gathered.{AreClassTexts}
-use Rattle.dj_check.proofs.heads.class_texts.Given as goal
+use Rattle.dj_early_rules.specs.Gathered.{AreClassTexts}
+use Rattle.dj_early_rules.proofs.heads.class_texts.Given as goal
 
 -- those of the indexes so far
 abbrev pub invariant-loop-index : goal.invariant-loop-index

@@ -1,8 +1,8 @@
 use Rattle.std.proofs.Common.{List, ℕ, subst}
 use Rattle.dj_edge.proofs.Lists.{ok_so}
-use Rattle.dj_check.specs.Gathered.{texts_of, AreClassTexts, AreTextsAt}
-use Rattle.dj_check.proofs.HeadLaws.{interfaces_are}
-use Rattle.dj_check.proofs.heads.interface_names.Goals as goal
+use Rattle.dj_early_rules.specs.Gathered.{texts_of, AreClassTexts, AreTextsAt}
+use Rattle.dj_early_rules.proofs.HeadLaws.{interfaces_are}
+use Rattle.dj_early_rules.proofs.heads.interface_names.Goals as goal
 
 pub returns : goal.returns
 returns c =

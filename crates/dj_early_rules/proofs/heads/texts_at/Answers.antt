@@ -1,6 +1,6 @@
-use Rattle.dj_check.specs.Gathered.{texts_of, HasText}
-use Rattle.dj_check.proofs.HeadLaws.{one_more_of, all_of}
-use Rattle.dj_check.proofs.heads.texts_at.Goals as goal
+use Rattle.dj_early_rules.specs.Gathered.{texts_of, HasText}
+use Rattle.dj_early_rules.proofs.HeadLaws.{one_more_of, all_of}
+use Rattle.dj_early_rules.proofs.heads.texts_at.Goals as goal
 
 pub loop-index-preserved : goal.loop-index-preserved
 loop-index-preserved c =

@@ -2,10 +2,10 @@ use Rattle.std.proofs.Common.{Bool, List, map, length, subst}
 use Rattle.std.proofs.lemmas.List.{length-map}
 use Rattle.dj_report.specs.Lines.{Adds}
 use Rattle.dj_report.proofs.Adding.{on_ok}
-use Rattle.dj_hierarchy.specs.Views.{head_view}
-use Rattle.dj_check.specs.Kept.{IsMarkedLine}
-use Rattle.dj_check.proofs.HierarchyLaws.{owners_lines}
-use Rattle.dj_check.proofs.hierarchy.add_hierarchy_lines.Goals as goal
+use Rattle.dj_hierarchy_rule.specs.Views.{head_view}
+use Rattle.dj_early_rules.specs.Kept.{IsMarkedLine}
+use Rattle.dj_early_rules.proofs.HierarchyLaws.{owners_lines}
+use Rattle.dj_early_rules.proofs.hierarchy.add_hierarchy_lines.Goals as goal
 
 pub returns : goal.returns
 returns c =

@@ -1,7 +1,7 @@
 use Rattle.std.proofs.Common.{◌≡◌, ◌⊎◌, IsTrue}
 use Rattle.dj_report.specs.trusted.Lines.{file_line}
 use Rattle.dj_report.proofs.Adding.{on_ok, adds_same}
-use Rattle.dj_check.proofs.hierarchy.add_marked_line.Goals as goal
+use Rattle.dj_early_rules.proofs.hierarchy.add_marked_line.Goals as goal
 
 pub returns : goal.returns
 returns c =

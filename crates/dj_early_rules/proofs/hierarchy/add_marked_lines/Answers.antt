@@ -1,8 +1,8 @@
 use Rattle.std.proofs.Common.{◌≡◌, ℕ, length, arith, subst}
 use Rattle.dj_report.specs.Lines.{Adds}
-use Rattle.dj_check.specs.Kept.{IsMarkedLine}
-use Rattle.dj_check.proofs.HierarchyLaws.{marked_more}
-use Rattle.dj_check.proofs.hierarchy.add_marked_lines.Goals as goal
+use Rattle.dj_early_rules.specs.Kept.{IsMarkedLine}
+use Rattle.dj_early_rules.proofs.HierarchyLaws.{marked_more}
+use Rattle.dj_early_rules.proofs.hierarchy.add_marked_lines.Goals as goal
 
 pub loop-place-preserved : goal.loop-place-preserved
 loop-place-preserved c =

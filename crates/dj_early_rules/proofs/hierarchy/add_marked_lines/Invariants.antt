@@ -1,6 +1,6 @@
 use Rattle.dj_report.specs.Lines.{Adds}
-use Rattle.dj_check.specs.Kept.{IsMarkedLine}
-use Rattle.dj_check.proofs.hierarchy.add_marked_lines.Given as goal
+use Rattle.dj_early_rules.specs.Kept.{IsMarkedLine}
+use Rattle.dj_early_rules.proofs.hierarchy.add_marked_lines.Given as goal
 
 -- the lines of the files so far
 abbrev pub invariant-loop-place : goal.invariant-loop-place

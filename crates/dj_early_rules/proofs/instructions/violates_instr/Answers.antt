@@ -2,9 +2,9 @@ use Rattle.std.proofs.Common.{ℕ, ◌⊎◌, List, refl, inl, inr}
 use Rattle.dj_ops.specs.declared.instruction.Instr.{Instr}
 use Rattle.dj_pool.specs.trusted.Pool.{Constant}
 use Rattle.dj_report.proofs.Adding.{not_both}
-use Rattle.dj_check.specs.trusted.Instructions.{IsDynamic, IsReflection, IsFloat, IsSubroutine, IsBreakpoint, IsMultiArray}
-use Rattle.dj_check.specs.trusted.Methods.{InstrViolates}
-use Rattle.dj_check.proofs.instructions.violates_instr.Goals as goal
+use Rattle.dj_early_rules.specs.trusted.Instructions.{IsDynamic, IsReflection, IsFloat, IsSubroutine, IsBreakpoint, IsMultiArray}
+use Rattle.dj_early_rules.specs.trusted.Methods.{InstrViolates}
+use Rattle.dj_early_rules.proofs.instructions.violates_instr.Goals as goal
 
 abbrev OfConstants : List Constant → Instr → Type 0
 OfConstants pool instr = IsDynamic pool instr ⊎ (IsReflection pool instr ⊎ IsFloat pool instr)

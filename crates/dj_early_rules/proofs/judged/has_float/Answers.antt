@@ -1,8 +1,8 @@
 use Rattle.std.proofs.Common.{sym, ◌∙◌}
 use Rattle.dj_report.proofs.Adding.{not_both}
-use Rattle.dj_check.proofs.FloatLetters.{no_letter}
-use Rattle.dj_check.proofs.Judging.{reported_float, no_float}
-use Rattle.dj_check.proofs.judged.has_float.Goals as goal
+use Rattle.dj_early_rules.proofs.FloatLetters.{no_letter}
+use Rattle.dj_early_rules.proofs.Judging.{reported_float, no_float}
+use Rattle.dj_early_rules.proofs.judged.has_float.Goals as goal
 
 pub returns-then-not-may_have_float : goal.returns-then-not-may_have_float
 returns-then-not-may_have_float c = no_float c.args.text.now (λ begins. not_both c.may_have_float.result (c.may_have_float.ensures.1 begins) c.if-not-may_have_float.true)

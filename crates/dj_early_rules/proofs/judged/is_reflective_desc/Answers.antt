@@ -2,8 +2,8 @@ use Rattle.std.proofs.Common.{◌∙◌, Err, subst}
 use Rattle.dj_names.specs.declared.descriptor.Desc.TheVariants as descs
 use Rattle.dj_names.specs.trusted.Descriptors.{Describes}
 use Rattle.dj_names.proofs.DescLaws.{described_once}
-use Rattle.dj_check.proofs.Stands.{reflective_array, reflective_none, field_no_method}
-use Rattle.dj_check.proofs.judged.is_reflective_desc.Goals as goal
+use Rattle.dj_early_rules.proofs.Stands.{reflective_array, reflective_none, field_no_method}
+use Rattle.dj_early_rules.proofs.judged.is_reflective_desc.Goals as goal
 
 pub returns-in-Ok-Field : goal.returns-in-Ok-Field
 returns-in-Ok-Field c =

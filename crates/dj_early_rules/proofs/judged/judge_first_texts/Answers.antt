@@ -1,8 +1,8 @@
 use Rattle.std.proofs.Common.{arith}
 use Rattle.std.proofs.lemmas.Option.{slice_get-get_or}
 use Rattle.dj_class.specs.Views.{class_of}
-use Rattle.dj_check.proofs.Judging.{one_text_more, all_texts, all_numbered}
-use Rattle.dj_check.proofs.judged.judge_first_texts.Goals as goal
+use Rattle.dj_early_rules.proofs.Judging.{one_text_more, all_texts, all_numbered}
+use Rattle.dj_early_rules.proofs.judged.judge_first_texts.Goals as goal
 
 pub loop-index-preserved : goal.loop-index-preserved
 loop-index-preserved c =

@@ -1,5 +1,5 @@
-use Rattle.dj_check.specs.Judged.{AreFirstTexts}
-use Rattle.dj_check.proofs.judged.judge_first_texts.Given as goal
+use Rattle.dj_early_rules.specs.Judged.{AreFirstTexts}
+use Rattle.dj_early_rules.proofs.judged.judge_first_texts.Given as goal
 
 -- the texts so far
 abbrev pub invariant-loop-index : goal.invariant-loop-index

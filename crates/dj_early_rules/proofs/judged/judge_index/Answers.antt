@@ -1,7 +1,7 @@
 use Rattle.std.proofs.lemmas.Result.{IfOk-weaker}
 use Rattle.dj_pool.specs.trusted.Pool.{text_at}
-use Rattle.dj_check.proofs.Noted.{copied_some, judged_some}
-use Rattle.dj_check.proofs.judged.judge_index.Goals as goal
+use Rattle.dj_early_rules.proofs.Noted.{copied_some, judged_some}
+use Rattle.dj_early_rules.proofs.judged.judge_index.Goals as goal
 
 pub returns-in-Some : goal.returns-in-Some
 returns-in-Some c =

@@ -1,7 +1,7 @@
 use Rattle.std.proofs.Common.{◌≡◌, ℕ, subst, arith}
-use Rattle.dj_check.specs.Judged.{AreOwnTexts}
-use Rattle.dj_check.proofs.OwnTexts.{one_own_more}
-use Rattle.dj_check.proofs.judged.judge_own_texts.Goals as goal
+use Rattle.dj_early_rules.specs.Judged.{AreOwnTexts}
+use Rattle.dj_early_rules.proofs.OwnTexts.{one_own_more}
+use Rattle.dj_early_rules.proofs.judged.judge_own_texts.Goals as goal
 
 pub loop-index-preserved : goal.loop-index-preserved
 loop-index-preserved c = one_own_more c.args.pool.now c.loop-index.texts.items c.push.new.self.items c.loop-index.index _ c.in_ok-push.ensures.items c.in_ok-judge_own.ensures c.loop-index.invariant

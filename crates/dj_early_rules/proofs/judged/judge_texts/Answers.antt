@@ -1,10 +1,10 @@
 use Rattle.std.proofs.Common.{◌≡◌, ℕ, length, List, Bool, subst, arith}
 use Rattle.std.proofs.lemmas.Result.{IfOk-weaker}
 use Rattle.dj_class.specs.Views.{class_of}
-use Rattle.dj_check.specs.Judged.{AreOwnTexts}
-use Rattle.dj_check.specs.Prints.{AreDistinct}
-use Rattle.dj_check.proofs.OwnTexts.{own_texts, own_numbered}
-use Rattle.dj_check.proofs.judged.judge_texts.Goals as goal
+use Rattle.dj_early_rules.specs.Judged.{AreOwnTexts}
+use Rattle.dj_early_rules.specs.Prints.{AreDistinct}
+use Rattle.dj_early_rules.proofs.OwnTexts.{own_texts, own_numbered}
+use Rattle.dj_early_rules.proofs.judged.judge_texts.Goals as goal
 
 pub returns-then-branch-clause-texts : goal.returns-then-branch-clause-texts
 returns-then-branch-clause-texts c =

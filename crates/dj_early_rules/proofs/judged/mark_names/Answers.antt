@@ -1,6 +1,6 @@
 use Rattle.dj_class.specs.Members.{member_of}
-use Rattle.dj_check.proofs.MarkedNames.{stay_same, stay_both, member_marked, none_marked, more_marked, all_marked}
-use Rattle.dj_check.proofs.judged.mark_names.Goals as goal
+use Rattle.dj_early_rules.proofs.MarkedNames.{stay_same, stay_both, member_marked, none_marked, more_marked, all_marked}
+use Rattle.dj_early_rules.proofs.judged.mark_names.Goals as goal
 
 pub loop-member-init : goal.loop-member-init
 loop-member-init c = record { stay = stay_same c.args.marks.now; own = none_marked c.args.members.now c.args.marks.now }

@@ -1,8 +1,8 @@
 use Rattle.std.proofs.Common.{take, Contains}
 use Rattle.dj_class.specs.declared.class.MemberView.{MemberView}
 use Rattle.dj_class.specs.Members.{member_of}
-use Rattle.dj_check.specs.Judged.{StayMarked, AreNamesMarked}
-use Rattle.dj_check.proofs.judged.mark_names.Given as goal
+use Rattle.dj_early_rules.specs.Judged.{StayMarked, AreNamesMarked}
+use Rattle.dj_early_rules.proofs.judged.mark_names.Given as goal
 
 -- marks stay, and the names of the members so far are marked
 abbrev pub invariant-loop-member : goal.invariant-loop-member

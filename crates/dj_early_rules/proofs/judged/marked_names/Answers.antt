@@ -3,9 +3,9 @@ use Rattle.std.proofs.lemmas.List.{length-map}
 use Rattle.dj_pool.specs.Views.{constant_of}
 use Rattle.dj_class.specs.trusted.ClassFile.{MemberInfo}
 use Rattle.dj_class.specs.Views.{class_of}
-use Rattle.dj_check.specs.Judged.{StayMarked, AreNamesMarked, AreMembersMarked}
-use Rattle.dj_check.proofs.MarkedNames.{written, members_marked}
-use Rattle.dj_check.proofs.judged.marked_names.Goals as goal
+use Rattle.dj_early_rules.specs.Judged.{StayMarked, AreNamesMarked, AreMembersMarked}
+use Rattle.dj_early_rules.proofs.MarkedNames.{written, members_marked}
+use Rattle.dj_early_rules.proofs.judged.marked_names.Goals as goal
 
 pub returns : goal.returns
 returns c =

@@ -1,6 +1,6 @@
 use Rattle.std.proofs.Common.{sym, ◌∙◌}
-use Rattle.dj_check.proofs.Noted.{bor, noted_first, noted_again}
-use Rattle.dj_check.proofs.judged.note_text.Goals as goal
+use Rattle.dj_early_rules.proofs.Noted.{bor, noted_first, noted_again}
+use Rattle.dj_early_rules.proofs.judged.note_text.Goals as goal
 
 pub returns-in-None : goal.returns-in-None
 returns-in-None c =

@@ -1,11 +1,11 @@
 use Rattle.std.proofs.Common.{length, refl, sym, ap, arith}
 use Rattle.std.proofs.lemmas.Option.{slice_get_read, slice_get_past}
 use Rattle.dj_pool.specs.trusted.Pool.{text_at}
-use Rattle.dj_check.specs.trusted.Floats.{HasFloat}
-use Rattle.dj_check.specs.trusted.Classes.{IsReflectiveText}
-use Rattle.dj_check.specs.Judged.{first_of}
-use Rattle.dj_check.proofs.Judging.{past_texts, not_reported}
-use Rattle.dj_check.proofs.judged.text_in.Goals as goal
+use Rattle.dj_early_rules.specs.trusted.Floats.{HasFloat}
+use Rattle.dj_early_rules.specs.trusted.Classes.{IsReflectiveText}
+use Rattle.dj_early_rules.specs.Judged.{first_of}
+use Rattle.dj_early_rules.proofs.Judging.{past_texts, not_reported}
+use Rattle.dj_early_rules.proofs.judged.text_in.Goals as goal
 
 pub returns-in-Some-clause-means : goal.returns-in-Some-clause-means
 returns-in-Some-clause-means c =

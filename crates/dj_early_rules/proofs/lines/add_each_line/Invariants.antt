@@ -1,7 +1,7 @@
 use Rattle.std.proofs.Common.{take}
 use Rattle.dj_report.specs.Lines.{Adds, IsLineAmong}
-use Rattle.dj_check.specs.Marks.{IsMarkLine}
-use Rattle.dj_check.proofs.lines.add_each_line.Given as goal
+use Rattle.dj_early_rules.specs.Marks.{IsMarkLine}
+use Rattle.dj_early_rules.proofs.lines.add_each_line.Given as goal
 
 -- the lines of the marks so far
 abbrev pub invariant-loop-mark : goal.invariant-loop-mark

@@ -2,7 +2,7 @@ use Rattle.std.proofs.Common.{◌≡◌}
 use Rattle.std.specs.Prelude.{IsTrue}
 use Rattle.dj_report.specs.trusted.Lines.{file_line}
 use Rattle.dj_report.proofs.Adding.{adds_when}
-use Rattle.dj_check.proofs.lines.add_file_line_if.Goals as goal
+use Rattle.dj_early_rules.proofs.lines.add_file_line_if.Goals as goal
 
 pub returns-in_ok-add_file_line : goal.returns-in_ok-add_file_line
 returns-in_ok-add_file_line c =

@@ -1,9 +1,9 @@
 use Rattle.std.proofs.Common.{◌≡◌, subst, ◌∙◌}
 use Rattle.dj_report.specs.declared.report.Violation.{Violation}
 use Rattle.dj_report.specs.Lines.{Adds}
-use Rattle.dj_rules.specs.Lines.{pair_text}
-use Rattle.dj_check.specs.trusted.Rules.{line_at}
-use Rattle.dj_check.proofs.lines.add_mark_line.Goals as goal
+use Rattle.dj_file_rules.specs.Lines.{pair_text}
+use Rattle.dj_early_rules.specs.trusted.Rules.{line_at}
+use Rattle.dj_early_rules.proofs.lines.add_mark_line.Goals as goal
 
 pub returns : goal.returns
 returns c =

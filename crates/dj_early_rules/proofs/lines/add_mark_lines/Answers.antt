@@ -1,9 +1,9 @@
 use Rattle.std.proofs.Common.{List, subst}
 use Rattle.dj_report.specs.Lines.{Adds, IsLineAmong}
 use Rattle.dj_report.proofs.Adding.{on_ok, adds_same}
-use Rattle.dj_check.specs.declared.marks.Mark.{Mark}
-use Rattle.dj_check.specs.Marks.{IsMarkLine}
-use Rattle.dj_check.proofs.lines.add_mark_lines.Goals as goal
+use Rattle.dj_early_rules.specs.declared.marks.Mark.{Mark}
+use Rattle.dj_early_rules.specs.Marks.{IsMarkLine}
+use Rattle.dj_early_rules.proofs.lines.add_mark_lines.Goals as goal
 
 pub returns : goal.returns
 returns c =

@@ -2,9 +2,9 @@ use Rattle.std.proofs.Common.{◌≡◌, List, sym, ap, ◌∙◌, subst, ◌++�
 use Rattle.dj_ops.specs.declared.frames.VType.{VType}
 use Rattle.dj_frames.specs.trusted.StackMaps.{types_of}
 use Rattle.dj_report.proofs.Adding.{not_both}
-use Rattle.dj_check.specs.trusted.Code.{HaveFloats}
-use Rattle.dj_check.proofs.MapLaws.{floats_of_both}
-use Rattle.dj_check.proofs.maps.has_float_type.Goals as goal
+use Rattle.dj_early_rules.specs.trusted.Code.{HaveFloats}
+use Rattle.dj_early_rules.proofs.MapLaws.{floats_of_both}
+use Rattle.dj_early_rules.proofs.maps.has_float_type.Goals as goal
 
 pub returns-else-have_floats : goal.returns-else-have_floats
 returns-else-have_floats c =

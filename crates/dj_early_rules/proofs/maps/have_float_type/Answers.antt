@@ -1,8 +1,8 @@
 use Rattle.std.proofs.Common.{subst, sym}
 use Rattle.dj_report.proofs.Adding.{not_both}
-use Rattle.dj_check.specs.trusted.Code.{HasFloatType}
-use Rattle.dj_check.proofs.Anys.{none_more, none_at_all}
-use Rattle.dj_check.proofs.maps.have_float_type.Goals as goal
+use Rattle.dj_early_rules.specs.trusted.Code.{HasFloatType}
+use Rattle.dj_early_rules.proofs.Anys.{none_more, none_at_all}
+use Rattle.dj_early_rules.proofs.maps.have_float_type.Goals as goal
 
 pub loop-frame-preserved : goal.loop-frame-preserved
 loop-frame-preserved c =

@@ -3,10 +3,10 @@ use Rattle.dj_class.specs.Members.{member_of}
 use Rattle.dj_class.specs.Views.{class_of}
 use Rattle.dj_report.specs.Lines.{Gains}
 use Rattle.dj_report.proofs.Adding.{on_ok}
-use Rattle.dj_check.specs.trusted.Methods.{MethodViolates}
-use Rattle.dj_check.specs.Marks.{MarksOf}
-use Rattle.dj_check.proofs.MethodLaws.{bodiless_marks}
-use Rattle.dj_check.proofs.methods.add_bodiless_marks.Goals as goal
+use Rattle.dj_early_rules.specs.trusted.Methods.{MethodViolates}
+use Rattle.dj_early_rules.specs.Marks.{MarksOf}
+use Rattle.dj_early_rules.proofs.MethodLaws.{bodiless_marks}
+use Rattle.dj_early_rules.proofs.methods.add_bodiless_marks.Goals as goal
 
 pub returns : goal.returns
 returns c =

@@ -5,10 +5,10 @@ use Rattle.dj_class.specs.Members.{member_of}
 use Rattle.dj_class.specs.Views.{class_of}
 use Rattle.dj_report.specs.Lines.{Gains}
 use Rattle.dj_report.proofs.Adding.{IsAmong, adds_read}
-use Rattle.dj_check.specs.trusted.Rules.{FieldViolates}
-use Rattle.dj_check.specs.Marks.{MarksOf, names_in}
-use Rattle.dj_check.proofs.MarkLaws.{marks_seen}
-use Rattle.dj_check.proofs.methods.add_field_marks.Goals as goal
+use Rattle.dj_early_rules.specs.trusted.Rules.{FieldViolates}
+use Rattle.dj_early_rules.specs.Marks.{MarksOf, names_in}
+use Rattle.dj_early_rules.proofs.MarkLaws.{marks_seen}
+use Rattle.dj_early_rules.proofs.methods.add_field_marks.Goals as goal
 
 pub loop-field-preserved : goal.loop-field-preserved
 loop-field-preserved c =

@@ -3,9 +3,9 @@ use Rattle.dj_class.specs.Members.{member_of}
 use Rattle.dj_class.specs.Views.{class_of}
 use Rattle.dj_report.specs.Lines.{Gains}
 use Rattle.dj_report.proofs.Adding.{IsAmong}
-use Rattle.dj_check.specs.trusted.Rules.{FieldViolates}
-use Rattle.dj_check.specs.Marks.{MarksOf, names_in}
-use Rattle.dj_check.proofs.methods.add_field_marks.Given as goal
+use Rattle.dj_early_rules.specs.trusted.Rules.{FieldViolates}
+use Rattle.dj_early_rules.specs.Marks.{MarksOf, names_in}
+use Rattle.dj_early_rules.proofs.methods.add_field_marks.Given as goal
 
 -- the marks of the fields so far
 abbrev pub invariant-loop-field : goal.invariant-loop-field

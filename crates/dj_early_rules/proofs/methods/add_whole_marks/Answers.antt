@@ -1,6 +1,6 @@
 use Rattle.dj_report.proofs.Adding.{on_ok}
-use Rattle.dj_check.proofs.MethodLaws.{whole_marks}
-use Rattle.dj_check.proofs.methods.add_whole_marks.Goals as goal
+use Rattle.dj_early_rules.proofs.MethodLaws.{whole_marks}
+use Rattle.dj_early_rules.proofs.methods.add_whole_marks.Goals as goal
 
 pub returns : goal.returns
 returns c =

@@ -3,8 +3,8 @@ use Rattle.std.proofs.lemmas.List.{take_all}
 use Rattle.dj_labels.specs.declared.labelled.Protected.{Protected}
 use Rattle.dj_report.specs.Lines.{Gains}
 use Rattle.dj_report.proofs.Adding.{adds_one_more}
-use Rattle.dj_check.specs.Marks.{MarksOf, RangeViolates, IsAmongRanges}
-use Rattle.dj_check.proofs.passes.add_all_handler_marks.Goals as goal
+use Rattle.dj_early_rules.specs.Marks.{MarksOf, RangeViolates, IsAmongRanges}
+use Rattle.dj_early_rules.proofs.passes.add_all_handler_marks.Goals as goal
 
 pub loop-range-preserved : goal.loop-range-preserved
 loop-range-preserved c =

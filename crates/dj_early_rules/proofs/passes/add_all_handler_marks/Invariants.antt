@@ -1,7 +1,7 @@
 use Rattle.std.proofs.Common.{take}
 use Rattle.dj_report.specs.Lines.{Gains}
-use Rattle.dj_check.specs.Marks.{IsAmongRanges}
-use Rattle.dj_check.proofs.passes.add_all_handler_marks.Given as goal
+use Rattle.dj_early_rules.specs.Marks.{IsAmongRanges}
+use Rattle.dj_early_rules.proofs.passes.add_all_handler_marks.Given as goal
 
 -- the marks of the handlers so far
 abbrev pub invariant-loop-range : goal.invariant-loop-range

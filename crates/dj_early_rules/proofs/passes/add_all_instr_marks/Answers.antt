@@ -1,9 +1,9 @@
 use Rattle.std.proofs.Common.{◌≡◌, ℕ, length, refl, arith, subst}
 use Rattle.std.proofs.lemmas.Option.{slice_get_read}
 use Rattle.dj_report.specs.Lines.{Gains}
-use Rattle.dj_check.specs.Marks.{MarksOf, ViolatesBelow}
-use Rattle.dj_check.proofs.MarkLaws.{more_below}
-use Rattle.dj_check.proofs.passes.add_all_instr_marks.Goals as goal
+use Rattle.dj_early_rules.specs.Marks.{MarksOf, ViolatesBelow}
+use Rattle.dj_early_rules.proofs.MarkLaws.{more_below}
+use Rattle.dj_early_rules.proofs.passes.add_all_instr_marks.Goals as goal
 
 pub loop-at-preserved : goal.loop-at-preserved
 loop-at-preserved c =

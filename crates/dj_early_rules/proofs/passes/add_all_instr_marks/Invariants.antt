@@ -1,6 +1,6 @@
 use Rattle.dj_report.specs.Lines.{Gains}
-use Rattle.dj_check.specs.Marks.{MarksOf, ViolatesBelow}
-use Rattle.dj_check.proofs.passes.add_all_instr_marks.Given as goal
+use Rattle.dj_early_rules.specs.Marks.{MarksOf, ViolatesBelow}
+use Rattle.dj_early_rules.proofs.passes.add_all_instr_marks.Given as goal
 
 -- the marks of the instructions so far
 abbrev pub invariant-loop-at : goal.invariant-loop-at

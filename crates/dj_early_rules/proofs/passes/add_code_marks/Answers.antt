@@ -3,9 +3,9 @@ use Rattle.dj_ops.specs.declared.instruction.Instr.{Instr}
 use Rattle.dj_labels.specs.declared.labelled.Protected.{Protected}
 use Rattle.dj_report.specs.Lines.{Gains}
 use Rattle.dj_report.proofs.Adding.{on_ok}
-use Rattle.dj_check.specs.Marks.{MarksOf, ViolatesBelow, IsAmongRanges}
-use Rattle.dj_check.proofs.MarkLaws.{code_marks}
-use Rattle.dj_check.proofs.passes.add_code_marks.Goals as goal
+use Rattle.dj_early_rules.specs.Marks.{MarksOf, ViolatesBelow, IsAmongRanges}
+use Rattle.dj_early_rules.proofs.MarkLaws.{code_marks}
+use Rattle.dj_early_rules.proofs.passes.add_code_marks.Goals as goal
 
 pub returns : goal.returns
 returns c =

@@ -1,6 +1,6 @@
 use Rattle.dj_report.proofs.Adding.{on_ok}
-use Rattle.dj_check.proofs.MarkLaws.{handler_mark}
-use Rattle.dj_check.proofs.passes.add_handler_mark.Goals as goal
+use Rattle.dj_early_rules.proofs.MarkLaws.{handler_mark}
+use Rattle.dj_early_rules.proofs.passes.add_handler_mark.Goals as goal
 
 pub returns : goal.returns
 returns c =

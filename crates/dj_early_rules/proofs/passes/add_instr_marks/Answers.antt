@@ -1,7 +1,7 @@
 use Rattle.dj_report.proofs.Adding.{on_ok}
-use Rattle.dj_check.specs.trusted.Instructions.{IsDynamic, IsReflection, IsFloat, IsSubroutine, IsBreakpoint, IsMultiArray}
-use Rattle.dj_check.proofs.MarkLaws.{at_rule, instr_marks}
-use Rattle.dj_check.proofs.passes.add_instr_marks.Goals as goal
+use Rattle.dj_early_rules.specs.trusted.Instructions.{IsDynamic, IsReflection, IsFloat, IsSubroutine, IsBreakpoint, IsMultiArray}
+use Rattle.dj_early_rules.proofs.MarkLaws.{at_rule, instr_marks}
+use Rattle.dj_early_rules.proofs.passes.add_instr_marks.Goals as goal
 
 pub returns : goal.returns
 returns c =

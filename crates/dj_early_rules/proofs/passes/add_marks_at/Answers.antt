@@ -1,7 +1,7 @@
 use Rattle.std.proofs.Common.{sym, ◌∙◌}
-use Rattle.dj_check.proofs.PlainLaws.{plain_marks, unreported_marks}
-use Rattle.dj_check.proofs.passes.add_marks_at.Goals as goal
-use Rattle.dj_check.proofs.passes.add_marks_at.Goals.{then-is_plain-via-then-is_plain, then-is_plain-via-else-is_plain+then-not-violates_instr}
+use Rattle.dj_early_rules.proofs.PlainLaws.{plain_marks, unreported_marks}
+use Rattle.dj_early_rules.proofs.passes.add_marks_at.Goals as goal
+use Rattle.dj_early_rules.proofs.passes.add_marks_at.Goals.{then-is_plain-via-then-is_plain, then-is_plain-via-else-is_plain+then-not-violates_instr}
 
 pub returns-then-is_plain : goal.returns-then-is_plain
 returns-then-is_plain c = elim c.then-is_plain.branch [

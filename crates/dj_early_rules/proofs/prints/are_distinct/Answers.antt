@@ -1,6 +1,6 @@
 use Rattle.std.proofs.lemmas.Option.{slice_get-get_or}
-use Rattle.dj_check.proofs.PrintLaws.{one_more_noted, all_distinct}
-use Rattle.dj_check.proofs.prints.are_distinct.Goals as goal
+use Rattle.dj_early_rules.proofs.PrintLaws.{one_more_noted, all_distinct}
+use Rattle.dj_early_rules.proofs.prints.are_distinct.Goals as goal
 
 pub loop-index-preserved : goal.loop-index-preserved
 loop-index-preserved c =

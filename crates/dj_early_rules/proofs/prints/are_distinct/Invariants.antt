@@ -1,5 +1,5 @@
-use Rattle.dj_check.specs.Prints.{AreNoted}
-use Rattle.dj_check.proofs.prints.are_distinct.Given as goal
+use Rattle.dj_early_rules.specs.Prints.{AreNoted}
+use Rattle.dj_early_rules.proofs.prints.are_distinct.Given as goal
 
 -- the indexes so far
 abbrev pub invariant-loop-index : goal.invariant-loop-index

@@ -1,6 +1,6 @@
 use Rattle.std.proofs.Common.{◌≡◌, drop}
-use Rattle.dj_check.specs.Prints.{print_of}
-use Rattle.dj_check.proofs.prints.print_of.Given as goal
+use Rattle.dj_early_rules.specs.Prints.{print_of}
+use Rattle.dj_early_rules.proofs.prints.print_of.Given as goal
 
 -- the bytes that are left give the number of the whole text
 abbrev pub invariant-loop-byte : goal.invariant-loop-byte

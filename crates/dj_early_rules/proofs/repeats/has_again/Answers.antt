@@ -1,8 +1,8 @@
 use Rattle.std.proofs.Common.{map, refl, arith}
 use Rattle.dj_class.specs.Members.{member_of}
-use Rattle.dj_check.specs.Gathered.{names_of}
-use Rattle.dj_check.proofs.RepeatLaws.{one_more_seen, seen_again, none_again, names_at, names_length}
-use Rattle.dj_check.proofs.repeats.has_again.Goals as goal
+use Rattle.dj_early_rules.specs.Gathered.{names_of}
+use Rattle.dj_early_rules.proofs.RepeatLaws.{one_more_seen, seen_again, none_again, names_at, names_length}
+use Rattle.dj_early_rules.proofs.repeats.has_again.Goals as goal
 
 pub returns-then-not-new : goal.returns-then-not-new
 returns-then-not-new c = (

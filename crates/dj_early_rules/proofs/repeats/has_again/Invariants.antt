@@ -1,8 +1,8 @@
 use Rattle.std.proofs.Common.{map}
 use Rattle.dj_class.specs.Members.{member_of}
-use Rattle.dj_check.specs.Gathered.{names_of}
-use Rattle.dj_check.proofs.RepeatLaws.{AreSeen}
-use Rattle.dj_check.proofs.repeats.has_again.Given as goal
+use Rattle.dj_early_rules.specs.Gathered.{names_of}
+use Rattle.dj_early_rules.proofs.RepeatLaws.{AreSeen}
+use Rattle.dj_early_rules.proofs.repeats.has_again.Given as goal
 
 -- the names so far, no two of which are the same
 abbrev pub invariant-loop-member : goal.invariant-loop-member

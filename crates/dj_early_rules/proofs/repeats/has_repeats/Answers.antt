@@ -5,10 +5,10 @@ use Rattle.dj_names.specs.trusted.Descriptors.{IsFieldDescriptor, IsMethodDescri
 use Rattle.dj_class.specs.trusted.ClassFile.{MemberInfo}
 use Rattle.dj_class.specs.Members.{member_of}
 use Rattle.dj_class.specs.Views.{class_of}
-use Rattle.dj_check.specs.trusted.Heads.{AreRepeated}
-use Rattle.dj_check.specs.Gathered.{names_of, HasAgain}
-use Rattle.dj_check.proofs.RepeatLaws.{again_repeated, first_repeats, other_repeats}
-use Rattle.dj_check.proofs.repeats.has_repeats.Goals as goal
+use Rattle.dj_early_rules.specs.trusted.Heads.{AreRepeated}
+use Rattle.dj_early_rules.specs.Gathered.{names_of, HasAgain}
+use Rattle.dj_early_rules.proofs.RepeatLaws.{again_repeated, first_repeats, other_repeats}
+use Rattle.dj_early_rules.proofs.repeats.has_repeats.Goals as goal
 
 pub returns-then-fields : goal.returns-then-fields
 returns-then-fields c =

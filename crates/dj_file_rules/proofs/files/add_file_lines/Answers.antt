@@ -1,10 +1,10 @@
 use Rattle.std.proofs.Common.{subst}
 use Rattle.dj_class.specs.Views.{class_of}
 use Rattle.dj_report.proofs.Adding.{on_ok}
-use Rattle.dj_rules.specs.Reads.{IsViewOf}
-use Rattle.dj_rules.proofs.FileLines.{adds_class_file, adds_no_class_file}
-use Rattle.dj_rules.proofs.Faulty.{short_name}
-use Rattle.dj_rules.proofs.files.add_file_lines.Goals as goal
+use Rattle.dj_file_rules.specs.Reads.{IsViewOf}
+use Rattle.dj_file_rules.proofs.FileLines.{adds_class_file, adds_no_class_file}
+use Rattle.dj_file_rules.proofs.Faulty.{short_name}
+use Rattle.dj_file_rules.proofs.files.add_file_lines.Goals as goal
 
 pub add_class_lines-requires : goal.add_class_lines-requires
 add_class_lines-requires c =

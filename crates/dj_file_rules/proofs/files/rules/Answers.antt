@@ -2,8 +2,8 @@ use Rattle.std.proofs.Common.{[], List, take, sym, subst}
 use Rattle.dj_report.specs.declared.report.Violation.{Violation}
 use Rattle.dj_report.specs.Lines.{Adds, IsLineAmong}
 use Rattle.dj_report.proofs.Adding.{adds_none_yet, adds_one_more}
-use Rattle.dj_rules.proofs.FileLines.{IsOwnFileLine, all_lines}
-use Rattle.dj_rules.proofs.files.rules.Goals as goal
+use Rattle.dj_file_rules.proofs.FileLines.{IsOwnFileLine, all_lines}
+use Rattle.dj_file_rules.proofs.files.rules.Goals as goal
 
 pub loop-file-init : goal.loop-file-init
 loop-file-init c =

@@ -1,8 +1,8 @@
 use Rattle.std.proofs.Common.{List, subst}
 use Rattle.dj_report.specs.declared.report.Violation.{Violation}
 use Rattle.dj_report.specs.Lines.{Adds}
-use Rattle.dj_rules.proofs.FileLines.{IsOwnFileLine, one_file_lines}
-use Rattle.dj_rules.proofs.judge.judge_one.Goals as goal
+use Rattle.dj_file_rules.proofs.FileLines.{IsOwnFileLine, one_file_lines}
+use Rattle.dj_file_rules.proofs.judge.judge_one.Goals as goal
 
 pub returns : goal.returns
 returns c = record {

@@ -2,8 +2,8 @@ use Rattle.std.proofs.Common.{◌≡◌, None, subst, ◌∙◌}
 use Rattle.dj_report.specs.declared.report.Violation.{Violation}
 use Rattle.dj_report.specs.trusted.Lines.{member_line}
 use Rattle.dj_report.specs.Lines.{Adds}
-use Rattle.dj_rules.specs.Lines.{pair_text}
-use Rattle.dj_rules.proofs.lines.add_member_line.Goals as goal
+use Rattle.dj_file_rules.specs.Lines.{pair_text}
+use Rattle.dj_file_rules.proofs.lines.add_member_line.Goals as goal
 
 pub returns : goal.returns
 returns c =

@@ -1,9 +1,9 @@
 use Rattle.std.proofs.Common.{subst}
 use Rattle.std.proofs.lemmas.List.{take_all}
 use Rattle.dj_report.specs.Lines.{Adds, IsLineAmong}
-use Rattle.dj_rules.specs.Lines.{IsPairLine}
+use Rattle.dj_file_rules.specs.Lines.{IsPairLine}
 use Rattle.dj_report.proofs.Adding.{adds_one_more}
-use Rattle.dj_rules.proofs.members.add_each_line.Goals as goal
+use Rattle.dj_file_rules.proofs.members.add_each_line.Goals as goal
 
 pub loop-pair-preserved : goal.loop-pair-preserved
 loop-pair-preserved c =

@@ -3,10 +3,10 @@ use Rattle.std.proofs.lemmas.List.{take_all}
 use Rattle.dj_class.specs.declared.class.MemberView.{MemberView}
 use Rattle.dj_class.specs.Views.{class_of}
 use Rattle.dj_report.specs.Lines.{Gains}
-use Rattle.dj_rules.specs.trusted.Violations.{IsFinalizer}
+use Rattle.dj_file_rules.specs.trusted.Violations.{IsFinalizer}
 use Rattle.dj_report.proofs.Adding.{IsAmong, adds_read, on_ok}
-use Rattle.dj_rules.proofs.FileLines.{IsOwnPair, adds_method_lines}
-use Rattle.dj_rules.proofs.members.add_finalizer_lines.Goals as goal
+use Rattle.dj_file_rules.proofs.FileLines.{IsOwnPair, adds_method_lines}
+use Rattle.dj_file_rules.proofs.members.add_finalizer_lines.Goals as goal
 
 pub loop-method-preserved : goal.loop-method-preserved
 loop-method-preserved c =

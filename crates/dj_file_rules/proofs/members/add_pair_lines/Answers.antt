@@ -1,9 +1,9 @@
 use Rattle.std.proofs.Common.{ℕ, List, subst}
 use Rattle.dj_report.specs.Lines.{Adds, IsLineAmong}
 use Rattle.dj_report.proofs.Adding.{on_ok}
-use Rattle.dj_rules.specs.Lines.{IsPairLine}
-use Rattle.dj_rules.proofs.PairTexts.{adds_same_texts}
-use Rattle.dj_rules.proofs.members.add_pair_lines.Goals as goal
+use Rattle.dj_file_rules.specs.Lines.{IsPairLine}
+use Rattle.dj_file_rules.proofs.PairTexts.{adds_same_texts}
+use Rattle.dj_file_rules.proofs.members.add_pair_lines.Goals as goal
 
 pub returns : goal.returns
 returns c =

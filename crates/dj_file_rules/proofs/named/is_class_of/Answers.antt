@@ -1,8 +1,8 @@
 use Rattle.std.proofs.Common.{Some, codes}
 use Rattle.std.proofs.lemmas.Bool.Decides.{Decides-eqb}
 use Rattle.std.proofs.lemmas.Slice.Eq.{strip_suffix_is}
-use Rattle.dj_rules.proofs.Naming.{cut_is}
-use Rattle.dj_rules.proofs.named.is_class_of.Goals as goal
+use Rattle.dj_file_rules.proofs.Naming.{cut_is}
+use Rattle.dj_file_rules.proofs.named.is_class_of.Goals as goal
 
 pub returns-in-Some : goal.returns-in-Some
 returns-in-Some c =

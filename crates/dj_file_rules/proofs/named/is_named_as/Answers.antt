@@ -1,7 +1,7 @@
 use Rattle.std.proofs.Common.{ℕ, List, subst, sym, ◌∙◌}
 use Rattle.dj_names.specs.trusted.ModifiedUtf8.{SpellsUnits}
-use Rattle.dj_rules.proofs.Naming.{named_by, broken_names_none}
-use Rattle.dj_rules.proofs.named.is_named_as.Goals as goal
+use Rattle.dj_file_rules.proofs.Naming.{named_by, broken_names_none}
+use Rattle.dj_file_rules.proofs.named.is_named_as.Goals as goal
 
 pub returns-in_ok-all-in-Ok : goal.returns-in_ok-all-in-Ok
 returns-in_ok-all-in-Ok c =

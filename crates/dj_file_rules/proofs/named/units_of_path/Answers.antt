@@ -2,7 +2,7 @@ use Rattle.std.proofs.Common.{flat_map, sym, ap, ◌∙◌, map-id}
 use Rattle.std.proofs.lemmas.Iterator.{YieldsList-from_chars}
 use Rattle.std.proofs.lemmas.Iterator.Consumers.{YieldsList-end}
 use Rattle.std.specs.Char.Escape.{encode_utf16}
-use Rattle.dj_rules.proofs.named.units_of_path.Goals as goal
+use Rattle.dj_file_rules.proofs.named.units_of_path.Goals as goal
 
 pub returns : goal.returns
 returns c =

@@ -1,7 +1,7 @@
 use Rattle.std.proofs.Common.{ℕ, ◌≡◌, List, map, subst}
-use Rattle.dj_rules.specs.Lines.{texts_of, turned_texts_of}
-use Rattle.dj_rules.proofs.PairTexts.{turned_twice}
-use Rattle.dj_rules.proofs.texts.each_text_once.Goals as goal
+use Rattle.dj_file_rules.specs.Lines.{texts_of, turned_texts_of}
+use Rattle.dj_file_rules.proofs.PairTexts.{turned_twice}
+use Rattle.dj_file_rules.proofs.texts.each_text_once.Goals as goal
 
 pub returns : goal.returns
 returns c =

@@ -1,10 +1,10 @@
 use Rattle.std.proofs.Common.{ℕ, ◌≡◌, ◌∙◌, List, get_or, map, sym, ap, subst}
 use Rattle.std.proofs.lemmas.List.{take_all}
 use Rattle.dj_pool.specs.trusted.Pool.{text_at}
-use Rattle.dj_rules.specs.Lines.{texts_of, turned_texts_of}
-use Rattle.dj_rules.proofs.PairTexts.{turned_more}
-use Rattle.dj_rules.proofs.texts.turned.Goals as goal
-use Rattle.dj_rules.proofs.texts.turned.Goals.{then-pair-index+in_ok-first, else-pair-index}
+use Rattle.dj_file_rules.specs.Lines.{texts_of, turned_texts_of}
+use Rattle.dj_file_rules.proofs.PairTexts.{turned_more}
+use Rattle.dj_file_rules.proofs.texts.turned.Goals as goal
+use Rattle.dj_file_rules.proofs.texts.turned.Goals.{then-pair-index+in_ok-first, else-pair-index}
 
 pub loop-pair-preserved : goal.loop-pair-preserved
 loop-pair-preserved c =

@@ -1,7 +1,7 @@
 use Rattle.std.proofs.Common.{◌≡◌, map, take}
 use Rattle.dj_pool.specs.trusted.Pool.{text_at}
-use Rattle.dj_rules.specs.Lines.{texts_of, turned_texts_of}
-use Rattle.dj_rules.proofs.texts.turned.Given as goal
+use Rattle.dj_file_rules.specs.Lines.{texts_of, turned_texts_of}
+use Rattle.dj_file_rules.proofs.texts.turned.Given as goal
 
 -- the pairs so far, and the first index that has the text of the last one's
 abbrev pub invariant-loop-pair : goal.invariant-loop-pair

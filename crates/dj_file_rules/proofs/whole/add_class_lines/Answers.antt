@@ -1,7 +1,7 @@
 use Rattle.dj_class.specs.Views.{class_of}
 use Rattle.dj_report.proofs.Adding.{on_ok}
-use Rattle.dj_rules.proofs.FileLines.{adds_class_lines}
-use Rattle.dj_rules.proofs.whole.add_class_lines.Goals as goal
+use Rattle.dj_file_rules.proofs.FileLines.{adds_class_lines}
+use Rattle.dj_file_rules.proofs.whole.add_class_lines.Goals as goal
 
 pub returns : goal.returns
 returns c =

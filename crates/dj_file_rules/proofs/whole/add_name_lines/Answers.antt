@@ -1,9 +1,9 @@
 use Rattle.std.proofs.Common.{◌≡◌, List, ℕ, subst, sym}
 use Rattle.dj_class.specs.Views.{class_of}
 use Rattle.dj_report.specs.trusted.Lines.{file_line}
-use Rattle.dj_rules.specs.trusted.Violations.{IsNamedAs, this_name}
+use Rattle.dj_file_rules.specs.trusted.Violations.{IsNamedAs, this_name}
 use Rattle.dj_report.proofs.Adding.{adds_when, not_both}
-use Rattle.dj_rules.proofs.whole.add_name_lines.Goals as goal
+use Rattle.dj_file_rules.proofs.whole.add_name_lines.Goals as goal
 
 pub returns : goal.returns
 returns c =

@@ -1,9 +1,9 @@
 use Rattle.std.proofs.Common.{◌≡◌}
 use Rattle.dj_class.specs.Views.{class_of}
 use Rattle.dj_report.specs.trusted.Lines.{file_line}
-use Rattle.dj_rules.specs.trusted.Violations.{HasOtherVersion}
+use Rattle.dj_file_rules.specs.trusted.Violations.{HasOtherVersion}
 use Rattle.dj_report.proofs.Adding.{adds_when}
-use Rattle.dj_rules.proofs.whole.add_version_lines.Goals as goal
+use Rattle.dj_file_rules.proofs.whole.add_version_lines.Goals as goal
 
 pub returns : goal.returns
 returns c =

@@ -1,6 +1,6 @@
 use Rattle.std.proofs.Common.{arith}
 use Rattle.std.proofs.lemmas.Result.{err_from_is_err_and}
-use Rattle.dj_bytes.specs.Views.{cursor_of}
+use Rattle.dj_cursor.specs.Views.{cursor_of}
 use Rattle.dj_frames.specs.Reading.{frames_at}
 use Rattle.dj_frames.proofs.Loop.{frames_go_on, frames_end, frames_done}
 use Rattle.dj_frames.proofs.read.read_frame_list.Goals as goal

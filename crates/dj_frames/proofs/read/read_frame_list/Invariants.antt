@@ -1,6 +1,6 @@
 use Rattle.std.proofs.Common.{◌≡◌, ◌-◌, ◌≤◌}
-use Rattle.dj_bytes.specs.Views.{cursor_of}
-use Rattle.dj_bytes.proofs.Loop.{with_prefix}
+use Rattle.dj_cursor.specs.Views.{cursor_of}
+use Rattle.dj_cursor.proofs.Loop.{with_prefix}
 use Rattle.dj_frames.specs.Reading.{frames_at}
 use Rattle.dj_frames.proofs.read.read_frame_list.Given as goal
 

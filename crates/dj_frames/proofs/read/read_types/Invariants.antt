@@ -1,7 +1,7 @@
 use Rattle.std.proofs.Common.{◌≡◌, ◌-◌}
-use Rattle.dj_bytes.specs.Reading.{many_at}
-use Rattle.dj_bytes.specs.Views.{cursor_of}
-use Rattle.dj_bytes.proofs.Loop.{with_prefix}
+use Rattle.dj_cursor.specs.Reading.{many_at}
+use Rattle.dj_cursor.specs.Views.{cursor_of}
+use Rattle.dj_cursor.proofs.Loop.{with_prefix}
 use Rattle.dj_frames.specs.Reading.{type_at}
 use Rattle.dj_frames.proofs.read.read_types.Given as goal
 

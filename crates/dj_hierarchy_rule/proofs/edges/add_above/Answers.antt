@@ -1,8 +1,8 @@
 use Rattle.std.proofs.Common.{ap}
 use Rattle.std.specs.Prelude.{option_map}
-use Rattle.dj_hierarchy.specs.Views.{seen_view, text_of}
-use Rattle.dj_hierarchy.proofs.Edging.{ok_then, above_none, above_some}
-use Rattle.dj_hierarchy.proofs.edges.add_above.Goals as goal
+use Rattle.dj_hierarchy_rule.specs.Views.{seen_view, text_of}
+use Rattle.dj_hierarchy_rule.proofs.Edging.{ok_then, above_none, above_some}
+use Rattle.dj_hierarchy_rule.proofs.edges.add_above.Goals as goal
 
 pub returns-in-None : goal.returns-in-None
 returns-in-None c =

@@ -1,7 +1,7 @@
 use Rattle.std.proofs.Common.{sym}
-use Rattle.dj_hierarchy.specs.Views.{seen_view}
-use Rattle.dj_hierarchy.proofs.Edging.{ok_then, head_more}
-use Rattle.dj_hierarchy.proofs.edges.add_head.Goals as goal
+use Rattle.dj_hierarchy_rule.specs.Views.{seen_view}
+use Rattle.dj_hierarchy_rule.proofs.Edging.{ok_then, head_more}
+use Rattle.dj_hierarchy_rule.proofs.edges.add_head.Goals as goal
 
 pub returns-in-Some : goal.returns-in-Some
 returns-in-Some c =

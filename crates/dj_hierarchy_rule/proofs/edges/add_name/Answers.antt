@@ -1,6 +1,6 @@
 use Rattle.std.proofs.Common.{sym}
-use Rattle.dj_hierarchy.proofs.Edging.{gains_unknown, gains_known}
-use Rattle.dj_hierarchy.proofs.edges.add_name.Goals as goal
+use Rattle.dj_hierarchy_rule.proofs.Edging.{gains_unknown, gains_known}
+use Rattle.dj_hierarchy_rule.proofs.edges.add_name.Goals as goal
 
 pub returns-in-None : goal.returns-in-None
 returns-in-None c = gains_unknown c.args.names.now c.args.name.now c.args.targets.now.items (sym c.in-None.ensures.value)

@@ -1,9 +1,9 @@
 use Rattle.std.proofs.Common.{ℕ, List, [], Bor, map, subst, Contains}
 use Rattle.std.proofs.lemmas.List.{take_all}
-use Rattle.dj_hierarchy.specs.Edges.{GainsPlaces}
-use Rattle.dj_hierarchy.specs.Views.{text_of}
-use Rattle.dj_hierarchy.proofs.Edging.{gains_next}
-use Rattle.dj_hierarchy.proofs.edges.add_names.Goals as goal
+use Rattle.dj_hierarchy_rule.specs.Edges.{GainsPlaces}
+use Rattle.dj_hierarchy_rule.specs.Views.{text_of}
+use Rattle.dj_hierarchy_rule.proofs.Edging.{gains_next}
+use Rattle.dj_hierarchy_rule.proofs.edges.add_names.Goals as goal
 
 pub loop-name-preserved : goal.loop-name-preserved
 loop-name-preserved c =

@@ -1,7 +1,7 @@
 use Rattle.std.proofs.Common.{map, take, Contains}
-use Rattle.dj_hierarchy.specs.Edges.{GainsPlaces}
-use Rattle.dj_hierarchy.specs.Views.{text_of}
-use Rattle.dj_hierarchy.proofs.edges.add_names.Given as goal
+use Rattle.dj_hierarchy_rule.specs.Edges.{GainsPlaces}
+use Rattle.dj_hierarchy_rule.specs.Views.{text_of}
+use Rattle.dj_hierarchy_rule.proofs.edges.add_names.Given as goal
 
 -- the places of the names so far are gained
 abbrev pub invariant-loop-name : goal.invariant-loop-name

@@ -1,10 +1,10 @@
 use Rattle.std.proofs.Common.{List, length, map, take, sym, subst}
 use Rattle.dj_graph.specs.Graphs.{edges_of}
 use Rattle.dj_library.specs.trusted.Heads.{Head}
-use Rattle.dj_hierarchy.specs.Edges.{AreEdges}
-use Rattle.dj_hierarchy.specs.Views.{seen_view}
-use Rattle.dj_hierarchy.proofs.Anys.{seen_more}
-use Rattle.dj_hierarchy.proofs.edges.edges_of_heads.Goals as goal
+use Rattle.dj_hierarchy_rule.specs.Edges.{AreEdges}
+use Rattle.dj_hierarchy_rule.specs.Views.{seen_view}
+use Rattle.dj_hierarchy_rule.proofs.Anys.{seen_more}
+use Rattle.dj_hierarchy_rule.proofs.edges.edges_of_heads.Goals as goal
 
 pub loop-head-preserved : goal.loop-head-preserved
 loop-head-preserved c =

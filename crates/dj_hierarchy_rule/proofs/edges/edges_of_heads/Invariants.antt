@@ -1,8 +1,8 @@
 use Rattle.std.proofs.Common.{map, take, length}
 use Rattle.dj_graph.specs.Graphs.{edges_of}
-use Rattle.dj_hierarchy.specs.Edges.{AreEdges}
-use Rattle.dj_hierarchy.specs.Views.{seen_view}
-use Rattle.dj_hierarchy.proofs.edges.edges_of_heads.Given as goal
+use Rattle.dj_hierarchy_rule.specs.Edges.{AreEdges}
+use Rattle.dj_hierarchy_rule.specs.Views.{seen_view}
+use Rattle.dj_hierarchy_rule.proofs.edges.edges_of_heads.Given as goal
 
 -- the edges that the classes so far make
 abbrev pub invariant-loop-head : goal.invariant-loop-head

@@ -2,9 +2,9 @@ use Rattle.std.proofs.Common.{ℕ, List, length, map, sym, subst}
 use Rattle.std.specs.Global.{Vec}
 use Rattle.std.proofs.lemmas.List.{length-map}
 use Rattle.dj_graph.specs.Graphs.{edges_of, IsInside, AreComponents}
-use Rattle.dj_hierarchy.specs.Views.{seen_view}
-use Rattle.dj_hierarchy.proofs.Climbing.{joined, all_inside}
-use Rattle.dj_hierarchy.proofs.edges.join.Goals as goal
+use Rattle.dj_hierarchy_rule.specs.Views.{seen_view}
+use Rattle.dj_hierarchy_rule.proofs.Climbing.{joined, all_inside}
+use Rattle.dj_hierarchy_rule.proofs.edges.join.Goals as goal
 
 pub components-requires-clause-inside : goal.components-requires-clause-inside
 components-requires-clause-inside c =

@@ -1,6 +1,6 @@
 use Rattle.std.proofs.Common.{◌≡◌, map, take}
-use Rattle.dj_hierarchy.specs.Views.{head_view, seen_view}
-use Rattle.dj_hierarchy.proofs.head.see_set.Given as goal
+use Rattle.dj_hierarchy_rule.specs.Views.{head_view, seen_view}
+use Rattle.dj_hierarchy_rule.proofs.head.see_set.Given as goal
 
 -- the heads so far
 abbrev pub invariant-loop-head : goal.invariant-loop-head

@@ -1,10 +1,10 @@
 use Rattle.std.proofs.Common.{true, [], refl}
 use Rattle.std.proofs.lemmas.Bool.{both_ways}
-use Rattle.dj_hierarchy.specs.trusted.Hierarchy.{IsBadInterface}
-use Rattle.dj_hierarchy.specs.Known.{IsIn}
-use Rattle.dj_hierarchy.specs.Views.{text_of}
-use Rattle.dj_hierarchy.proofs.Anys.{none_more, found_at, none_at_all}
-use Rattle.dj_hierarchy.proofs.judge.has_bad_interface.Goals as goal
+use Rattle.dj_hierarchy_rule.specs.trusted.Hierarchy.{IsBadInterface}
+use Rattle.dj_hierarchy_rule.specs.Known.{IsIn}
+use Rattle.dj_hierarchy_rule.specs.Views.{text_of}
+use Rattle.dj_hierarchy_rule.proofs.Anys.{none_more, found_at, none_at_all}
+use Rattle.dj_hierarchy_rule.proofs.judge.has_bad_interface.Goals as goal
 
 pub returns-then-is_bad_interface : goal.returns-then-is_bad_interface
 returns-then-is_bad_interface c =

@@ -1,10 +1,10 @@
 use Rattle.std.proofs.Common.{true, ℕ, List, [], refl}
 use Rattle.std.proofs.lemmas.Bool.{both_ways}
-use Rattle.dj_hierarchy.specs.trusted.Hierarchy.{Climbs}
-use Rattle.dj_hierarchy.specs.Known.{IsIn}
-use Rattle.dj_hierarchy.specs.Views.{text_of}
-use Rattle.dj_hierarchy.proofs.Anys.{contains_seen, none_more, found_at, none_at_all}
-use Rattle.dj_hierarchy.proofs.judge.has_interface_back.Goals as goal
+use Rattle.dj_hierarchy_rule.specs.trusted.Hierarchy.{Climbs}
+use Rattle.dj_hierarchy_rule.specs.Known.{IsIn}
+use Rattle.dj_hierarchy_rule.specs.Views.{text_of}
+use Rattle.dj_hierarchy_rule.proofs.Anys.{contains_seen, none_more, found_at, none_at_all}
+use Rattle.dj_hierarchy_rule.proofs.judge.has_interface_back.Goals as goal
 use Rattle.std.proofs.Common.{inr}
 
 pub leads_back-requires-clause-over : goal.leads_back-requires-clause-over

@@ -1,9 +1,9 @@
-use Rattle.dj_hierarchy.specs.trusted.Hierarchy.{Climbs}
-use Rattle.dj_hierarchy.specs.Known.{IsIn}
-use Rattle.dj_hierarchy.specs.Views.{text_of}
+use Rattle.dj_hierarchy_rule.specs.trusted.Hierarchy.{Climbs}
+use Rattle.dj_hierarchy_rule.specs.Known.{IsIn}
+use Rattle.dj_hierarchy_rule.specs.Views.{text_of}
 use Rattle.std.proofs.Common.{List, ℕ, take}
-use Rattle.dj_hierarchy.proofs.Anys.{IsAny}
-use Rattle.dj_hierarchy.proofs.judge.has_interface_back.Given as goal
+use Rattle.dj_hierarchy_rule.proofs.Anys.{IsAny}
+use Rattle.dj_hierarchy_rule.proofs.judge.has_interface_back.Given as goal
 
 -- none so far
 abbrev pub invariant-loop-name : goal.invariant-loop-name

@@ -1,7 +1,7 @@
 use Rattle.std.proofs.Common.{refl, sym}
-use Rattle.dj_hierarchy.specs.Known.{heads_of}
-use Rattle.dj_hierarchy.proofs.Judging.{interface_unknown, interface_known}
-use Rattle.dj_hierarchy.proofs.judge.is_bad_interface.Goals as goal
+use Rattle.dj_hierarchy_rule.specs.Known.{heads_of}
+use Rattle.dj_hierarchy_rule.proofs.Judging.{interface_unknown, interface_known}
+use Rattle.dj_hierarchy_rule.proofs.judge.is_bad_interface.Goals as goal
 
 pub returns-in-None : goal.returns-in-None
 returns-in-None c = interface_unknown (heads_of c.args.hierarchy.now) c.args.hierarchy.now.names c.args.name.now c.requires.names (sym c.in-None.ensures.value)

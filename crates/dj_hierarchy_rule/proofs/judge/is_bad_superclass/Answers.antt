@@ -1,8 +1,8 @@
 use Rattle.std.proofs.Common.{◌||◌, Bool, sym, ap, ◌∙◌}
 use Rattle.std.proofs.lemmas.Bool.{or_left}
-use Rattle.dj_hierarchy.specs.Known.{heads_of}
-use Rattle.dj_hierarchy.proofs.Judging.{superclass_unknown, superclass_known}
-use Rattle.dj_hierarchy.proofs.judge.is_bad_superclass.Goals as goal
+use Rattle.dj_hierarchy_rule.specs.Known.{heads_of}
+use Rattle.dj_hierarchy_rule.proofs.Judging.{superclass_unknown, superclass_known}
+use Rattle.dj_hierarchy_rule.proofs.judge.is_bad_superclass.Goals as goal
 
 pub returns-in-None : goal.returns-in-None
 returns-in-None c = superclass_unknown (heads_of c.args.hierarchy.now) c.args.hierarchy.now.names c.args.name.now c.requires.names (sym c.in-None.ensures.value)

@@ -1,9 +1,9 @@
 use Rattle.std.proofs.Common.{◌<◌, ◌^◌, length, map, sym, ◌∙◌, arith}
 use Rattle.std.proofs.lemmas.List.{length-map}
-use Rattle.dj_hierarchy.specs.Known.{heads_of}
-use Rattle.dj_hierarchy.specs.Views.{head_view, seen_view}
-use Rattle.dj_hierarchy.proofs.Judging.{if_ok_then, few_all, judged}
-use Rattle.dj_hierarchy.proofs.judge.judge_heads.Goals as goal
+use Rattle.dj_hierarchy_rule.specs.Known.{heads_of}
+use Rattle.dj_hierarchy_rule.specs.Views.{head_view, seen_view}
+use Rattle.dj_hierarchy_rule.proofs.Judging.{if_ok_then, few_all, judged}
+use Rattle.dj_hierarchy_rule.proofs.judge.judge_heads.Goals as goal
 
 pub hierarchy_of-requires : goal.hierarchy_of-requires
 hierarchy_of-requires c =

@@ -1,7 +1,7 @@
 use Rattle.std.proofs.Common.{sym}
-use Rattle.dj_hierarchy.specs.Views.{seen_view}
-use Rattle.dj_hierarchy.proofs.Judging.{way_back, no_way_back, eq_reported, false_reported}
-use Rattle.dj_hierarchy.proofs.judge.leads_back.Goals as goal
+use Rattle.dj_hierarchy_rule.specs.Views.{seen_view}
+use Rattle.dj_hierarchy_rule.proofs.Judging.{way_back, no_way_back, eq_reported, false_reported}
+use Rattle.dj_hierarchy_rule.proofs.judge.leads_back.Goals as goal
 
 pub returns-in-None : goal.returns-in-None
 returns-in-None c =

@@ -1,8 +1,8 @@
 use Rattle.std.proofs.Common.{◌<◌, length, arith}
-use Rattle.dj_hierarchy.specs.Known.{heads_of}
-use Rattle.dj_hierarchy.specs.Views.{seen_view}
-use Rattle.dj_hierarchy.proofs.Anys.{marks_more, seen_at}
-use Rattle.dj_hierarchy.proofs.judge.mark_first.Goals as goal
+use Rattle.dj_hierarchy_rule.specs.Known.{heads_of}
+use Rattle.dj_hierarchy_rule.specs.Views.{seen_view}
+use Rattle.dj_hierarchy_rule.proofs.Anys.{marks_more, seen_at}
+use Rattle.dj_hierarchy_rule.proofs.judge.mark_first.Goals as goal
 
 pub loop-place-preserved : goal.loop-place-preserved
 loop-place-preserved c =

@@ -1,6 +1,6 @@
-use Rattle.dj_hierarchy.specs.Judged.{AreMarks}
-use Rattle.dj_hierarchy.specs.Known.{heads_of}
-use Rattle.dj_hierarchy.proofs.judge.mark_first.Given as goal
+use Rattle.dj_hierarchy_rule.specs.Judged.{AreMarks}
+use Rattle.dj_hierarchy_rule.specs.Known.{heads_of}
+use Rattle.dj_hierarchy_rule.proofs.judge.mark_first.Given as goal
 
 -- the marks so far
 abbrev pub invariant-loop-place : goal.invariant-loop-place

@@ -1,11 +1,11 @@
 use Rattle.std.proofs.Common.{List, [], get_or, map, take, None, sym, ◌∙◌, subst}
 use Rattle.dj_library.specs.trusted.Heads.{Head}
-use Rattle.dj_hierarchy.specs.declared.head.Seen.{Seen}
-use Rattle.dj_hierarchy.specs.Names.{AreNames}
-use Rattle.dj_hierarchy.specs.Views.{seen_view}
-use Rattle.dj_hierarchy.proofs.Anys.{seen_more, length_seen}
-use Rattle.dj_hierarchy.proofs.Naming.{names_more}
-use Rattle.dj_hierarchy.proofs.names.names_of.Goals as goal
+use Rattle.dj_hierarchy_rule.specs.declared.head.Seen.{Seen}
+use Rattle.dj_hierarchy_rule.specs.Names.{AreNames}
+use Rattle.dj_hierarchy_rule.specs.Views.{seen_view}
+use Rattle.dj_hierarchy_rule.proofs.Anys.{seen_more, length_seen}
+use Rattle.dj_hierarchy_rule.proofs.Naming.{names_more}
+use Rattle.dj_hierarchy_rule.proofs.names.names_of.Goals as goal
 
 pub loop-place-preserved : goal.loop-place-preserved
 loop-place-preserved c =

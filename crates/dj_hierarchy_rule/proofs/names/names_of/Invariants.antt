@@ -1,7 +1,7 @@
 use Rattle.std.proofs.Common.{map, take}
-use Rattle.dj_hierarchy.specs.Names.{AreNames}
-use Rattle.dj_hierarchy.specs.Views.{seen_view}
-use Rattle.dj_hierarchy.proofs.names.names_of.Given as goal
+use Rattle.dj_hierarchy_rule.specs.Names.{AreNames}
+use Rattle.dj_hierarchy_rule.specs.Views.{seen_view}
+use Rattle.dj_hierarchy_rule.proofs.names.names_of.Given as goal
 
 -- what is known of the classes so far
 abbrev pub invariant-loop-place : goal.invariant-loop-place

@@ -1,6 +1,6 @@
 use Rattle.std.proofs.Common.{refl, ap, ◌∙◌, Vec}
 use Rattle.std.specs.Global.{Global}
-use Rattle.dj_types.specs.declared.shapes.Shape.{Shape}
+use Rattle.dj_numbering.specs.declared.shapes.Shape.{Shape}
 use Rattle.dj_image.proofs.Levels.{level_pushed, level_skipped}
 use Rattle.dj_image.proofs.arrays.add_level.Goals as goal
 use Rattle.dj_image.proofs.arrays.add_level.Goals.{then-dims-top+in_ok-push, else-dims-top}

@@ -1,7 +1,7 @@
 use Rattle.std.proofs.Common.{map, sym, ap, subst, ◌∙◌}
 use Rattle.std.specs.Map.{values_of}
 use Rattle.dj_model.specs.trusted.Program.{Program}
-use Rattle.dj_types.specs.Shapes.{shape_in}
+use Rattle.dj_numbering.specs.Shapes.{shape_in}
 use Rattle.dj_image.proofs.ArrayFacts.{tops_known, are_arrays, are_elements, numbered_rows, ok_gives}
 use Rattle.dj_image.specs.ArrayRows.{AreAllKnown, first_wholes}
 use Rattle.dj_image.proofs.Wholes.{class_step, classes_done, item_pool}

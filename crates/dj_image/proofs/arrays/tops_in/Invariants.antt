@@ -1,6 +1,6 @@
 use Rattle.std.proofs.Common.{◌≡◌, ◌++◌, map}
 use Rattle.std.specs.BTreeMap.{values}
-use Rattle.dj_types.specs.Shapes.{shape_in}
+use Rattle.dj_numbering.specs.Shapes.{shape_in}
 use Rattle.dj_image.specs.ArrayRows.{AreAllKnown}
 use Rattle.dj_image.proofs.arrays.tops_in.Given as goal
 

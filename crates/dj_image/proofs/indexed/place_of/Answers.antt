@@ -2,9 +2,9 @@ use Rattle.std.proofs.Common.{List, rules, sym, ap, subst, ◌∙◌}
 use Rattle.std.proofs.lemmas.Fn.{always_returns_same}
 use Rattle.std.proofs.lemmas.List.{map-id}
 use Rattle.dj_names.specs.trusted.Types.{Name}
-use Rattle.dj_types.specs.Kept.{DoTextsRise}
-use Rattle.dj_types.specs.Typed.{place_of_text}
-use Rattle.dj_types.proofs.Texts.{against, text_found, text_missing}
+use Rattle.dj_numbering.specs.Kept.{DoTextsRise}
+use Rattle.dj_numbering.specs.Typed.{place_of_text}
+use Rattle.dj_numbering.proofs.Texts.{against, text_found, text_missing}
 use Rattle.dj_image.proofs.Indexes.{same_place}
 use Rattle.dj_image.proofs.indexed.place_of.Goals as goal
 

@@ -1,6 +1,6 @@
 use Rattle.std.proofs.Common.{ℕ, sym, ap, ◌∙◌}
 use Rattle.dj_names.specs.declared.descriptor.Of.TheVariants as ofs
-use Rattle.dj_declared.specs.trusted.Files.{type_in}
+use Rattle.dj_declarations.specs.trusted.Files.{type_in}
 use Rattle.dj_image.specs.ArrayRows.{of_lent}
 use Rattle.dj_image.proofs.ClassTexts.{spells, few_brackets, rest_is, typed}
 use Rattle.dj_image.proofs.lent_type.type_in.Goals as goal

@@ -1,7 +1,7 @@
 use Rattle.std.proofs.Common.{◌≡◌, ◌↔◌, Contains, List, map, IsTrue, sym, ap, subst, arith}
 use Rattle.std.specs.Prelude.{is_some}
-use Rattle.dj_types.specs.Shapes.{shape_type}
-use Rattle.dj_types.specs.Typed.{Typed, AreArrays, chars_at}
+use Rattle.dj_numbering.specs.Shapes.{shape_type}
+use Rattle.dj_numbering.specs.Typed.{Typed, AreArrays, chars_at}
 use Rattle.dj_names.specs.declared.descriptor.Ty.{Ty}
 use Rattle.dj_image.specs.declared.parts.ClassParts.{ClassParts}
 use Rattle.dj_image.specs.Imaged.{Imaged, IsNumbered}

@@ -1,9 +1,9 @@
-use Rattle.dj_initialising.specs.Store.{store}
-use Rattle.dj_acting.specs.Acting.{machine}
-use Rattle.dj_acting.proofs.Families.{acted_on_heap}
-use Rattle.dj_acting.proofs.Effects.{length_is}
-use Rattle.dj_acting.proofs.Rooms.{length_has_room}
-use Rattle.dj_acting.proofs.arrays.act_length.Goals as goal
+use Rattle.dj_initialisation.specs.Store.{store}
+use Rattle.dj_image_effects.specs.Acting.{machine}
+use Rattle.dj_image_effects.proofs.Families.{acted_on_heap}
+use Rattle.dj_image_effects.proofs.Effects.{length_is}
+use Rattle.dj_image_effects.proofs.Rooms.{length_has_room}
+use Rattle.dj_image_effects.proofs.arrays.act_length.Goals as goal
 
 pub array_length-requires : goal.array_length-requires
 array_length-requires c = length_has_room c.args.frames.now c.args.heap.now c.requires

@@ -1,10 +1,10 @@
-use Rattle.dj_initialising.specs.Store.{store}
-use Rattle.dj_acting.specs.Acting.{machine}
-use Rattle.dj_acting.proofs.Families.{acted_on_heap}
+use Rattle.dj_initialisation.specs.Store.{store}
+use Rattle.dj_image_effects.specs.Acting.{machine}
+use Rattle.dj_image_effects.proofs.Families.{acted_on_heap}
 use Rattle.dj_effects.specs.Actions.{access_view}
-use Rattle.dj_acting.proofs.Effects.{load_is}
-use Rattle.dj_acting.proofs.Rooms.{load_has_room}
-use Rattle.dj_acting.proofs.arrays.act_load.Goals as goal
+use Rattle.dj_image_effects.proofs.Effects.{load_is}
+use Rattle.dj_image_effects.proofs.Rooms.{load_has_room}
+use Rattle.dj_image_effects.proofs.arrays.act_load.Goals as goal
 
 pub load_element-requires : goal.load_element-requires
 load_element-requires c = load_has_room (access_view c.args.access) c.args.frames.now c.args.heap.now c.requires

@@ -1,15 +1,15 @@
 use Rattle.std.proofs.Common.{Some, refl, subst}
-use Rattle.dj_types.specs.Typed.{types_of}
+use Rattle.dj_numbering.specs.Typed.{types_of}
 use Rattle.dj_image.specs.Imaged.{typed_of}
 use Rattle.dj_model.specs.trusted.Arrays.{make_array}
-use Rattle.dj_initialising.specs.Store.{store}
+use Rattle.dj_initialisation.specs.Store.{store}
 use Rattle.dj_effects.specs.DoesOnHeap.{DoesOnHeap}
-use Rattle.dj_acting.specs.Acting.{machine}
-use Rattle.dj_acting.proofs.Families.{acted_on_heap}
-use Rattle.dj_acting.proofs.Effects.{new_array_is}
-use Rattle.dj_acting.proofs.KnownHeaps.{array_known_after}
-use Rattle.dj_acting.proofs.Rooms.{array_has_room}
-use Rattle.dj_acting.proofs.arrays.act_new_array.Goals as goal
+use Rattle.dj_image_effects.specs.Acting.{machine}
+use Rattle.dj_image_effects.proofs.Families.{acted_on_heap}
+use Rattle.dj_image_effects.proofs.Effects.{new_array_is}
+use Rattle.dj_image_effects.proofs.KnownHeaps.{array_known_after}
+use Rattle.dj_image_effects.proofs.Rooms.{array_has_room}
+use Rattle.dj_image_effects.proofs.arrays.act_new_array.Goals as goal
 
 pub new_array-requires : goal.new_array-requires
 new_array-requires c = array_has_room (Some c.args.heap.now.limit) c.args.class c.args.element c.args.frames.now c.args.heap.now c.requires.room

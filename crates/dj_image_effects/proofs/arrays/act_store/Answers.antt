@@ -1,17 +1,17 @@
-use Rattle.dj_initialising.specs.Store.{store}
-use Rattle.dj_acting.specs.Acting.{machine}
-use Rattle.dj_acting.specs.declared.acted.Acted.TheVariants as acts
-use Rattle.dj_acting.proofs.Families.{acted_on_heap}
-use Rattle.dj_acting.proofs.Frugal.{never_stuck}
-use Rattle.dj_types.specs.Typed.{types_of}
+use Rattle.dj_initialisation.specs.Store.{store}
+use Rattle.dj_image_effects.specs.Acting.{machine}
+use Rattle.dj_image_effects.specs.declared.acted.Acted.TheVariants as acts
+use Rattle.dj_image_effects.proofs.Families.{acted_on_heap}
+use Rattle.dj_image_effects.proofs.Frugal.{never_stuck}
+use Rattle.dj_numbering.specs.Typed.{types_of}
 use Rattle.dj_image.specs.Imaged.{typed_of}
 use Rattle.dj_stack.specs.Frames.{top_operands}
 use Rattle.dj_effects.specs.Actions.{access_view}
-use Rattle.dj_acting.proofs.Effects.{store_is}
-use Rattle.dj_acting.proofs.KnownHeaps.{store_known}
-use Rattle.dj_acting.proofs.Takings.{taken_alike}
+use Rattle.dj_image_effects.proofs.Effects.{store_is}
+use Rattle.dj_image_effects.proofs.KnownHeaps.{store_known}
+use Rattle.dj_image_effects.proofs.Takings.{taken_alike}
 use Rattle.std.proofs.Common.{Some, None, refl}
-use Rattle.dj_acting.proofs.arrays.act_store.Goals as goal
+use Rattle.dj_image_effects.proofs.arrays.act_store.Goals as goal
 
 pub returns-clause-done : goal.returns-clause-done
 returns-clause-done c =

@@ -2,12 +2,12 @@ use Rattle.std.proofs.Common.{◌≡◌, sym, ap, subst, ◌∙◌}
 use Rattle.std.proofs.lemmas.Option.{same_Some}
 use Rattle.dj_model.specs.trusted.Instructions.{Instruction}
 use Rattle.dj_model.specs.trusted.Opcodes.{instruction_of}
-use Rattle.dj_initialising.specs.Store.{store}
-use Rattle.dj_acting.specs.Acting.{machine}
-use Rattle.dj_acting.specs.Frugal.{IsFrugal, makes}
-use Rattle.dj_acting.proofs.OperandFacts.{all_done, beside, heap_is, if_ok_so, operand_used}
-use Rattle.dj_acting.proofs.Resolved.{resolved}
-use Rattle.dj_acting.proofs.by_number.act_settled.Goals as goal
+use Rattle.dj_initialisation.specs.Store.{store}
+use Rattle.dj_image_effects.specs.Acting.{machine}
+use Rattle.dj_image_effects.specs.Frugal.{IsFrugal, makes}
+use Rattle.dj_image_effects.proofs.OperandFacts.{all_done, beside, heap_is, if_ok_so, operand_used}
+use Rattle.dj_image_effects.proofs.Resolved.{resolved}
+use Rattle.dj_image_effects.proofs.by_number.act_settled.Goals as goal
 
 pub act_with-requires-clause-beside : goal.act_with-requires-clause-beside
 act_with-requires-clause-beside c =

@@ -1,13 +1,13 @@
 use Rattle.std.proofs.Common.{ap, refl, subst}
 use Rattle.dj_model.specs.trusted.Instructions.{Instruction}
 use Rattle.dj_names.specs.declared.run.Value.TheVariants as values
-use Rattle.dj_initialising.specs.Store.{store}
-use Rattle.dj_acting.specs.Numbers.{literal_value}
-use Rattle.dj_acting.specs.Acting.{machine}
-use Rattle.dj_acting.specs.Frugal.{IsFrugal}
-use Rattle.dj_acting.proofs.Frugal.{makes_nothing}
-use Rattle.dj_acting.proofs.OperandFacts.{class_used, done_as, field_used, field_within, if_ok_so, literal_is, method_calls, nothing_is, nothing_made, text_there, text_within}
-use Rattle.dj_acting.proofs.by_number.act_with.Goals as goal
+use Rattle.dj_initialisation.specs.Store.{store}
+use Rattle.dj_image_effects.specs.Numbers.{literal_value}
+use Rattle.dj_image_effects.specs.Acting.{machine}
+use Rattle.dj_image_effects.specs.Frugal.{IsFrugal}
+use Rattle.dj_image_effects.proofs.Frugal.{makes_nothing}
+use Rattle.dj_image_effects.proofs.OperandFacts.{class_used, done_as, field_used, field_within, if_ok_so, literal_is, method_calls, nothing_is, nothing_made, text_there, text_within}
+use Rattle.dj_image_effects.proofs.by_number.act_with.Goals as goal
 
 pub act_unnamed-requires-clause-made : goal.act_unnamed-requires-clause-made
 act_unnamed-requires-clause-made c = nothing_made c.args.image.now c.args.instr.now c.args.operand c.requires.used.0 c.requires.used.1 c.in-Nothing.is

@@ -1,12 +1,12 @@
 use Rattle.std.proofs.Common.{sym, subst, refl, ◌∙◌}
-use Rattle.dj_initialising.specs.Store.{store}
+use Rattle.dj_initialisation.specs.Store.{store}
 use Rattle.std.specs.Prelude.{IfOk}
 use Rattle.dj_model.specs.trusted.Instructions.{Instruction}
-use Rattle.dj_acting.specs.Acting.{ActsOnHeap, machine}
-use Rattle.dj_acting.specs.Frugal.{FrugalOnHeap}
-use Rattle.dj_acting.proofs.Frugal.{makes_nothing}
-use Rattle.dj_acting.proofs.UsedFacts.{class_within, new_named, array_class, cast_class, instance_class, plain_made, plain_is, other_is, other_on_heap}
-use Rattle.dj_acting.proofs.classes.act_class.Goals as goal
+use Rattle.dj_image_effects.specs.Acting.{ActsOnHeap, machine}
+use Rattle.dj_image_effects.specs.Frugal.{FrugalOnHeap}
+use Rattle.dj_image_effects.proofs.Frugal.{makes_nothing}
+use Rattle.dj_image_effects.proofs.UsedFacts.{class_within, new_named, array_class, cast_class, instance_class, plain_made, plain_is, other_is, other_on_heap}
+use Rattle.dj_image_effects.proofs.classes.act_class.Goals as goal
 
 pub act_new-requires-clause-within : goal.act_new-requires-clause-within
 act_new-requires-clause-within c = class_within c.args.image.now c.args.instr.now c.args.class c.requires.used.0 c.requires.used.1

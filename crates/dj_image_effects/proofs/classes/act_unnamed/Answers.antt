@@ -1,10 +1,10 @@
 use Rattle.std.proofs.Common.{sym, subst}
 use Rattle.std.specs.Prelude.{IfOk}
 use Rattle.dj_model.specs.trusted.Instructions.{Instruction}
-use Rattle.dj_acting.specs.Acting.{ActsOnHeap}
-use Rattle.dj_acting.specs.Frugal.{FrugalOnHeap}
-use Rattle.dj_acting.proofs.UsedFacts.{made_by_action, other_on_heap}
-use Rattle.dj_acting.proofs.classes.act_unnamed.Goals as goal
+use Rattle.dj_image_effects.specs.Acting.{ActsOnHeap}
+use Rattle.dj_image_effects.specs.Frugal.{FrugalOnHeap}
+use Rattle.dj_image_effects.proofs.UsedFacts.{made_by_action, other_on_heap}
+use Rattle.dj_image_effects.proofs.classes.act_unnamed.Goals as goal
 
 pub act_plain-requires-clause-made : goal.act_plain-requires-clause-made
 act_plain-requires-clause-made c = made_by_action c.args.image.now c.in-Some.action _ c.args.class c.in-Some.ensures c.requires.made

@@ -1,7 +1,7 @@
 use Rattle.std.proofs.Common.{sym, subst}
-use Rattle.dj_acting.specs.Acting.{ActsOnHeap}
-use Rattle.dj_acting.proofs.FieldAccesses.{got, get_none}
-use Rattle.dj_acting.proofs.fields.act_get_field.Goals as goal
+use Rattle.dj_image_effects.specs.Acting.{ActsOnHeap}
+use Rattle.dj_image_effects.proofs.FieldAccesses.{got, get_none}
+use Rattle.dj_image_effects.proofs.fields.act_get_field.Goals as goal
 
 pub returns-in_default : goal.returns-in_default
 returns-in_default c = λ member found is. get_none c.args.image.now member found c.args.field.number is c.args.frames.now c.args.heap.now c.in_default.ensures

@@ -1,13 +1,13 @@
 use Rattle.std.proofs.Common.{Some, None, sym, subst}
 use Rattle.dj_model.specs.trusted.Instructions.{PutField}
-use Rattle.dj_types.specs.Typed.{types_of}
+use Rattle.dj_numbering.specs.Typed.{types_of}
 use Rattle.dj_image.specs.Imaged.{typed_of}
-use Rattle.dj_initialising.specs.Store.{store}
-use Rattle.dj_acting.specs.Acting.{ActsOnHeap, machine}
-use Rattle.dj_acting.proofs.FieldAccesses.{put, put_none}
-use Rattle.dj_acting.proofs.Frugal.{never_stuck}
-use Rattle.dj_acting.proofs.KnownHeaps.{put_known}
-use Rattle.dj_acting.proofs.fields.act_put_field.Goals as goal
+use Rattle.dj_initialisation.specs.Store.{store}
+use Rattle.dj_image_effects.specs.Acting.{ActsOnHeap, machine}
+use Rattle.dj_image_effects.proofs.FieldAccesses.{put, put_none}
+use Rattle.dj_image_effects.proofs.Frugal.{never_stuck}
+use Rattle.dj_image_effects.proofs.KnownHeaps.{put_known}
+use Rattle.dj_image_effects.proofs.fields.act_put_field.Goals as goal
 
 pub returns-in_default-clause-done : goal.returns-in_default-clause-done
 returns-in_default-clause-done c = λ member found is. put_none c.args.image.now member found c.args.field.number is c.args.frames.now c.args.heap.now c.in_default.ensures

@@ -1,10 +1,10 @@
 use Rattle.std.proofs.Common.{sym, subst, arith}
 use Rattle.dj_model.specs.trusted.Instructions.{Push}
-use Rattle.dj_acting.specs.Acting.{Acts, machine}
-use Rattle.dj_initialising.specs.Store.{store}
-use Rattle.dj_acting.proofs.Frugal.{push_room}
-use Rattle.dj_acting.proofs.OperandFacts.{literal_acted}
-use Rattle.dj_acting.proofs.literals.act_literal.Goals as goal
+use Rattle.dj_image_effects.specs.Acting.{Acts, machine}
+use Rattle.dj_initialisation.specs.Store.{store}
+use Rattle.dj_image_effects.proofs.Frugal.{push_room}
+use Rattle.dj_image_effects.proofs.OperandFacts.{literal_acted}
+use Rattle.dj_image_effects.proofs.literals.act_literal.Goals as goal
 
 pub returns-clause-done : goal.returns-clause-done
 returns-clause-done c = λ imaged heap v reported statics literals are.

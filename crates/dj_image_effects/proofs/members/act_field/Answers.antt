@@ -1,11 +1,11 @@
 use Rattle.std.proofs.Common.{sym, subst, ◌∙◌}
 use Rattle.std.specs.Prelude.{IfOk}
 use Rattle.dj_model.specs.trusted.Instructions.{Instruction}
-use Rattle.dj_acting.specs.Frugal.{FrugalOnFields}
-use Rattle.dj_acting.specs.Used.{ActsOnFields}
-use Rattle.dj_acting.proofs.UsedFacts.{get_static_found, put_static_found, is_get_static, is_put_static, is_get, is_put, is_neither, other_on_heap}
-use Rattle.dj_acting.proofs.OperandFacts.{if_ok_so}
-use Rattle.dj_acting.proofs.members.act_field.Goals as goal
+use Rattle.dj_image_effects.specs.Frugal.{FrugalOnFields}
+use Rattle.dj_image_effects.specs.Used.{ActsOnFields}
+use Rattle.dj_image_effects.proofs.UsedFacts.{get_static_found, put_static_found, is_get_static, is_put_static, is_get, is_put, is_neither, other_on_heap}
+use Rattle.dj_image_effects.proofs.OperandFacts.{if_ok_so}
+use Rattle.dj_image_effects.proofs.members.act_field.Goals as goal
 
 pub act_get_static-requires-clause-found : goal.act_get_static-requires-clause-found
 act_get_static-requires-clause-found c = get_static_found c.args.image.now c.args.instr.now c.args.field.number c.requires.used.0 c.requires.used.1 (sym c.field_use.ensures ∙ c.in-GetStatic.is)

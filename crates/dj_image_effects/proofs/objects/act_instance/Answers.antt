@@ -1,10 +1,10 @@
 use Rattle.dj_stack.specs.Frames.{top_operands}
-use Rattle.dj_initialising.specs.Store.{store}
-use Rattle.dj_acting.specs.Acting.{machine}
-use Rattle.dj_acting.proofs.AbsentFacts.{instance_absent, some_operand}
-use Rattle.dj_acting.proofs.Families.{acted_on_heap}
-use Rattle.dj_acting.proofs.Effects.{instance_is}
-use Rattle.dj_acting.proofs.objects.act_instance.Goals as goal
+use Rattle.dj_initialisation.specs.Store.{store}
+use Rattle.dj_image_effects.specs.Acting.{machine}
+use Rattle.dj_image_effects.proofs.AbsentFacts.{instance_absent, some_operand}
+use Rattle.dj_image_effects.proofs.Families.{acted_on_heap}
+use Rattle.dj_image_effects.proofs.Effects.{instance_is}
+use Rattle.dj_image_effects.proofs.objects.act_instance.Goals as goal
 
 pub returns-then-is_top_there : goal.returns-then-is_top_there
 returns-then-is_top_there c = λ ty is.

@@ -1,6 +1,6 @@
 use Rattle.std.proofs.Common.{Some}
-use Rattle.dj_acting.proofs.Families.{new_on_heap, new_keeps}
-use Rattle.dj_acting.proofs.objects.act_new.Goals as goal
+use Rattle.dj_image_effects.proofs.Families.{new_on_heap, new_keeps}
+use Rattle.dj_image_effects.proofs.objects.act_new.Goals as goal
 
 pub returns-clause-done : goal.returns-clause-done
 returns-clause-done c = λ name at.

@@ -1,6 +1,6 @@
-use Rattle.dj_acting.proofs.AbsentFacts.{throw_absent}
-use Rattle.dj_acting.proofs.Families.{thrown_on_heap}
-use Rattle.dj_acting.proofs.objects.act_throw.Goals as goal
+use Rattle.dj_image_effects.proofs.AbsentFacts.{throw_absent}
+use Rattle.dj_image_effects.proofs.Families.{thrown_on_heap}
+use Rattle.dj_image_effects.proofs.objects.act_throw.Goals as goal
 
 pub returns-then-is_top_there : goal.returns-then-is_top_there
 returns-then-is_top_there c =

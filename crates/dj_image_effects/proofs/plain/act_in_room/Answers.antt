@@ -1,13 +1,13 @@
 use Rattle.std.proofs.Common.{sym, ap, subst, refl}
-use Rattle.dj_initialising.specs.Store.{store}
+use Rattle.dj_initialisation.specs.Store.{store}
 use Rattle.std.specs.Prelude.{IfOk}
 use Rattle.dj_model.specs.trusted.Instructions.{Instruction}
 use Rattle.dj_effects.specs.Actions.{action_view}
-use Rattle.dj_acting.specs.Acting.{ActsOnHeap, machine}
-use Rattle.dj_acting.specs.Frugal.{FrugalOnHeap}
-use Rattle.dj_acting.proofs.Frugal.{makes_nothing}
-use Rattle.dj_acting.proofs.Actions.{plain_acted, values_else}
-use Rattle.dj_acting.proofs.plain.act_in_room.Goals as goal
+use Rattle.dj_image_effects.specs.Acting.{ActsOnHeap, machine}
+use Rattle.dj_image_effects.specs.Frugal.{FrugalOnHeap}
+use Rattle.dj_image_effects.proofs.Frugal.{makes_nothing}
+use Rattle.dj_image_effects.proofs.Actions.{plain_acted, values_else}
+use Rattle.dj_image_effects.proofs.plain.act_in_room.Goals as goal
 
 pub returns-in-LoadElement-clause-done : goal.returns-in-LoadElement-clause-done
 returns-in-LoadElement-clause-done c =

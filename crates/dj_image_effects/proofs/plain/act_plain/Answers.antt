@@ -1,8 +1,8 @@
 use Rattle.std.proofs.Common.{arith}
-use Rattle.dj_initialising.specs.Store.{store}
-use Rattle.dj_acting.specs.Acting.{machine}
-use Rattle.dj_acting.proofs.Frugal.{action_room}
-use Rattle.dj_acting.proofs.plain.act_plain.Goals as goal
+use Rattle.dj_initialisation.specs.Store.{store}
+use Rattle.dj_image_effects.specs.Acting.{machine}
+use Rattle.dj_image_effects.proofs.Frugal.{action_room}
+use Rattle.dj_image_effects.proofs.plain.act_plain.Goals as goal
 
 pub returns-then-not-has_room-clause-frugal : goal.returns-then-not-has_room-clause-frugal
 returns-then-not-has_room-clause-frugal c = λ statics literals are frugal.

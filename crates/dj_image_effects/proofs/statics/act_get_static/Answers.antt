@@ -1,9 +1,9 @@
 use Rattle.std.proofs.Common.{sym, subst, arith}
-use Rattle.dj_initialising.specs.Store.{store}
-use Rattle.dj_acting.specs.Acting.{ActsOnStatics, machine}
-use Rattle.dj_acting.proofs.Frugal.{static_room}
-use Rattle.dj_acting.proofs.StaticPlaces.{has_place, place_within, get_static_none, got_static}
-use Rattle.dj_acting.proofs.statics.act_get_static.Goals as goal
+use Rattle.dj_initialisation.specs.Store.{store}
+use Rattle.dj_image_effects.specs.Acting.{ActsOnStatics, machine}
+use Rattle.dj_image_effects.proofs.Frugal.{static_room}
+use Rattle.dj_image_effects.proofs.StaticPlaces.{has_place, place_within, get_static_none, got_static}
+use Rattle.dj_image_effects.proofs.statics.act_get_static.Goals as goal
 
 pub place-requires : goal.place-requires
 place-requires c = has_place _ c.args.places.now c.args.field.number c.requires.places c.requires.there

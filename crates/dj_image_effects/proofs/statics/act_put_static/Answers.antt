@@ -1,7 +1,7 @@
 use Rattle.std.proofs.Common.{sym, subst}
-use Rattle.dj_acting.specs.Acting.{ActsOnStatics}
-use Rattle.dj_acting.proofs.StaticPlaces.{has_place, place_within, put_static_none, put_static_so}
-use Rattle.dj_acting.proofs.statics.act_put_static.Goals as goal
+use Rattle.dj_image_effects.specs.Acting.{ActsOnStatics}
+use Rattle.dj_image_effects.proofs.StaticPlaces.{has_place, place_within, put_static_none, put_static_so}
+use Rattle.dj_image_effects.proofs.statics.act_put_static.Goals as goal
 
 pub place-requires : goal.place-requires
 place-requires c = has_place _ c.args.places.now c.args.field.number c.requires.places c.requires.there

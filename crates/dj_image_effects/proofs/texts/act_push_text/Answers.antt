@@ -1,9 +1,9 @@
 use Rattle.std.proofs.Common.{Some}
-use Rattle.dj_types.specs.Typed.{types_of}
+use Rattle.dj_numbering.specs.Typed.{types_of}
 use Rattle.dj_image.specs.Imaged.{typed_of}
-use Rattle.dj_acting.proofs.KnownHeaps.{text_known}
-use Rattle.dj_acting.proofs.Pushing.{string_within, text_on_literals}
-use Rattle.dj_acting.proofs.texts.act_push_text.Goals as goal
+use Rattle.dj_image_effects.proofs.KnownHeaps.{text_known}
+use Rattle.dj_image_effects.proofs.Pushing.{string_within, text_on_literals}
+use Rattle.dj_image_effects.proofs.texts.act_push_text.Goals as goal
 
 pub returns-clause-done : goal.returns-clause-done
 returns-clause-done c = λ units spells.

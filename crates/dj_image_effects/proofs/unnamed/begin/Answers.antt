@@ -1,13 +1,13 @@
 use Rattle.std.proofs.Common.{sym, ap, subst, ◌∙◌, arith}
 use Rattle.dj_model.specs.trusted.Instructions.{Instruction}
 use Rattle.dj_effects.specs.Actions.{action_view}
-use Rattle.dj_types.specs.Typed.{types_of}
+use Rattle.dj_numbering.specs.Typed.{types_of}
 use Rattle.dj_image.specs.Imaged.{typed_of}
-use Rattle.dj_acting.specs.Acting.{ActsOnHeap}
-use Rattle.dj_acting.specs.Begun.{BeginsBy}
-use Rattle.dj_acting.proofs.Actions.{plain_acted, values_else}
-use Rattle.dj_acting.proofs.BegunLaws.{begun_by, still_known}
-use Rattle.dj_acting.proofs.unnamed.begin.Goals as goal
+use Rattle.dj_image_effects.specs.Acting.{ActsOnHeap}
+use Rattle.dj_image_effects.specs.Begun.{BeginsBy}
+use Rattle.dj_image_effects.proofs.Actions.{plain_acted, values_else}
+use Rattle.dj_image_effects.proofs.BegunLaws.{begun_by, still_known}
+use Rattle.dj_image_effects.proofs.unnamed.begin.Goals as goal
 
 pub returns-in-LoadElement-clause-begins : goal.returns-in-LoadElement-clause-begins
 returns-in-LoadElement-clause-begins c =

@@ -1,6 +1,6 @@
 use Rattle.dj_model.specs.trusted.Instructions as model
-use Rattle.dj_acting.proofs.BegunLaws.{begun_by, left_number, left_some}
-use Rattle.dj_acting.proofs.unnamed.begin_length.Goals as goal
+use Rattle.dj_image_effects.proofs.BegunLaws.{begun_by, left_number, left_some}
+use Rattle.dj_image_effects.proofs.unnamed.begin_length.Goals as goal
 
 pub follow-requires-clause-some : goal.follow-requires-clause-some
 follow-requires-clause-some c = left_some c.args.image.now (model.ArrayLength) c.args.frames.now c.act_length-acted.new.frames c.args.heap.now c.args.heap.now c.act_length-acted.result c.requires.store c.act_length-acted.ensures c.requires.some

@@ -1,10 +1,10 @@
 use Rattle.dj_model.specs.trusted.Instructions as model
 use Rattle.dj_effects.specs.Actions.{access_view}
-use Rattle.dj_types.specs.Typed.{types_of}
+use Rattle.dj_numbering.specs.Typed.{types_of}
 use Rattle.dj_image.specs.Imaged.{typed_of}
-use Rattle.dj_acting.proofs.BegunLaws.{begun_by, begun_known, left_number, left_some}
-use Rattle.dj_acting.proofs.OperandFacts.{heap_is}
-use Rattle.dj_acting.proofs.unnamed.begin_store.Goals as goal
+use Rattle.dj_image_effects.proofs.BegunLaws.{begun_by, begun_known, left_number, left_some}
+use Rattle.dj_image_effects.proofs.OperandFacts.{heap_is}
+use Rattle.dj_image_effects.proofs.unnamed.begin_store.Goals as goal
 
 pub store_at_once-acted-requires : goal.store_at_once-acted-requires
 store_at_once-acted-requires c = heap_is c.args.image.now c.args.heap.now c.requires.known

@@ -1,14 +1,14 @@
-use Rattle.dj_types.specs.Typed.{types_of}
+use Rattle.dj_numbering.specs.Typed.{types_of}
 use Rattle.dj_image.specs.Imaged.{typed_of}
-use Rattle.dj_initialising.specs.Store.{store}
+use Rattle.dj_initialisation.specs.Store.{store}
 use Rattle.dj_stack.specs.Frames.{top_operands}
 use Rattle.dj_effects.specs.Actions.{access_view}
-use Rattle.dj_acting.specs.Acting.{machine}
-use Rattle.dj_acting.proofs.BegunLaws.{stored_known}
-use Rattle.dj_acting.proofs.Effects.{store_is}
-use Rattle.dj_acting.proofs.Families.{acted_on_heap}
-use Rattle.dj_acting.proofs.Takings.{taken_alike}
-use Rattle.dj_acting.proofs.unnamed.store_at_once.Goals as goal
+use Rattle.dj_image_effects.specs.Acting.{machine}
+use Rattle.dj_image_effects.proofs.BegunLaws.{stored_known}
+use Rattle.dj_image_effects.proofs.Effects.{store_is}
+use Rattle.dj_image_effects.proofs.Families.{acted_on_heap}
+use Rattle.dj_image_effects.proofs.Takings.{taken_alike}
+use Rattle.dj_image_effects.proofs.unnamed.store_at_once.Goals as goal
 
 pub returns-clause-done : goal.returns-clause-done
 returns-clause-done c =

@@ -1,18 +1,18 @@
 use Rattle.std.proofs.Common.{◌≡◌, ◌<◌, [], List, Option, length, subst, sym, ◌∙◌}
 use Rattle.std.specs.Prelude.{IfOk}
 use Rattle.dj_names.specs.declared.run.Charge.{Charge}
-use Rattle.dj_initialising.specs.Preparing.{parts}
-use Rattle.dj_initialising.specs.Store.{store}
-use Rattle.dj_turning.specs.Running.{IsRunning, Running}
-use Rattle.dj_turning.specs.Doing.{ActedSettles, IsStill, IsTop, IsUsed, PreparesNext, TurnsBy, doing}
-use Rattle.dj_acting.specs.Acting.{machine}
-use Rattle.dj_turning.proofs.ActedLaws.{acted_then}
-use Rattle.dj_turning.proofs.Performed.{still_of}
-use Rattle.dj_turning.specs.Frugal.{IsFrugalRun}
-use Rattle.dj_turning.proofs.ShortTables.{are_short}
-use Rattle.dj_turning.proofs.SoundRuns.{acting_frugal, frugal_for, loads_at, next_makes_none, ready_for}
-use Rattle.dj_turning.proofs.Tops.{next_is}
-use Rattle.dj_turning.proofs.acting.act_next.Goals as goal
+use Rattle.dj_initialisation.specs.Preparing.{parts}
+use Rattle.dj_initialisation.specs.Store.{store}
+use Rattle.dj_image_step.specs.Running.{IsRunning, Running}
+use Rattle.dj_image_step.specs.Doing.{ActedSettles, IsStill, IsTop, IsUsed, PreparesNext, TurnsBy, doing}
+use Rattle.dj_image_effects.specs.Acting.{machine}
+use Rattle.dj_image_step.proofs.ActedLaws.{acted_then}
+use Rattle.dj_image_step.proofs.Performed.{still_of}
+use Rattle.dj_image_step.specs.Frugal.{IsFrugalRun}
+use Rattle.dj_image_step.proofs.ShortTables.{are_short}
+use Rattle.dj_image_step.proofs.SoundRuns.{acting_frugal, frugal_for, loads_at, next_makes_none, ready_for}
+use Rattle.dj_image_step.proofs.Tops.{next_is}
+use Rattle.dj_image_step.proofs.acting.act_next.Goals as goal
 
 pub returns-clause-turns : goal.returns-clause-turns
 returns-clause-turns c = λ i reported.

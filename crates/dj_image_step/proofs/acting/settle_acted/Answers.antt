@@ -1,10 +1,10 @@
 use Rattle.std.proofs.Common.{sym, subst}
 use Rattle.dj_names.specs.declared.run.Outcome.TheVariants as outcomes
-use Rattle.dj_acting.specs.declared.acted.Acted.{Acted}
+use Rattle.dj_image_effects.specs.declared.acted.Acted.{Acted}
 use Rattle.dj_settling.specs.declared.settled.Settled.TheVariants as settles
 use Rattle.dj_settling.proofs.WayLaws.{as_ended}
-use Rattle.dj_turning.specs.Doing.{ActedSettles}
-use Rattle.dj_turning.proofs.acting.settle_acted.Goals as goal
+use Rattle.dj_image_step.specs.Doing.{ActedSettles}
+use Rattle.dj_image_step.proofs.acting.settle_acted.Goals as goal
 
 pub returns-in-Link-clause-settles : goal.returns-in-Link-clause-settles
 returns-in-Link-clause-settles c =

@@ -2,18 +2,18 @@ use Rattle.std.proofs.Common.{◌≡◌, ◌<◌, length, sym, subst}
 use Rattle.std.specs.Prelude.{IfOk}
 use Rattle.dj_model.specs.trusted.Instructions.{Invoke}
 use Rattle.dj_stack.specs.Frames.{top_method}
-use Rattle.dj_linking.specs.Linked.{class_name}
+use Rattle.dj_resolution.specs.Linked.{class_name}
 use Rattle.dj_host.specs.trusted.Hosted.{given_since}
 use Rattle.dj_image.specs.Imaged.{program_of}
-use Rattle.dj_activations.specs.Activations.{declared_at}
-use Rattle.dj_initialising.specs.Preparing.{parts}
-use Rattle.dj_initialising.specs.Store.{store}
-use Rattle.dj_invoking.specs.Natives.{AreNatives}
+use Rattle.dj_current_method.specs.Activations.{declared_at}
+use Rattle.dj_initialisation.specs.Preparing.{parts}
+use Rattle.dj_initialisation.specs.Store.{store}
+use Rattle.dj_invocation.specs.Natives.{AreNatives}
 use Rattle.dj_settling.specs.Settling.{IsStop}
-use Rattle.dj_turning.specs.Running.{Kept, Running}
-use Rattle.dj_turning.specs.Doing.{IsStill, TurnsBy, doing}
-use Rattle.dj_turning.proofs.Called.{invoked_begun}
-use Rattle.dj_turning.proofs.calling.call.Goals as goal
+use Rattle.dj_image_step.specs.Running.{Kept, Running}
+use Rattle.dj_image_step.specs.Doing.{IsStill, TurnsBy, doing}
+use Rattle.dj_image_step.proofs.Called.{invoked_begun}
+use Rattle.dj_image_step.proofs.calling.call.Goals as goal
 
 pub invoke-requires-clause-natives : goal.invoke-requires-clause-natives
 invoke-requires-clause-natives g c = subst (λ (t : Kept). AreNatives c.args.image.now t.natives) (sym c.tables.view_is) c.requires.kept.natives

@@ -1,20 +1,20 @@
 use Rattle.std.proofs.Common.{[], Option, subst, sym}
 use Rattle.dj_host.specs.trusted.Hosted.{given_since}
-use Rattle.dj_invoking.specs.declared.answers.Invoked.TheVariants as invoked
+use Rattle.dj_invocation.specs.declared.answers.Invoked.TheVariants as invoked
 use Rattle.dj_settling.specs.Settling.{Settles, raising}
-use Rattle.dj_initialising.specs.Preparing.{parts}
-use Rattle.dj_initialising.specs.Store.{store}
+use Rattle.dj_initialisation.specs.Preparing.{parts}
+use Rattle.dj_initialisation.specs.Store.{store}
 use Rattle.std.specs.Prelude.{IfOk}
 use Rattle.dj_names.specs.declared.run.Charge.{Charge}
 use Rattle.dj_names.specs.declared.run.Outcome.TheVariants as outcomes
 use Rattle.dj_model.specs.trusted.Instructions.{Invoke}
 use Rattle.dj_settling.specs.declared.settled.Settled.TheVariants as settles
-use Rattle.dj_turning.specs.Running.{Running}
-use Rattle.dj_turning.specs.Doing.{TurnsBy, doing}
-use Rattle.dj_turning.specs.Calling.{IsInvoked, before}
-use Rattle.dj_turning.proofs.Called.{calls_native, deep_turns, entered_turns, link_turns, native_before, native_given, native_quiet, native_some, native_still, raised_stand, raised_then}
-use Rattle.dj_turning.proofs.Performed.{none_then, none_turns}
-use Rattle.dj_turning.proofs.calling.settle_call.Goals as goal
+use Rattle.dj_image_step.specs.Running.{Running}
+use Rattle.dj_image_step.specs.Doing.{TurnsBy, doing}
+use Rattle.dj_image_step.specs.Calling.{IsInvoked, before}
+use Rattle.dj_image_step.proofs.Called.{calls_native, deep_turns, entered_turns, link_turns, native_before, native_given, native_quiet, native_some, native_still, raised_stand, raised_then}
+use Rattle.dj_image_step.proofs.Performed.{none_then, none_turns}
+use Rattle.dj_image_step.proofs.calling.settle_call.Goals as goal
 
 pub returns-in-Entered-clause-turns : goal.returns-in-Entered-clause-turns
 returns-in-Entered-clause-turns g c = λ old called m is.

@@ -1,8 +1,8 @@
 use Rattle.std.proofs.Common.{[], Option, Some, subst, sym}
-use Rattle.dj_calls.specs.Counting.{Counter}
-use Rattle.dj_turning.specs.Natives.{AnswersNative}
-use Rattle.dj_turning.proofs.HostLaws.{plain_answers}
-use Rattle.dj_turning.proofs.hosting.answer_plainly.Goals as goal
+use Rattle.dj_natives.specs.Counting.{Counter}
+use Rattle.dj_image_step.specs.Natives.{AnswersNative}
+use Rattle.dj_image_step.proofs.HostLaws.{plain_answers}
+use Rattle.dj_image_step.proofs.hosting.answer_plainly.Goals as goal
 
 pub returns-in-Some : goal.returns-in-Some
 returns-in-Some c =

@@ -1,5 +1,5 @@
-use Rattle.dj_turning.proofs.HostLaws.{quietly_asked}
-use Rattle.dj_turning.proofs.hosting.ask.Goals as goal
+use Rattle.dj_image_step.proofs.HostLaws.{quietly_asked}
+use Rattle.dj_image_step.proofs.hosting.ask.Goals as goal
 
 pub returns-in-None-clause-quiet : goal.returns-in-None-clause-quiet
 returns-in-None-clause-quiet g c =

@@ -3,14 +3,14 @@ use Rattle.std.specs.Prelude.{IfOk}
 use Rattle.dj_names.specs.declared.run.Charge.{Charge}
 use Rattle.dj_names.specs.declared.run.Value.{Value}
 use Rattle.dj_host.specs.trusted.Hosted.{given_since}
-use Rattle.dj_initialising.specs.Preparing.{parts}
-use Rattle.dj_initialising.specs.Store.{store}
+use Rattle.dj_initialisation.specs.Preparing.{parts}
+use Rattle.dj_initialisation.specs.Store.{store}
 use Rattle.dj_settling.specs.Settling.{IsStop}
-use Rattle.dj_turning.specs.Running.{Running, account_of}
-use Rattle.dj_turning.specs.Doing.{IsStill, TurnsBy, doing}
-use Rattle.dj_turning.specs.Natives.{AnswersNative, CallsNative, NativeSettles, arguments_in}
-use Rattle.dj_turning.proofs.Answered.{mid_stop, native_then}
-use Rattle.dj_turning.proofs.natives.call_method.Goals as goal
+use Rattle.dj_image_step.specs.Running.{Running, account_of}
+use Rattle.dj_image_step.specs.Doing.{IsStill, TurnsBy, doing}
+use Rattle.dj_image_step.specs.Natives.{AnswersNative, CallsNative, NativeSettles, arguments_in}
+use Rattle.dj_image_step.proofs.Answered.{mid_stop, native_then}
+use Rattle.dj_image_step.proofs.natives.call_method.Goals as goal
 
 pub settle_answer-requires-clause-is : goal.settle_answer-requires-clause-is
 settle_answer-requires-clause-is g c =

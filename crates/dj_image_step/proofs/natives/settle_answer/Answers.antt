@@ -1,5 +1,5 @@
-use Rattle.dj_turning.proofs.Answered.{settles_then}
-use Rattle.dj_turning.proofs.natives.settle_answer.Goals as goal
+use Rattle.dj_image_step.proofs.Answered.{settles_then}
+use Rattle.dj_image_step.proofs.natives.settle_answer.Goals as goal
 
 pub returns-clause-settles : goal.returns-clause-settles
 returns-clause-settles c =

@@ -1,17 +1,17 @@
 use Rattle.std.proofs.Common.{◌≡◌, Some, subst, sym, ◌∙◌}
 use Rattle.std.specs.Prelude.{IfOk}
 use Rattle.dj_model.specs.trusted.Instructions.{Instruction}
-use Rattle.dj_activations.specs.Instructions.{instruction_of_number}
-use Rattle.dj_initialising.specs.Preparing.{parts}
-use Rattle.dj_initialising.specs.Store.{store}
-use Rattle.dj_initialising.specs.declared.prepare.Prepared.TheVariants as prepares
-use Rattle.dj_initialising.proofs.PrepareLaws.{prepared_already}
-use Rattle.dj_turning.specs.Running.{IsRunning, Running}
-use Rattle.dj_turning.specs.Doing.{IsUsed, PreparesNext}
-use Rattle.dj_turning.specs.Frugal.{IsFrugalRun}
-use Rattle.dj_turning.proofs.Prepared.{prepared_class, prepared_then}
-use Rattle.dj_turning.proofs.SoundRuns.{loads_at, never_waits, next_makes_none}
-use Rattle.dj_turning.proofs.preparing.prepare.Goals as goal
+use Rattle.dj_current_method.specs.Instructions.{instruction_of_number}
+use Rattle.dj_initialisation.specs.Preparing.{parts}
+use Rattle.dj_initialisation.specs.Store.{store}
+use Rattle.dj_initialisation.specs.declared.prepare.Prepared.TheVariants as prepares
+use Rattle.dj_initialisation.proofs.PrepareLaws.{prepared_already}
+use Rattle.dj_image_step.specs.Running.{IsRunning, Running}
+use Rattle.dj_image_step.specs.Doing.{IsUsed, PreparesNext}
+use Rattle.dj_image_step.specs.Frugal.{IsFrugalRun}
+use Rattle.dj_image_step.proofs.Prepared.{prepared_class, prepared_then}
+use Rattle.dj_image_step.proofs.SoundRuns.{loads_at, never_waits, next_makes_none}
+use Rattle.dj_image_step.proofs.preparing.prepare.Goals as goal
 
 pub returns-in_err-class-clause-frugal : goal.returns-in_err-class-clause-frugal
 returns-in_err-class-clause-frugal c = λ n.

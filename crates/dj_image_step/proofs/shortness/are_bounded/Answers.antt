@@ -1,6 +1,6 @@
 use Rattle.std.proofs.Common.{arith}
-use Rattle.dj_turning.proofs.ShortTables.{all_bounded, none_below, one_more}
-use Rattle.dj_turning.proofs.shortness.are_bounded.Goals as goal
+use Rattle.dj_image_step.proofs.ShortTables.{all_bounded, none_below, one_more}
+use Rattle.dj_image_step.proofs.shortness.are_bounded.Goals as goal
 
 pub loop-number-init : goal.loop-number-init
 loop-number-init c = none_below c.args.image.now

@@ -1,5 +1,5 @@
-use Rattle.dj_turning.proofs.ShortTables.{AreBoundedBelow}
-use Rattle.dj_turning.proofs.shortness.are_bounded.Given as goal
+use Rattle.dj_image_step.proofs.ShortTables.{AreBoundedBelow}
+use Rattle.dj_image_step.proofs.shortness.are_bounded.Given as goal
 
 -- the methods so far
 abbrev pub invariant-loop-number : goal.invariant-loop-number

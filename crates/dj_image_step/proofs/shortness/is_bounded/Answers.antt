@@ -1,7 +1,7 @@
 use Rattle.std.proofs.Common.{subst}
 use Rattle.dj_image.specs.Codes.{IsBodyAt}
-use Rattle.dj_turning.proofs.ShortTables.{bounded_code}
-use Rattle.dj_turning.proofs.shortness.is_bounded.Goals as goal
+use Rattle.dj_image_step.proofs.ShortTables.{bounded_code}
+use Rattle.dj_image_step.proofs.shortness.is_bounded.Goals as goal
 
 pub returns-then-is_short : goal.returns-then-is_short
 returns-then-is_short c = λ loads.

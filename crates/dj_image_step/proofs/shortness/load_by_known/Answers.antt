@@ -2,9 +2,9 @@ use Rattle.std.proofs.Common.{◌≡◌, List, Some, sym, ap, subst, ◌∙◌, 
 use Rattle.std.specs.Prelude.{slice_get}
 use Rattle.std.proofs.lemmas.Option.{slice_get-get_or, slice_get_within}
 use Rattle.dj_ops.specs.declared.instruction.Instr.{Instr}
-use Rattle.dj_turning.specs.Short.{LoadByKnown}
-use Rattle.dj_turning.proofs.ShortTables.{one_load}
-use Rattle.dj_turning.proofs.shortness.load_by_known.Goals as goal
+use Rattle.dj_image_step.specs.Short.{LoadByKnown}
+use Rattle.dj_image_step.proofs.ShortTables.{one_load}
+use Rattle.dj_image_step.proofs.shortness.load_by_known.Goals as goal
 
 pub loop-instr-init : goal.loop-instr-init
 loop-instr-init c = λ number op index less at. absurd (omega (arith, less))

@@ -1,5 +1,5 @@
-use Rattle.dj_turning.proofs.TableLaws.{kept}
-use Rattle.dj_turning.proofs.tables.tables_of.Goals as goal
+use Rattle.dj_image_step.proofs.TableLaws.{kept}
+use Rattle.dj_image_step.proofs.tables.tables_of.Goals as goal
 
 pub returns : goal.returns
 returns c =

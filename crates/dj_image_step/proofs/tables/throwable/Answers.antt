@@ -1,5 +1,5 @@
-use Rattle.dj_turning.proofs.TableLaws.{throwable_reported}
-use Rattle.dj_turning.proofs.tables.throwable.Goals as goal
+use Rattle.dj_image_step.proofs.TableLaws.{throwable_reported}
+use Rattle.dj_image_step.proofs.tables.throwable.Goals as goal
 
 pub returns : goal.returns
 returns c =

@@ -1,15 +1,15 @@
 use Rattle.std.proofs.Common.{◌≡◌, ◌<◌, [], List, Option, length, subst, sym}
 use Rattle.std.specs.Prelude.{IfOk}
 use Rattle.dj_names.specs.declared.run.Charge.{Charge}
-use Rattle.dj_initialising.specs.Preparing.{parts}
-use Rattle.dj_initialising.specs.Store.{store}
-use Rattle.dj_turning.specs.Running.{IsRunning, Running}
-use Rattle.dj_turning.specs.Doing.{ActedSettles, IsStill, IsTop, IsUsed, PreparesNext, TurnsBy, doing}
-use Rattle.dj_turning.proofs.Prepared.{next_turns}
-use Rattle.dj_turning.proofs.Performed.{none_then, own_class, still_of}
-use Rattle.dj_turning.proofs.SoundRuns.{never_called}
-use Rattle.dj_turning.proofs.UsedLaws.{site_within}
-use Rattle.dj_turning.proofs.turning.perform.Goals as goal
+use Rattle.dj_initialisation.specs.Preparing.{parts}
+use Rattle.dj_initialisation.specs.Store.{store}
+use Rattle.dj_image_step.specs.Running.{IsRunning, Running}
+use Rattle.dj_image_step.specs.Doing.{ActedSettles, IsStill, IsTop, IsUsed, PreparesNext, TurnsBy, doing}
+use Rattle.dj_image_step.proofs.Prepared.{next_turns}
+use Rattle.dj_image_step.proofs.Performed.{none_then, own_class, still_of}
+use Rattle.dj_image_step.proofs.SoundRuns.{never_called}
+use Rattle.dj_image_step.proofs.UsedLaws.{site_within}
+use Rattle.dj_image_step.proofs.turning.perform.Goals as goal
 
 pub call-requires-clause-still : goal.call-requires-clause-still
 call-requires-clause-still g c = still_of _ _ c.requires.running

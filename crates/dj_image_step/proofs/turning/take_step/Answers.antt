@@ -1,11 +1,11 @@
 use Rattle.std.proofs.Common.{subst}
 use Rattle.dj_names.specs.declared.run.Outcome.TheVariants as outcomes
 use Rattle.dj_settling.specs.declared.settled.Settled.TheVariants as settles
-use Rattle.dj_turning.specs.Doing.{PreparesNext, stepping}
-use Rattle.dj_turning.proofs.Prepared.{deep_turns, full_turns, ready_running, ready_then, waits_turns}
-use Rattle.dj_turning.proofs.Performed.{none_turns}
-use Rattle.dj_turning.proofs.SoundRuns.{still_frugal}
-use Rattle.dj_turning.proofs.turning.take_step.Goals as goal
+use Rattle.dj_image_step.specs.Doing.{PreparesNext, stepping}
+use Rattle.dj_image_step.proofs.Prepared.{deep_turns, full_turns, ready_running, ready_then, waits_turns}
+use Rattle.dj_image_step.proofs.Performed.{none_turns}
+use Rattle.dj_image_step.proofs.SoundRuns.{still_frugal}
+use Rattle.dj_image_step.proofs.turning.take_step.Goals as goal
 
 pub perform-requires-clause-running : goal.perform-requires-clause-running
 perform-requires-clause-running g c = ready_running _ _ _ c.requires.running (subst (PreparesNext _ _ _) c.in-Ready.is c.in_ok-prepare.ensures.prepares)

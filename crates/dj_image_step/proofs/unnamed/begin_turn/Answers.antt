@@ -1,12 +1,12 @@
 use Rattle.std.proofs.Common.{subst, sym}
 use Rattle.dj_effects.specs.Actions.{action_view}
-use Rattle.dj_initialising.specs.Preparing.{parts}
-use Rattle.dj_initialising.specs.Store.{store}
-use Rattle.dj_turning.specs.Begun.{Begins, with_heap}
-use Rattle.dj_turning.specs.Running.{IsRunning, Running}
-use Rattle.dj_turning.proofs.BegunLaws.{begins_so, begun_so, frugal_so}
-use Rattle.dj_turning.proofs.UnnamedLaws.{none_called, none_used, unnamed_at}
-use Rattle.dj_turning.proofs.unnamed.begin_turn.Goals as goal
+use Rattle.dj_initialisation.specs.Preparing.{parts}
+use Rattle.dj_initialisation.specs.Store.{store}
+use Rattle.dj_image_step.specs.Begun.{Begins, with_heap}
+use Rattle.dj_image_step.specs.Running.{IsRunning, Running}
+use Rattle.dj_image_step.proofs.BegunLaws.{begins_so, begun_so, frugal_so}
+use Rattle.dj_image_step.proofs.UnnamedLaws.{none_called, none_used, unnamed_at}
+use Rattle.dj_image_step.proofs.unnamed.begin_turn.Goals as goal
 
 pub begin-requires-clause-store : goal.begin-requires-clause-store
 begin-requires-clause-store c =

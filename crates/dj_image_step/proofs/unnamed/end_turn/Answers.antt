@@ -1,7 +1,7 @@
 use Rattle.std.proofs.Common.{subst}
-use Rattle.dj_turning.specs.Begun.{Begins, IsBegun, IsFrugalBegun}
-use Rattle.dj_turning.proofs.BegunLaws.{begun_went, nothing_then, settled_then}
-use Rattle.dj_turning.proofs.unnamed.end_turn.Goals as goal
+use Rattle.dj_image_step.specs.Begun.{Begins, IsBegun, IsFrugalBegun}
+use Rattle.dj_image_step.proofs.BegunLaws.{begun_went, nothing_then, settled_then}
+use Rattle.dj_image_step.proofs.unnamed.end_turn.Goals as goal
 
 pub take_step-requires-clause-running : goal.take_step-requires-clause-running
 take_step-requires-clause-running g c = subst (IsBegun c.args.image.now c.args.run.now) c.in-Nothing.is c.requires.begun

@@ -1,15 +1,15 @@
 use Rattle.std.proofs.Common.{Option, subst, sym}
 use Rattle.std.specs.Prelude.{IfOk}
 use Rattle.dj_names.specs.declared.run.Charge.{Charge}
-use Rattle.dj_initialising.specs.Preparing.{parts}
-use Rattle.dj_initialising.specs.Store.{store}
-use Rattle.dj_acting.specs.declared.begun.Begun.TheVariants as begins
-use Rattle.dj_turning.specs.Begun.{IsBegun, IsLeft}
-use Rattle.dj_turning.specs.Running.{Running}
-use Rattle.dj_turning.specs.Doing.{ActedSettles}
-use Rattle.dj_turning.proofs.BegunLaws.{begun_known, begun_ready, begun_some, begun_stand, left_frugal, left_then}
-use Rattle.dj_turning.proofs.ShortTables.{are_short}
-use Rattle.dj_turning.proofs.unnamed.settle_left.Goals as goal
+use Rattle.dj_initialisation.specs.Preparing.{parts}
+use Rattle.dj_initialisation.specs.Store.{store}
+use Rattle.dj_image_effects.specs.declared.begun.Begun.TheVariants as begins
+use Rattle.dj_image_step.specs.Begun.{IsBegun, IsLeft}
+use Rattle.dj_image_step.specs.Running.{Running}
+use Rattle.dj_image_step.specs.Doing.{ActedSettles}
+use Rattle.dj_image_step.proofs.BegunLaws.{begun_known, begun_ready, begun_some, begun_stand, left_frugal, left_then}
+use Rattle.dj_image_step.proofs.ShortTables.{are_short}
+use Rattle.dj_image_step.proofs.unnamed.settle_left.Goals as goal
 
 pub settle_acted-requires-clause-stand : goal.settle_acted-requires-clause-stand
 settle_acted-requires-clause-stand c =

@@ -1,7 +1,7 @@
 use Rattle.std.proofs.Common.{◌≡◌, ◌∙◌}
-use Rattle.dj_invoking.specs.declared.choosing.Mode.TheVariants as modes
-use Rattle.dj_turning.proofs.UsedLaws.{called_plainly, static_used}
-use Rattle.dj_turning.proofs.uses.called_class.Goals as goal
+use Rattle.dj_invocation.specs.declared.choosing.Mode.TheVariants as modes
+use Rattle.dj_image_step.proofs.UsedLaws.{called_plainly, static_used}
+use Rattle.dj_image_step.proofs.uses.called_class.Goals as goal
 
 pub returns-in-Static : goal.returns-in-Static
 returns-in-Static c = λ called m resolved e resolves is.

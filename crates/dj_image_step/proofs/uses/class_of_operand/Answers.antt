@@ -1,9 +1,9 @@
 use Rattle.std.proofs.Common.{ap, subst, sym, ◌∙◌}
 use Rattle.std.proofs.lemmas.Bool.{false≢true}
 use Rattle.dj_image.specs.declared.operand.Operand.{Operand}
-use Rattle.dj_turning.specs.Uses.{IsOperandNamed, is_given}
-use Rattle.dj_turning.proofs.UsedLaws.{field_there, is_plain, plain_used}
-use Rattle.dj_turning.proofs.uses.class_of_operand.Goals as goal
+use Rattle.dj_image_step.specs.Uses.{IsOperandNamed, is_given}
+use Rattle.dj_image_step.proofs.UsedLaws.{field_there, is_plain, plain_used}
+use Rattle.dj_image_step.proofs.uses.class_of_operand.Goals as goal
 
 pub static_class-requires : goal.static_class-requires
 static_class-requires c =

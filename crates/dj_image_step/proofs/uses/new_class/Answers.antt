@@ -1,7 +1,7 @@
 use Rattle.std.proofs.Common.{sym, ◌∙◌}
-use Rattle.dj_acting.specs.declared.uses.ClassUse.TheVariants as classes
-use Rattle.dj_turning.proofs.UsedLaws.{class_used_by}
-use Rattle.dj_turning.proofs.uses.new_class.Goals as goal
+use Rattle.dj_image_effects.specs.declared.uses.ClassUse.TheVariants as classes
+use Rattle.dj_image_step.proofs.UsedLaws.{class_used_by}
+use Rattle.dj_image_step.proofs.uses.new_class.Goals as goal
 
 pub returns-in-New : goal.returns-in-New
 returns-in-New c = λ named is. class_used_by c.args.image.now c.args.instr.now c.args.class named classes.New (sym c.in-New.is ∙ c.class_use.ensures) is

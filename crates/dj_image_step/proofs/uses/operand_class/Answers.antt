@@ -1,7 +1,7 @@
-use Rattle.dj_activations.proofs.InstructionFacts.{has_instr}
-use Rattle.dj_turning.proofs.GivenOperands.{given_operand}
-use Rattle.dj_turning.proofs.UsedLaws.{named_then, operand_named}
-use Rattle.dj_turning.proofs.uses.operand_class.Goals as goal
+use Rattle.dj_current_method.proofs.InstructionFacts.{has_instr}
+use Rattle.dj_image_step.proofs.GivenOperands.{given_operand}
+use Rattle.dj_image_step.proofs.UsedLaws.{named_then, operand_named}
+use Rattle.dj_image_step.proofs.uses.operand_class.Goals as goal
 
 pub operand-operand-requires : goal.operand-operand-requires
 operand-operand-requires c =

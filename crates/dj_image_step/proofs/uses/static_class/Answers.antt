@@ -1,7 +1,7 @@
 use Rattle.std.proofs.Common.{refl, sym, ◌∙◌}
-use Rattle.dj_acting.specs.declared.uses.FieldUse.TheVariants as fields
-use Rattle.dj_turning.proofs.UsedLaws.{field_used_by, no_field_used}
-use Rattle.dj_turning.proofs.uses.static_class.Goals as goal
+use Rattle.dj_image_effects.specs.declared.uses.FieldUse.TheVariants as fields
+use Rattle.dj_image_step.proofs.UsedLaws.{field_used_by, no_field_used}
+use Rattle.dj_image_step.proofs.uses.static_class.Goals as goal
 
 pub returns-in-GetStatic : goal.returns-in-GetStatic
 returns-in-GetStatic c = λ named is. field_used_by c.args.image.now c.args.instr.now c.args.field.number c.field.result named fields.GetStatic (sym c.in-GetStatic.is ∙ c.field_use.ensures) is c.field.ensures

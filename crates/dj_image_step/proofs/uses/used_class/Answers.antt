@@ -1,5 +1,5 @@
-use Rattle.dj_turning.proofs.UsedLaws.{call_used, site_within}
-use Rattle.dj_turning.proofs.uses.used_class.Goals as goal
+use Rattle.dj_image_step.proofs.UsedLaws.{call_used, site_within}
+use Rattle.dj_image_step.proofs.uses.used_class.Goals as goal
 
 pub called_class-requires : goal.called_class-requires
 called_class-requires c = record { there = site_within c.args.image.now c.args.method.number c.args.number c.in-Some.site c.in-Some.ensures.calls }

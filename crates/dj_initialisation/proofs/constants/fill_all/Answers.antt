@@ -1,11 +1,11 @@
 use Rattle.std.proofs.Common.{◌<◌, ◌-◌, length, get_or, reverse, refl, subst, arith}
 use Rattle.std.proofs.lemmas.List.Elements.{All-get_or}
 use Rattle.dj_image.specs.Imaged.{program_of}
-use Rattle.dj_initialising.specs.declared.filled.Filled.{Filled}
-use Rattle.dj_initialising.specs.Store.{Fills, all_constants, class_constants, store}
-use Rattle.dj_initialising.proofs.PlaceLaws.{names_differ}
-use Rattle.dj_initialising.proofs.FieldLaws.{classes_end, classes_full, classes_on}
-use Rattle.dj_initialising.proofs.constants.fill_all.Goals as goal
+use Rattle.dj_initialisation.specs.declared.filled.Filled.{Filled}
+use Rattle.dj_initialisation.specs.Store.{Fills, all_constants, class_constants, store}
+use Rattle.dj_initialisation.proofs.PlaceLaws.{names_differ}
+use Rattle.dj_initialisation.proofs.FieldLaws.{classes_end, classes_full, classes_on}
+use Rattle.dj_initialisation.proofs.constants.fill_all.Goals as goal
 
 pub returns-in-HeapFull : goal.returns-in-HeapFull
 returns-in-HeapFull c =

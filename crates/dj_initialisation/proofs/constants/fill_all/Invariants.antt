@@ -1,6 +1,6 @@
 use Rattle.std.proofs.Common.{drop, reverse}
-use Rattle.dj_initialising.specs.Store.{Leads, all_constants, store}
-use Rattle.dj_initialising.proofs.constants.fill_all.Given as goal
+use Rattle.dj_initialisation.specs.Store.{Leads, all_constants, store}
+use Rattle.dj_initialisation.proofs.constants.fill_all.Given as goal
 
 abbrev pub invariant-loop-turn : goal.invariant-loop-turn
 invariant-loop-turn l =

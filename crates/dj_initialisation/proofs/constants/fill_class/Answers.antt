@@ -1,12 +1,12 @@
 use Rattle.std.proofs.Common.{ap, subst, length}
 use Rattle.std.specs.Option.{option_map}
-use Rattle.dj_classes.specs.Tables.{fields_at}
-use Rattle.dj_types.specs.Members.{fields_before, number_of_field}
+use Rattle.dj_class_table.specs.Tables.{fields_at}
+use Rattle.dj_numbering.specs.Members.{fields_before, number_of_field}
 use Rattle.dj_image.specs.Imaged.{program_of}
-use Rattle.dj_initialising.specs.declared.filled.Filled.{Filled}
-use Rattle.dj_initialising.specs.Store.{FillsField, class_constants, store}
-use Rattle.dj_initialising.proofs.FieldLaws.{class_end, class_full, class_on, field_reported, number_within, unreported_if}
-use Rattle.dj_initialising.proofs.constants.fill_class.Goals as goal
+use Rattle.dj_initialisation.specs.declared.filled.Filled.{Filled}
+use Rattle.dj_initialisation.specs.Store.{FillsField, class_constants, store}
+use Rattle.dj_initialisation.proofs.FieldLaws.{class_end, class_full, class_on, field_reported, number_within, unreported_if}
+use Rattle.dj_initialisation.proofs.constants.fill_class.Goals as goal
 
 pub returns-in_default : goal.returns-in_default
 returns-in_default c =

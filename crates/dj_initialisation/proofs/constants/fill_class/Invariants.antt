@@ -1,9 +1,9 @@
 use Rattle.std.proofs.Common.{drop}
-use Rattle.dj_classes.specs.Tables.{fields_at}
-use Rattle.dj_linking.specs.Linked.{class_name}
+use Rattle.dj_class_table.specs.Tables.{fields_at}
+use Rattle.dj_resolution.specs.Linked.{class_name}
 use Rattle.dj_image.specs.Imaged.{program_of}
-use Rattle.dj_initialising.specs.Store.{Leads, class_constants, constants_from, store}
-use Rattle.dj_initialising.proofs.constants.fill_class.Given as goal
+use Rattle.dj_initialisation.specs.Store.{Leads, class_constants, constants_from, store}
+use Rattle.dj_initialisation.proofs.constants.fill_class.Given as goal
 
 abbrev pub invariant-loop-at : goal.invariant-loop-at
 invariant-loop-at l =

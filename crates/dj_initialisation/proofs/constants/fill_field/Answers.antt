@@ -1,8 +1,8 @@
 use Rattle.std.proofs.Common.{sym}
-use Rattle.dj_initialising.specs.Store.{FillsConstant, FillsField, store}
-use Rattle.dj_initialising.proofs.Members.{if_ok_map}
-use Rattle.dj_initialising.proofs.FieldLaws.{place_there, static_filled}
-use Rattle.dj_initialising.proofs.constants.fill_field.Goals as goal
+use Rattle.dj_initialisation.specs.Store.{FillsConstant, FillsField, store}
+use Rattle.dj_initialisation.proofs.Members.{if_ok_map}
+use Rattle.dj_initialisation.proofs.FieldLaws.{place_there, static_filled}
+use Rattle.dj_initialisation.proofs.constants.fill_field.Goals as goal
 
 pub set_constant-requires-clause-place : goal.set_constant-requires-clause-place
 set_constant-requires-clause-place c =

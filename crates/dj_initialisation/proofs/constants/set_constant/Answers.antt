@@ -1,11 +1,11 @@
 use Rattle.std.proofs.Common.{Some}
 use Rattle.dj_model.specs.trusted.Program.{Text}
-use Rattle.dj_members.specs.Literals.{text_at}
-use Rattle.dj_initialising.specs.Store.{Fills, FillsConstant, one_constant, store}
-use Rattle.dj_initialising.proofs.Members.{if_ok_map}
-use Rattle.dj_initialising.proofs.StoreLaws.{text_constant, text_known}
-use Rattle.dj_initialising.proofs.FieldLaws.{nothing_set}
-use Rattle.dj_initialising.proofs.constants.set_constant.Goals as goal
+use Rattle.dj_member_effects.specs.Literals.{text_at}
+use Rattle.dj_initialisation.specs.Store.{Fills, FillsConstant, one_constant, store}
+use Rattle.dj_initialisation.proofs.Members.{if_ok_map}
+use Rattle.dj_initialisation.proofs.StoreLaws.{text_constant, text_known}
+use Rattle.dj_initialisation.proofs.FieldLaws.{nothing_set}
+use Rattle.dj_initialisation.proofs.constants.set_constant.Goals as goal
 
 pub set_text-requires-clause-known : goal.set_text-requires-clause-known
 set_text-requires-clause-known c = text_known c.args.image.now c.args.field.number c.in-Text.text c.in-Text.ensures

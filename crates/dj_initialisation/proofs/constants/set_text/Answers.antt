@@ -1,8 +1,8 @@
 use Rattle.std.proofs.Common.{subst}
-use Rattle.dj_members.specs.Literals.{Keeps}
-use Rattle.dj_members.specs.declared.literals.Kept as keeping
-use Rattle.dj_initialising.proofs.StoreLaws.{text_set, text_full, units_reported}
-use Rattle.dj_initialising.proofs.constants.set_text.Goals as goal
+use Rattle.dj_member_effects.specs.Literals.{Keeps}
+use Rattle.dj_member_effects.specs.declared.literals.Kept as keeping
+use Rattle.dj_initialisation.proofs.StoreLaws.{text_set, text_full, units_reported}
+use Rattle.dj_initialisation.proofs.constants.set_text.Goals as goal
 
 pub returns-in-Object : goal.returns-in-Object
 returns-in-Object c =

@@ -1,11 +1,11 @@
 use Rattle.std.proofs.Common.{sym, ap, ◌∙◌, length}
 use Rattle.std.specs.Option.{option_map}
-use Rattle.dj_classes.specs.Tables.{methods_at}
-use Rattle.dj_types.specs.Members.{methods_before, number_of_method}
+use Rattle.dj_class_table.specs.Tables.{methods_at}
+use Rattle.dj_numbering.specs.Members.{methods_before, number_of_method}
 use Rattle.dj_image.specs.Imaged.{program_of}
-use Rattle.dj_initialising.proofs.FieldLaws.{unreported_if}
-use Rattle.dj_initialising.proofs.InitialiserLaws.{found_so, method_number_within, method_reported, none_more, none_there, other_named}
-use Rattle.dj_initialising.proofs.initialisers.initialiser_of.Goals as goal
+use Rattle.dj_initialisation.proofs.FieldLaws.{unreported_if}
+use Rattle.dj_initialisation.proofs.InitialiserLaws.{found_so, method_number_within, method_reported, none_more, none_there, other_named}
+use Rattle.dj_initialisation.proofs.initialisers.initialiser_of.Goals as goal
 
 pub returns-in_default : goal.returns-in_default
 returns-in_default c = λ lt.

@@ -1,12 +1,12 @@
 use Rattle.std.proofs.Common.{ℕ, ◌+◌, ap, ◌∙◌}
 use Rattle.std.specs.Option.{option_map}
-use Rattle.dj_classes.specs.Tables.{fields_at}
-use Rattle.dj_types.specs.Members.{number_of_field}
+use Rattle.dj_class_table.specs.Tables.{fields_at}
+use Rattle.dj_numbering.specs.Members.{number_of_field}
 use Rattle.dj_image.specs.Imaged.{program_of}
-use Rattle.dj_initialising.specs.Places.{one_if_static}
-use Rattle.dj_initialising.proofs.FieldLaws.{field_reported, number_within, same_flags}
-use Rattle.dj_initialising.proofs.PlaceLaws.{counted_more}
-use Rattle.dj_initialising.proofs.places.add_class.Goals as goal
+use Rattle.dj_initialisation.specs.Places.{one_if_static}
+use Rattle.dj_initialisation.proofs.FieldLaws.{field_reported, number_within, same_flags}
+use Rattle.dj_initialisation.proofs.PlaceLaws.{counted_more}
+use Rattle.dj_initialisation.proofs.places.add_class.Goals as goal
 
 pub field-requires : goal.field-requires
 field-requires c =

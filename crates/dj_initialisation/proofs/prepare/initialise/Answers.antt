@@ -1,14 +1,14 @@
 use Rattle.std.proofs.Common.{ℕ, List, reverse, sym, subst, ◌∙◌}
-use Rattle.dj_types.specs.Typed.{types_of}
+use Rattle.dj_numbering.specs.Typed.{types_of}
 use Rattle.dj_image.specs.Imaged.{typed_of}
-use Rattle.dj_calls.specs.Known.{AreKnown}
-use Rattle.dj_initialising.specs.declared.filled.Filled.{Filled}
-use Rattle.dj_initialising.specs.declared.filled.Filled.TheVariants as filled
-use Rattle.dj_initialising.specs.Preparing.{Prepares, Pushes, parts}
-use Rattle.dj_initialising.specs.Store.{Fills, all_constants, store}
-use Rattle.dj_initialising.proofs.Members.{if_ok_map}
-use Rattle.dj_initialising.proofs.PrepareLaws.{prepared_already, prepared_full, prepared_on}
-use Rattle.dj_initialising.proofs.prepare.initialise.Goals as goal
+use Rattle.dj_natives.specs.Known.{AreKnown}
+use Rattle.dj_initialisation.specs.declared.filled.Filled.{Filled}
+use Rattle.dj_initialisation.specs.declared.filled.Filled.TheVariants as filled
+use Rattle.dj_initialisation.specs.Preparing.{Prepares, Pushes, parts}
+use Rattle.dj_initialisation.specs.Store.{Fills, all_constants, store}
+use Rattle.dj_initialisation.proofs.Members.{if_ok_map}
+use Rattle.dj_initialisation.proofs.PrepareLaws.{prepared_already, prepared_full, prepared_on}
+use Rattle.dj_initialisation.proofs.prepare.initialise.Goals as goal
 
 pub returns-then-has_begun-clause-prepares : goal.returns-then-has_begun-clause-prepares
 returns-then-has_begun-clause-prepares c =

@@ -1,8 +1,8 @@
 use Rattle.std.proofs.Common.{ℕ, ◌+◌, take, get_or, sym, ap, ◌∙◌, arith}
 use Rattle.std.proofs.lemmas.List.{take_more}
-use Rattle.dj_initialising.specs.Initialisers.{initialiser_count, one_if}
-use Rattle.dj_initialising.proofs.InitialiserLaws.{at_most_one, count_push}
-use Rattle.dj_initialising.proofs.pushing.count_of.Goals as goal
+use Rattle.dj_initialisation.specs.Initialisers.{initialiser_count, one_if}
+use Rattle.dj_initialisation.proofs.InitialiserLaws.{at_most_one, count_push}
+use Rattle.dj_initialisation.proofs.pushing.count_of.Goals as goal
 
 pub loop-class-preserved : goal.loop-class-preserved
 loop-class-preserved c =

@@ -1,6 +1,6 @@
 use Rattle.std.proofs.Common.{◌≡◌, ◌≤◌, take}
-use Rattle.dj_initialising.specs.Initialisers.{initialiser_count}
-use Rattle.dj_initialising.proofs.pushing.count_of.Given as goal
+use Rattle.dj_initialisation.specs.Initialisers.{initialiser_count}
+use Rattle.dj_initialisation.proofs.pushing.count_of.Given as goal
 
 abbrev pub invariant-loop-class : goal.invariant-loop-class
 invariant-loop-class l = record {

@@ -1,8 +1,8 @@
 use Rattle.std.proofs.Common.{ℕ, List, take, get_or, None, sym, ap, ◌∙◌}
 use Rattle.std.proofs.lemmas.List.{take_more}
-use Rattle.dj_initialising.specs.Initialisers.{pushed, with_initialiser}
-use Rattle.dj_initialising.proofs.InitialiserLaws.{pushed_push}
-use Rattle.dj_initialising.proofs.pushing.push_all.Goals as goal
+use Rattle.dj_initialisation.specs.Initialisers.{pushed, with_initialiser}
+use Rattle.dj_initialisation.proofs.InitialiserLaws.{pushed_push}
+use Rattle.dj_initialisation.proofs.pushing.push_all.Goals as goal
 
 pub loop-class-preserved : goal.loop-class-preserved
 loop-class-preserved c =

@@ -1,14 +1,14 @@
 use Rattle.std.proofs.Common.{◌≡◌, ◌<◌, ℕ, Bool, false, true, List, Option, Some, IfSome, sym, subst, ◌∙◌, arith}
 use Rattle.dj_model.specs.trusted.Linking.{most_classes}
-use Rattle.dj_classes.specs.Tables.{super_number}
+use Rattle.dj_class_table.specs.Tables.{super_number}
 use Rattle.dj_image.specs.Imaged.{program_of}
-use Rattle.dj_initialising.specs.Flags.{has_begun}
-use Rattle.dj_initialising.specs.Waiting.{IsWalked, waiting_count}
-use Rattle.dj_initialising.proofs.FlagLaws.{one_less}
-use Rattle.dj_initialising.proofs.Walks.{walked_begun, walked_more, walked_up, room_above}
-use Rattle.dj_initialising.proofs.PlaceLaws.{names_differ}
-use Rattle.dj_initialising.proofs.waiting.begin_upward.Goals as goal
-use Rattle.dj_initialising.proofs.waiting.begin_upward.Goals.{in-Some+then-has_begun, in_default}
+use Rattle.dj_initialisation.specs.Flags.{has_begun}
+use Rattle.dj_initialisation.specs.Waiting.{IsWalked, waiting_count}
+use Rattle.dj_initialisation.proofs.FlagLaws.{one_less}
+use Rattle.dj_initialisation.proofs.Walks.{walked_begun, walked_more, walked_up, room_above}
+use Rattle.dj_initialisation.proofs.PlaceLaws.{names_differ}
+use Rattle.dj_initialisation.proofs.waiting.begin_upward.Goals as goal
+use Rattle.dj_initialisation.proofs.waiting.begin_upward.Goals.{in-Some+then-has_begun, in_default}
 
 pub loop-next-init : goal.loop-next-init
 loop-next-init c =

@@ -1,7 +1,7 @@
 use Rattle.dj_image.specs.Imaged.{program_of}
 use Rattle.dj_model.specs.trusted.Linking.{most_classes}
-use Rattle.dj_initialising.specs.Waiting.{IsWalked, waiting_count}
-use Rattle.dj_initialising.proofs.waiting.begin_upward.Given as goal
+use Rattle.dj_initialisation.specs.Waiting.{IsWalked, waiting_count}
+use Rattle.dj_initialisation.proofs.waiting.begin_upward.Given as goal
 
 abbrev pub invariant-loop-next : goal.invariant-loop-next
 invariant-loop-next l = IsWalked (program_of l.image) most_classes l.class l.fn.flags l.flags l.path.items l.next

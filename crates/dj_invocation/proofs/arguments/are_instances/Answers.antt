@@ -4,11 +4,11 @@ use Rattle.dj_names.specs.trusted.Values.{value_kind}
 use Rattle.dj_model.specs.trusted.Members.{are_instances}
 use Rattle.dj_stack.specs.Frames.{top_operands}
 use Rattle.dj_image.specs.Imaged.{program_of, typed_of}
-use Rattle.dj_invoking.specs.Natives.{IsClassOf}
-use Rattle.dj_invoking.specs.Receivers.{typed_heap}
-use Rattle.dj_invoking.proofs.References.{object_among}
-use Rattle.dj_invoking.proofs.Instances.{next_argument, all_arguments}
-use Rattle.dj_invoking.proofs.arguments.are_instances.Goals as goal
+use Rattle.dj_invocation.specs.Natives.{IsClassOf}
+use Rattle.dj_invocation.specs.Receivers.{typed_heap}
+use Rattle.dj_invocation.proofs.References.{object_among}
+use Rattle.dj_invocation.proofs.Instances.{next_argument, all_arguments}
+use Rattle.dj_invocation.proofs.arguments.are_instances.Goals as goal
 
 pub loop-at-init : goal.loop-at-init
 loop-at-init c = λ types typed. refl

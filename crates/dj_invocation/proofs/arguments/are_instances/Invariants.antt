@@ -3,9 +3,9 @@ use Rattle.dj_names.specs.declared.descriptor.Ty.{Ty}
 use Rattle.dj_model.specs.trusted.Members.{are_instances}
 use Rattle.dj_stack.specs.Frames.{top_operands}
 use Rattle.dj_image.specs.Imaged.{program_of}
-use Rattle.dj_invoking.specs.Natives.{AreTyped}
-use Rattle.dj_invoking.specs.Receivers.{typed_heap}
-use Rattle.dj_invoking.proofs.arguments.are_instances.Given as goal
+use Rattle.dj_invocation.specs.Natives.{AreTyped}
+use Rattle.dj_invocation.specs.Receivers.{typed_heap}
+use Rattle.dj_invocation.proofs.arguments.are_instances.Given as goal
 
 -- what is left of the types and the arguments decides the rest
 abbrev pub invariant-loop-at : goal.invariant-loop-at

@@ -1,8 +1,8 @@
 use Rattle.std.proofs.Common.{◌≡◌, ℕ, subst, take, arith}
 use Rattle.dj_stack.specs.Frames.{top_operands}
-use Rattle.dj_invoking.specs.Receivers.{AreObjects}
-use Rattle.dj_invoking.proofs.References.{none_taken, one_more_there}
-use Rattle.dj_invoking.proofs.arguments.are_there.Goals as goal
+use Rattle.dj_invocation.specs.Receivers.{AreObjects}
+use Rattle.dj_invocation.proofs.References.{none_taken, one_more_there}
+use Rattle.dj_invocation.proofs.arguments.are_there.Goals as goal
 
 pub loop-at-init : goal.loop-at-init
 loop-at-init c = none_taken c.args.heap.now.heap (top_operands c.args.frames.now)

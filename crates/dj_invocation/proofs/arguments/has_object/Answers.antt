@@ -1,5 +1,5 @@
-use Rattle.dj_invoking.proofs.References.{other_has, reference_has}
-use Rattle.dj_invoking.proofs.arguments.has_object.Goals as goal
+use Rattle.dj_invocation.proofs.References.{other_has, reference_has}
+use Rattle.dj_invocation.proofs.arguments.has_object.Goals as goal
 
 pub returns-in-Ref : goal.returns-in-Ref
 returns-in-Ref c = λ reported. reference_has c.args.heap.now.heap c.args.value c.in-Ref.r c.in-Ref.is (c.is_there.ensures reported)

@@ -1,7 +1,7 @@
 use Rattle.dj_image.specs.Imaged.{program_of}
-use Rattle.dj_invoking.specs.Receivers.{typed_heap}
-use Rattle.dj_invoking.proofs.Instances.{object_of, argument_some, argument_none, argument_other}
-use Rattle.dj_invoking.proofs.arguments.is_argument.Goals as goal
+use Rattle.dj_invocation.specs.Receivers.{typed_heap}
+use Rattle.dj_invocation.proofs.Instances.{object_of, argument_some, argument_none, argument_other}
+use Rattle.dj_invocation.proofs.arguments.is_argument.Goals as goal
 
 pub is_object-requires : goal.is_object-requires
 is_object-requires c = record {

@@ -1,7 +1,7 @@
 use Rattle.std.proofs.Common.{sym, ◌∙◌, arith}
-use Rattle.dj_invoking.proofs.Choices.{class_numbered, object_there, instance_typed}
-use Rattle.dj_invoking.proofs.Instances.{argument_reported, past_types}
-use Rattle.dj_invoking.proofs.arguments.is_object.Goals as goal
+use Rattle.dj_invocation.proofs.Choices.{class_numbered, object_there, instance_typed}
+use Rattle.dj_invocation.proofs.Instances.{argument_reported, past_types}
+use Rattle.dj_invocation.proofs.arguments.is_object.Goals as goal
 
 pub returns-then-r-eq0 : goal.returns-then-r-eq0
 returns-then-r-eq0 c = λ ty named. argument_reported c.args.image.now c.args.heap.now.heap ty c.args.r c.if-r-eq0.true

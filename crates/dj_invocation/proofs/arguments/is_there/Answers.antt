@@ -1,7 +1,7 @@
 use Rattle.std.proofs.Common.{◌≤◌, length, arith}
 use Rattle.std.proofs.lemmas.Bool.Decides.{nat_tests}
-use Rattle.dj_invoking.proofs.References.{object_within}
-use Rattle.dj_invoking.proofs.arguments.is_there.Goals as goal
+use Rattle.dj_invocation.proofs.References.{object_within}
+use Rattle.dj_invocation.proofs.arguments.is_there.Goals as goal
 
 pub returns : goal.returns
 returns c = λ reported.

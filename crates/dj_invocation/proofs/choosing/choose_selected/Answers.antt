@@ -2,13 +2,13 @@ use Rattle.std.proofs.Common.{refl, subst, sym}
 use Rattle.dj_model.specs.trusted.Performing.{class_at_number}
 use Rattle.dj_model.specs.trusted.Linking.{select}
 use Rattle.dj_image.specs.Imaged.{program_of, typed_of}
-use Rattle.dj_types.specs.Members.{selected}
-use Rattle.dj_invoking.specs.declared.choosing.Chosen.{Chosen}
-use Rattle.dj_invoking.specs.Choosing.{IsThere, IsChosen, taken_method, virtual_choice}
-use Rattle.dj_invoking.specs.Receivers.{typed_heap}
-use Rattle.dj_invoking.proofs.Choices.{chosen_within, class_numbered, object_there, refused_chosen, fit_chosen, selected_reported}
-use Rattle.dj_invoking.proofs.Found.{number_there}
-use Rattle.dj_invoking.proofs.choosing.choose_selected.Goals as goal
+use Rattle.dj_numbering.specs.Members.{selected}
+use Rattle.dj_invocation.specs.declared.choosing.Chosen.{Chosen}
+use Rattle.dj_invocation.specs.Choosing.{IsThere, IsChosen, taken_method, virtual_choice}
+use Rattle.dj_invocation.specs.Receivers.{typed_heap}
+use Rattle.dj_invocation.proofs.Choices.{chosen_within, class_numbered, object_there, refused_chosen, fit_chosen, selected_reported}
+use Rattle.dj_invocation.proofs.Found.{number_there}
+use Rattle.dj_invocation.proofs.choosing.choose_selected.Goals as goal
 
 pub returns-in-Some-clause-chosen : goal.returns-in-Some-clause-chosen
 returns-in-Some-clause-chosen c = λ m resolved e there.

@@ -1,12 +1,12 @@
 use Rattle.dj_model.specs.trusted.Linking.{special_method}
-use Rattle.dj_linking.specs.Linked.{class_name}
+use Rattle.dj_resolution.specs.Linked.{class_name}
 use Rattle.dj_image.specs.Imaged.{program_of}
-use Rattle.dj_invoking.specs.Receivers.{typed_heap}
-use Rattle.dj_invoking.proofs.Choices.{asked_within, chosen_within, special_refused, special_fit}
-use Rattle.dj_invoking.proofs.choosing.choose_special.Goals as goal
+use Rattle.dj_invocation.specs.Receivers.{typed_heap}
+use Rattle.dj_invocation.proofs.Choices.{asked_within, chosen_within, special_refused, special_fit}
+use Rattle.dj_invocation.proofs.choosing.choose_special.Goals as goal
 use Rattle.std.proofs.Common.{subst, sym}
-use Rattle.dj_invoking.specs.declared.choosing.Chosen.{Chosen}
-use Rattle.dj_invoking.specs.Choosing.{IsThere, IsChosen, special_choice}
+use Rattle.dj_invocation.specs.declared.choosing.Chosen.{Chosen}
+use Rattle.dj_invocation.specs.Choosing.{IsThere, IsChosen, special_choice}
 
 pub refuse-requires-clause-there : goal.refuse-requires-clause-there
 refuse-requires-clause-there c =

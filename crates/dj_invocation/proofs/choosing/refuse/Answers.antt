@@ -2,9 +2,9 @@ use Rattle.std.proofs.Common.{◌≡◌, Some, true, false, ap, sym, ◌∙◌}
 use Rattle.std.proofs.lemmas.Option.{same_Some}
 use Rattle.dj_model.specs.trusted.Linking.{FoundMethod}
 use Rattle.dj_image.specs.Imaged.{program_of, typed_of}
-use Rattle.dj_invoking.specs.Receivers.{typed_heap}
-use Rattle.dj_invoking.proofs.Choices.{class_numbered, class_known, null_refused, object_there, received_if}
-use Rattle.dj_invoking.proofs.choosing.refuse.Goals as goal
+use Rattle.dj_invocation.specs.Receivers.{typed_heap}
+use Rattle.dj_invocation.proofs.Choices.{class_numbered, class_known, null_refused, object_there, received_if}
+use Rattle.dj_invocation.proofs.choosing.refuse.Goals as goal
 
 pub class_of-requires : goal.class_of-requires
 class_of-requires c = object_there c.args.heap.now c.args.r c.requires.object c.if-r-eq0.false

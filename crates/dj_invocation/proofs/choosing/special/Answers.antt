@@ -1,8 +1,8 @@
 use Rattle.dj_image.specs.Imaged.{program_of, typed_of}
-use Rattle.dj_types.specs.Members.{special_of}
-use Rattle.dj_invoking.proofs.Choices.{special_reported}
-use Rattle.dj_invoking.proofs.Found.{number_there}
-use Rattle.dj_invoking.proofs.choosing.special.Goals as goal
+use Rattle.dj_numbering.specs.Members.{special_of}
+use Rattle.dj_invocation.proofs.Choices.{special_reported}
+use Rattle.dj_invocation.proofs.Found.{number_there}
+use Rattle.dj_invocation.proofs.choosing.special.Goals as goal
 
 pub returns-clause-there : goal.returns-clause-there
 returns-clause-there c = number_there (program_of c.args.image.now) c.special.result (special_of (typed_of c.args.image.now) c.args.method.number c.args.own) c.special.ensures

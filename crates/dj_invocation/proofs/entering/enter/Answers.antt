@@ -4,9 +4,9 @@ use Rattle.dj_model.specs.trusted.Numbers.{is_long}
 use Rattle.dj_model.specs.trusted.Values.{in_slots}
 use Rattle.dj_model.specs.trusted.Initialisation.{padded}
 use Rattle.dj_stack.specs.Frames.{new_frame, most_frames, top_locals, top_operands}
-use Rattle.dj_invoking.proofs.OperandFacts.{frames_left}
-use Rattle.dj_invoking.proofs.EnterFacts.{entered_reported, pushed_empty, pushed_length}
-use Rattle.dj_invoking.proofs.entering.enter.Goals as goal
+use Rattle.dj_invocation.proofs.OperandFacts.{frames_left}
+use Rattle.dj_invocation.proofs.EnterFacts.{entered_reported, pushed_empty, pushed_length}
+use Rattle.dj_invocation.proofs.entering.enter.Goals as goal
 
 pub returns-then-depth-eq1024 : goal.returns-then-depth-eq1024
 returns-then-depth-eq1024 c = (

@@ -5,8 +5,8 @@ use Rattle.dj_model.specs.trusted.Numbers.{is_long}
 use Rattle.dj_model.specs.trusted.Values.{in_slots}
 use Rattle.dj_model.specs.trusted.Initialisation.{padded}
 use Rattle.dj_stack.specs.Frames.{top_locals}
-use Rattle.dj_invoking.proofs.EnterFacts.{argument_fits, some_slot, padded_length, set_argument, slots_more, count_more, slots_within, same_locals, locals_later}
-use Rattle.dj_invoking.proofs.entering.set_arguments.Goals as goal
+use Rattle.dj_invocation.proofs.EnterFacts.{argument_fits, some_slot, padded_length, set_argument, slots_more, count_more, slots_within, same_locals, locals_later}
+use Rattle.dj_invocation.proofs.entering.set_arguments.Goals as goal
 
 pub loop-argument-init : goal.loop-argument-init
 loop-argument-init c = record {

@@ -3,7 +3,7 @@ use Rattle.dj_model.specs.trusted.Numbers.{is_long}
 use Rattle.dj_model.specs.trusted.Values.{in_slots}
 use Rattle.dj_model.specs.trusted.Initialisation.{padded}
 use Rattle.dj_stack.specs.Frames.{SameButLocals, top_locals}
-use Rattle.dj_invoking.proofs.entering.set_arguments.Given as goal
+use Rattle.dj_invocation.proofs.entering.set_arguments.Given as goal
 
 -- the arguments so far
 abbrev pub invariant-loop-argument : goal.invariant-loop-argument

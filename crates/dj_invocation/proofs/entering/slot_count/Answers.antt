@@ -1,8 +1,8 @@
 use Rattle.std.proofs.Common.{pos, get_or, arith}
 use Rattle.dj_names.specs.declared.run.Value.{Value}
 use Rattle.dj_names.specs.declared.run.Value.TheVariants as values
-use Rattle.dj_invoking.proofs.EnterFacts.{count_more, slots_of_one}
-use Rattle.dj_invoking.proofs.entering.slot_count.Goals as goal
+use Rattle.dj_invocation.proofs.EnterFacts.{count_more, slots_of_one}
+use Rattle.dj_invocation.proofs.entering.slot_count.Goals as goal
 
 pub loop-value-preserved : goal.loop-value-preserved
 loop-value-preserved c =

@@ -1,7 +1,7 @@
 use Rattle.std.proofs.Common.{◌≡◌, ◌≤◌, ◌*◌, take, length}
 use Rattle.dj_model.specs.trusted.Numbers.{is_long}
 use Rattle.dj_model.specs.trusted.Values.{in_slots}
-use Rattle.dj_invoking.proofs.entering.slot_count.Given as goal
+use Rattle.dj_invocation.proofs.entering.slot_count.Given as goal
 
 -- the slots of the values so far
 abbrev pub invariant-loop-value : goal.invariant-loop-value

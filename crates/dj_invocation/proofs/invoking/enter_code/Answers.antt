@@ -1,7 +1,7 @@
 use Rattle.std.proofs.Common.{subst}
-use Rattle.dj_invoking.specs.Entering.{EntersIfAllowed}
-use Rattle.dj_invoking.proofs.Bodies.{entered_steps}
-use Rattle.dj_invoking.proofs.invoking.enter_code.Goals as goal
+use Rattle.dj_invocation.specs.Entering.{EntersIfAllowed}
+use Rattle.dj_invocation.proofs.Bodies.{entered_steps}
+use Rattle.dj_invocation.proofs.invoking.enter_code.Goals as goal
 
 pub returns-then-entered : goal.returns-then-entered
 returns-then-entered c =

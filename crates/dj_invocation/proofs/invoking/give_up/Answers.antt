@@ -1,7 +1,7 @@
 use Rattle.std.proofs.Common.{drop}
 use Rattle.dj_stack.specs.Frames.{top_operands}
-use Rattle.dj_invoking.proofs.OperandFacts.{frames_left}
-use Rattle.dj_invoking.proofs.invoking.give_up.Goals as goal
+use Rattle.dj_invocation.proofs.OperandFacts.{frames_left}
+use Rattle.dj_invocation.proofs.invoking.give_up.Goals as goal
 
 pub returns-clause-frames : goal.returns-clause-frames
 returns-clause-frames c =

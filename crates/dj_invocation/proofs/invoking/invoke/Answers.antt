@@ -1,15 +1,15 @@
 use Rattle.std.proofs.Common.{reverse, refl, arith, sym, ◌∙◌}
 use Rattle.std.proofs.lemmas.List.{length-reverse}
-use Rattle.dj_linking.specs.Linked.{class_name}
+use Rattle.dj_resolution.specs.Linked.{class_name}
 use Rattle.dj_stack.specs.Frames.{top_operands}
 use Rattle.dj_image.specs.Imaged.{program_of}
-use Rattle.dj_invoking.specs.Invoking.{site}
-use Rattle.dj_invoking.proofs.OperandFacts.{fit_within}
-use Rattle.dj_invoking.proofs.Found.{resolved_described, resolved_own}
-use Rattle.dj_invoking.proofs.Sites.{call_not_fit, runs_static}
-use Rattle.dj_invoking.proofs.Bodies.{static_mode}
-use Rattle.dj_invoking.proofs.References.{known_numbered}
-use Rattle.dj_invoking.proofs.invoking.invoke.Goals as goal
+use Rattle.dj_invocation.specs.Invoking.{site}
+use Rattle.dj_invocation.proofs.OperandFacts.{fit_within}
+use Rattle.dj_invocation.proofs.Found.{resolved_described, resolved_own}
+use Rattle.dj_invocation.proofs.Sites.{call_not_fit, runs_static}
+use Rattle.dj_invocation.proofs.Bodies.{static_mode}
+use Rattle.dj_invocation.proofs.References.{known_numbered}
+use Rattle.dj_invocation.proofs.invoking.invoke.Goals as goal
 
 pub returns-then-not-fit : goal.returns-then-not-fit
 returns-then-not-fit c = λ called m resolved e found there kinds_are. (

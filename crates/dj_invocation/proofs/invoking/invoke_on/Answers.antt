@@ -1,11 +1,11 @@
 use Rattle.std.proofs.Common.{Some, refl, sym, subst, ◌∙◌}
-use Rattle.dj_linking.specs.Linked.{class_name}
+use Rattle.dj_resolution.specs.Linked.{class_name}
 use Rattle.dj_image.specs.Imaged.{program_of}
-use Rattle.dj_invoking.specs.declared.answers.Invoked.{Invoked}
-use Rattle.dj_invoking.specs.Invoking.{site, Invokes}
-use Rattle.dj_invoking.proofs.Bodies.{none_of}
-use Rattle.dj_invoking.proofs.Invocations.{absent, method_runs, null_goes, link_goes}
-use Rattle.dj_invoking.proofs.invoking.invoke_on.Goals as goal
+use Rattle.dj_invocation.specs.declared.answers.Invoked.{Invoked}
+use Rattle.dj_invocation.specs.Invoking.{site, Invokes}
+use Rattle.dj_invocation.proofs.Bodies.{none_of}
+use Rattle.dj_invocation.proofs.Invocations.{absent, method_runs, null_goes, link_goes}
+use Rattle.dj_invocation.proofs.invoking.invoke_on.Goals as goal
 
 pub returns-in_default : goal.returns-in_default
 returns-in_default c = λ called m resolved kinds e other found there kinds_are n fits. (

@@ -1,12 +1,12 @@
 use Rattle.std.proofs.Common.{ℕ, List, Option, Some, sym, subst, ◌∙◌}
 use Rattle.dj_names.specs.trusted.Types.{parameters_of}
-use Rattle.dj_invoking.specs.declared.answers.Invoked.{Invoked}
+use Rattle.dj_invocation.specs.declared.answers.Invoked.{Invoked}
 use Rattle.dj_stack.specs.Frames.{top_operands}
-use Rattle.dj_invoking.specs.Natives.{AreTyped}
-use Rattle.dj_invoking.specs.Invoking.{site, Steps, Invokes}
-use Rattle.dj_invoking.proofs.Sites.{native_is, native_not}
-use Rattle.dj_invoking.proofs.Bodies.{native_body, native_typed, static_call, stepped, ok_then}
-use Rattle.dj_invoking.proofs.invoking.run_method.Goals as goal
+use Rattle.dj_invocation.specs.Natives.{AreTyped}
+use Rattle.dj_invocation.specs.Invoking.{site, Steps, Invokes}
+use Rattle.dj_invocation.proofs.Sites.{native_is, native_not}
+use Rattle.dj_invocation.proofs.Bodies.{native_body, native_typed, static_call, stepped, ok_then}
+use Rattle.dj_invocation.proofs.invoking.run_method.Goals as goal
 
 pub returns-in-Code : goal.returns-in-Code
 returns-in-Code c = λ mode own m found there runs.

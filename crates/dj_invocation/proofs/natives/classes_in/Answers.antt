@@ -1,10 +1,10 @@
 use Rattle.std.proofs.Common.{List, ap, sym, subst, ◌∙◌, IfOk}
 use Rattle.dj_names.specs.declared.descriptor.Ty.{Ty}
 use Rattle.dj_names.specs.trusted.Types.{parameters_of}
-use Rattle.dj_declared.proofs.DescTests.{desc_in_is}
+use Rattle.dj_declarations.proofs.DescTests.{desc_in_is}
 use Rattle.dj_image.specs.Imaged.{typed_of}
-use Rattle.dj_invoking.specs.Natives.{AreClasses}
-use Rattle.dj_invoking.proofs.natives.classes_in.Goals as goal
+use Rattle.dj_invocation.specs.Natives.{AreClasses}
+use Rattle.dj_invocation.proofs.natives.classes_in.Goals as goal
 
 pub returns-in-Method : goal.returns-in-Method
 returns-in-Method c = λ desc d.

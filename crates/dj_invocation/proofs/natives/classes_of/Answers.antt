@@ -1,9 +1,9 @@
 use Rattle.std.proofs.Common.{subst}
 use Rattle.dj_names.specs.declared.descriptor.Ty.{Ty}
 use Rattle.dj_image.specs.Imaged.{typed_of}
-use Rattle.dj_invoking.specs.Natives.{SaysClass}
-use Rattle.dj_invoking.proofs.NativeFacts.{classes_so_far}
-use Rattle.dj_invoking.proofs.natives.classes_of.Goals as goal
+use Rattle.dj_invocation.specs.Natives.{SaysClass}
+use Rattle.dj_invocation.proofs.NativeFacts.{classes_so_far}
+use Rattle.dj_invocation.proofs.natives.classes_of.Goals as goal
 
 pub loop-ty-preserved : goal.loop-ty-preserved
 loop-ty-preserved c =

@@ -1,13 +1,13 @@
 use Rattle.std.proofs.Common.{◌≡◌, ◌∙◌, length, refl, ap, arith}
 use Rattle.std.proofs.lemmas.List.{length-map}
 use Rattle.dj_model.specs.trusted.Program.{Class}
-use Rattle.dj_declared.specs.Files.{bare_class}
-use Rattle.dj_linking.specs.Linked.{Linked}
-use Rattle.dj_types.specs.Members.{all_methods}
+use Rattle.dj_declarations.specs.Files.{bare_class}
+use Rattle.dj_resolution.specs.Linked.{Linked}
+use Rattle.dj_numbering.specs.Members.{all_methods}
 use Rattle.dj_image.specs.Imaged.{program_of}
 use Rattle.dj_image.proofs.Bare.{bare_program}
-use Rattle.dj_invoking.proofs.NativeFacts.{count_sum}
-use Rattle.dj_invoking.proofs.natives.method_count.Goals as goal
+use Rattle.dj_invocation.proofs.NativeFacts.{count_sum}
+use Rattle.dj_invocation.proofs.natives.method_count.Goals as goal
 
 pub loop-class-init : goal.loop-class-init
 unfolding all_methods

@@ -1,7 +1,7 @@
 use Rattle.std.proofs.Common.{◌≡◌, take, length}
-use Rattle.dj_types.specs.Members.{all_methods}
+use Rattle.dj_numbering.specs.Members.{all_methods}
 use Rattle.dj_image.specs.Imaged.{program_of}
-use Rattle.dj_invoking.proofs.natives.method_count.Given as goal
+use Rattle.dj_invocation.proofs.natives.method_count.Given as goal
 
 -- the methods of the classes so far
 abbrev pub invariant-loop-class : goal.invariant-loop-class

@@ -3,9 +3,9 @@ use Rattle.std.specs.Prelude.{slice_get}
 use Rattle.dj_names.specs.declared.descriptor.Of.TheVariants as ofs
 use Rattle.dj_names.specs.declared.descriptor.Ty.{Ty}
 use Rattle.dj_names.specs.trusted.Types.{Name}
-use Rattle.dj_types.specs.Typed.{types_of}
+use Rattle.dj_numbering.specs.Typed.{types_of}
 use Rattle.dj_image.specs.Imaged.{typed_of}
-use Rattle.dj_invoking.proofs.natives.number_of.Goals as goal
+use Rattle.dj_invocation.proofs.natives.number_of.Goals as goal
 
 pub returns-in-Class : goal.returns-in-Class
 returns-in-Class c =

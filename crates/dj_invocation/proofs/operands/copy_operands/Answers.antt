@@ -1,6 +1,6 @@
 use Rattle.dj_stack.specs.Frames.{top_operands}
-use Rattle.dj_invoking.proofs.OperandFacts.{copied_one}
-use Rattle.dj_invoking.proofs.operands.copy_operands.Goals as goal
+use Rattle.dj_invocation.proofs.OperandFacts.{copied_one}
+use Rattle.dj_invocation.proofs.operands.copy_operands.Goals as goal
 use Rattle.std.proofs.Common.{◌∙◌}
 
 pub loop-at-preserved : goal.loop-at-preserved

@@ -1,7 +1,7 @@
 use Rattle.std.proofs.Common.{refl, sym, ◌∙◌}
 use Rattle.dj_stack.specs.Frames.{top_operands}
-use Rattle.dj_invoking.proofs.OperandFacts.{dropped_one, same_frames, same_later}
-use Rattle.dj_invoking.proofs.operands.drop_operands.Goals as goal
+use Rattle.dj_invocation.proofs.OperandFacts.{dropped_one, same_frames, same_later}
+use Rattle.dj_invocation.proofs.operands.drop_operands.Goals as goal
 
 pub loop-at-init : goal.loop-at-init
 loop-at-init c = record { operands = refl; rest = same_frames c.args.frames.now }

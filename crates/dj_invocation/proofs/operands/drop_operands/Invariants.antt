@@ -1,6 +1,6 @@
 use Rattle.std.proofs.Common.{◌≡◌, drop}
 use Rattle.dj_stack.specs.Frames.{SameButOperands, top_operands}
-use Rattle.dj_invoking.proofs.operands.drop_operands.Given as goal
+use Rattle.dj_invocation.proofs.operands.drop_operands.Given as goal
 
 -- this many are taken so far
 abbrev pub invariant-loop-at : goal.invariant-loop-at

@@ -2,9 +2,9 @@ use Rattle.std.proofs.Common.{◌&&◌, ◌+◌, Bool, ap, sym, ◌∙◌, arith
 use Rattle.std.proofs.lemmas.List.{length-reverse}
 use Rattle.dj_names.specs.declared.descriptor.Kind.TheVariants as kinds
 use Rattle.dj_stack.specs.Frames.{top_operands}
-use Rattle.dj_invoking.specs.Operands.{fit}
-use Rattle.dj_invoking.proofs.OperandFacts.{too_few, one_more, kind_at, none_left}
-use Rattle.dj_invoking.proofs.operands.fit.Goals as goal
+use Rattle.dj_invocation.specs.Operands.{fit}
+use Rattle.dj_invocation.proofs.OperandFacts.{too_few, one_more, kind_at, none_left}
+use Rattle.dj_invocation.proofs.operands.fit.Goals as goal
 
 pub returns-then-from-count-clause-fits : goal.returns-then-from-count-clause-fits
 returns-then-from-count-clause-fits c =

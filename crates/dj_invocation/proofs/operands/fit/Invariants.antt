@@ -1,7 +1,7 @@
 use Rattle.std.proofs.Common.{◌≡◌, drop, reverse}
 use Rattle.dj_stack.specs.Frames.{top_operands}
-use Rattle.dj_invoking.specs.Operands.{fit}
-use Rattle.dj_invoking.proofs.operands.fit.Given as goal
+use Rattle.dj_invocation.specs.Operands.{fit}
+use Rattle.dj_invocation.proofs.operands.fit.Given as goal
 
 -- what is left of the kinds and the operands decides the rest
 abbrev pub invariant-loop-at : goal.invariant-loop-at

@@ -1,7 +1,7 @@
 use Rattle.std.proofs.Common.{arith, ◌-◌}
 use Rattle.dj_effects.proofs.TopFacts.{no_operands}
-use Rattle.dj_invoking.proofs.OperandFacts.{some_operand, from_top}
-use Rattle.dj_invoking.proofs.operands.operand.Goals as goal
+use Rattle.dj_invocation.proofs.OperandFacts.{some_operand, from_top}
+use Rattle.dj_invocation.proofs.operands.operand.Goals as goal
 
 pub unreachable-requires : goal.unreachable-requires
 unreachable-requires c = let none = no_operands c.args.frames.now (omega arith) in omega (arith, none)

@@ -1,7 +1,7 @@
 use Rattle.std.proofs.Common.{ap, sym, ◌∙◌, arith, Some}
 use Rattle.dj_stack.specs.Frames.{top_operands}
-use Rattle.dj_invoking.proofs.OperandFacts.{receiver_at, no_receiver, not_reference}
-use Rattle.dj_invoking.proofs.operands.receiver.Goals as goal
+use Rattle.dj_invocation.proofs.OperandFacts.{receiver_at, no_receiver, not_reference}
+use Rattle.dj_invocation.proofs.operands.receiver.Goals as goal
 
 pub returns-then-operand_count-above-clause-receiver : goal.returns-then-operand_count-above-clause-receiver
 returns-then-operand_count-above-clause-receiver c = sym (no_receiver (top_operands c.args.frames.now) c.args.above (omega arith))

@@ -1,9 +1,9 @@
 use Rattle.std.proofs.Common.{List, Some, Bor, ap, sym, ◌∙◌}
 use Rattle.std.specs.Option.{option_map}
 use Rattle.dj_names.specs.declared.descriptor.Kind.{Kind}
-use Rattle.dj_invoking.specs.Operands.{parameters_in}
-use Rattle.dj_invoking.proofs.SignatureFacts.{call_reported}
-use Rattle.dj_invoking.proofs.signatures.parameters.Goals as goal
+use Rattle.dj_invocation.specs.Operands.{parameters_in}
+use Rattle.dj_invocation.proofs.SignatureFacts.{call_reported}
+use Rattle.dj_invocation.proofs.signatures.parameters.Goals as goal
 
 pub returns-in_err-parts : goal.returns-in_err-parts
 returns-in_err-parts c = λ found code there runs. absurd (c.in_err-parts.ensures found code there runs)

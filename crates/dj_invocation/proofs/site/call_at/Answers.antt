@@ -1,8 +1,8 @@
 use Rattle.std.proofs.Common.{refl, sym}
 use Rattle.dj_image.specs.declared.operand.Operand.TheVariants as operands
-use Rattle.dj_activations.proofs.InstructionFacts.{has_instr}
-use Rattle.dj_invoking.proofs.CallSites.{call_there}
-use Rattle.dj_invoking.proofs.site.call_at.Goals as goal
+use Rattle.dj_current_method.proofs.InstructionFacts.{has_instr}
+use Rattle.dj_invocation.proofs.CallSites.{call_there}
+use Rattle.dj_invocation.proofs.site.call_at.Goals as goal
 
 pub operand-requires : goal.operand-requires
 operand-requires c = has_instr c.args.image.now c.args.caller.number c.args.number c.instr_of.result.now c.instr_of.ensures.0 c.instr_of.ensures.1.stands

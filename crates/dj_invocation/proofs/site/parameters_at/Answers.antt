@@ -1,6 +1,6 @@
 use Rattle.std.proofs.Common.{sym}
-use Rattle.dj_invoking.proofs.CallSites.{parameters_reported}
-use Rattle.dj_invoking.proofs.site.parameters_at.Goals as goal
+use Rattle.dj_invocation.proofs.CallSites.{parameters_reported}
+use Rattle.dj_invocation.proofs.site.parameters_at.Goals as goal
 
 pub returns : goal.returns
 returns c =

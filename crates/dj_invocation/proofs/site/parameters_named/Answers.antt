@@ -2,10 +2,10 @@ use Rattle.std.proofs.Common.{ℕ, List, Option, Some, Bor, ap, ◌∙◌}
 use Rattle.std.specs.Prelude.{option_and_then}
 use Rattle.std.specs.Option.{option_map}
 use Rattle.dj_names.specs.declared.descriptor.Kind.{Kind}
-use Rattle.dj_shape.specs.Pools.{call_at}
-use Rattle.dj_invoking.specs.Operands.{parameters_in}
-use Rattle.dj_invoking.specs.Sites.{desc_index}
-use Rattle.dj_invoking.proofs.site.parameters_named.Goals as goal
+use Rattle.dj_shape_rule.specs.Pools.{call_at}
+use Rattle.dj_invocation.specs.Operands.{parameters_in}
+use Rattle.dj_invocation.specs.Sites.{desc_index}
+use Rattle.dj_invocation.proofs.site.parameters_named.Goals as goal
 
 pub returns-in_err-desc : goal.returns-in_err-desc
 returns-in_err-desc c =

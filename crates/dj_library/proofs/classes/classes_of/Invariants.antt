@@ -1,5 +1,5 @@
 use Rattle.std.proofs.Common.{◌≡◌, map, take}
-use Rattle.dj_natives.specs.Views.{library_view}
+use Rattle.dj_library_types.specs.Views.{library_view}
 use Rattle.dj_library.specs.TableRows.{class_in}
 use Rattle.dj_library.proofs.classes.classes_of.Given as goal
 

@@ -1,5 +1,5 @@
 use Rattle.std.proofs.Common.{◌≡◌, ◌++◌, map, take}
-use Rattle.dj_natives.specs.Views.{library_method_view}
+use Rattle.dj_library_types.specs.Views.{library_method_view}
 use Rattle.dj_library.specs.TableRows.{method_in}
 use Rattle.dj_library.proofs.methods.add_methods.Given as goal
 

@@ -2,12 +2,12 @@ use Rattle.std.proofs.Common.{List, [], subst}
 use Rattle.dj_class.specs.Views.{class_of}
 use Rattle.dj_report.specs.Lines.{Gains}
 use Rattle.dj_model.specs.trusted.Program.{Program}
-use Rattle.dj_check.specs.declared.judged.JudgedText.{JudgedText}
-use Rattle.dj_check.specs.declared.marks.Mark.{Mark}
-use Rattle.dj_check.specs.Marks.{AreMarksOf}
-use Rattle.dj_link.specs.trusted.Lines.{MethodLinkViolates}
-use Rattle.dj_link.proofs.FileLaws.{mark_lines}
-use Rattle.dj_link.proofs.class.add_class_lines.Goals as goal
+use Rattle.dj_early_rules.specs.declared.judged.JudgedText.{JudgedText}
+use Rattle.dj_early_rules.specs.declared.marks.Mark.{Mark}
+use Rattle.dj_early_rules.specs.Marks.{AreMarksOf}
+use Rattle.dj_link_rules.specs.trusted.Lines.{MethodLinkViolates}
+use Rattle.dj_link_rules.proofs.FileLaws.{mark_lines}
+use Rattle.dj_link_rules.proofs.class.add_class_lines.Goals as goal
 
 pub returns : goal.returns
 returns c =

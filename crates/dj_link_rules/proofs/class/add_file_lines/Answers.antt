@@ -2,8 +2,8 @@ use Rattle.std.proofs.Common.{List, subst}
 use Rattle.dj_report.specs.declared.report.Violation.{Violation}
 use Rattle.dj_report.specs.Lines.{Adds}
 use Rattle.dj_report.proofs.Adding.{adds_part}
-use Rattle.dj_link.proofs.FileLaws.{IsOwnLinkLine}
-use Rattle.dj_link.proofs.class.add_file_lines.Goals as goal
+use Rattle.dj_link_rules.proofs.FileLaws.{IsOwnLinkLine}
+use Rattle.dj_link_rules.proofs.class.add_file_lines.Goals as goal
 
 pub returns : goal.returns
 returns c =

@@ -2,11 +2,11 @@ use Rattle.std.proofs.Common.{subst, inr}
 use Rattle.dj_class.specs.trusted.ClassFile.{IsClassFile}
 use Rattle.dj_class.specs.Views.{class_of}
 use Rattle.dj_report.proofs.Adding.{on_ok}
-use Rattle.dj_rules.specs.declared.view.FileView.{FileView}
-use Rattle.dj_rules.specs.Reads.{IsViewOf}
-use Rattle.dj_check.specs.trusted.Malformed.{IsGood}
-use Rattle.dj_link.proofs.FileLaws.{file_lines}
-use Rattle.dj_link.proofs.class.add_view_lines.Goals as goal
+use Rattle.dj_file_rules.specs.declared.view.FileView.{FileView}
+use Rattle.dj_file_rules.specs.Reads.{IsViewOf}
+use Rattle.dj_early_rules.specs.trusted.Malformed.{IsGood}
+use Rattle.dj_link_rules.proofs.FileLaws.{file_lines}
+use Rattle.dj_link_rules.proofs.class.add_view_lines.Goals as goal
 
 pub returns : goal.returns
 returns c =

@@ -1,6 +1,6 @@
 use Rattle.std.proofs.Common.{◌≡◌, ◌+◌, ◌≤◌, drop}
-use Rattle.dj_link.specs.Constants.{brackets}
-use Rattle.dj_link.proofs.class_text.brackets.Given as goal
+use Rattle.dj_link_rules.specs.Constants.{brackets}
+use Rattle.dj_link_rules.proofs.class_text.brackets.Given as goal
 
 -- all so far, and those that follow
 abbrev pub invariant-loop-byte : goal.invariant-loop-byte

@@ -1,8 +1,8 @@
 use Rattle.std.proofs.Common.{sym, ap, ◌∙◌}
-use Rattle.dj_declared.specs.trusted.Files.{type_in}
-use Rattle.dj_link.specs.trusted.Named.{class_of_type}
-use Rattle.dj_link.proofs.ClassTexts.{spells, few_brackets, rest_is}
-use Rattle.dj_link.proofs.class_text.class_text.Goals as goal
+use Rattle.dj_declarations.specs.trusted.Files.{type_in}
+use Rattle.dj_link_rules.specs.trusted.Named.{class_of_type}
+use Rattle.dj_link_rules.proofs.ClassTexts.{spells, few_brackets, rest_is}
+use Rattle.dj_link_rules.proofs.class_text.class_text.Goals as goal
 
 pub brackets-dims-requires : goal.brackets-dims-requires
 brackets-dims-requires c = few_brackets c.args.text.now c.requires

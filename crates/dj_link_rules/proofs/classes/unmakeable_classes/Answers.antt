@@ -1,6 +1,6 @@
 use Rattle.std.proofs.Common.{◌≤◌, length, ◌∙◌, arith}
-use Rattle.dj_link.proofs.FileLaws.{pushed, all_pushed}
-use Rattle.dj_link.proofs.classes.unmakeable_classes.Goals as goal
+use Rattle.dj_link_rules.proofs.FileLaws.{pushed, all_pushed}
+use Rattle.dj_link_rules.proofs.classes.unmakeable_classes.Goals as goal
 
 pub loop-class-preserved : goal.loop-class-preserved
 loop-class-preserved c =

@@ -1,7 +1,7 @@
 use Rattle.std.proofs.Common.{[]}
 use Rattle.dj_pool.specs.declared.pool.Entry.TheVariants as entries
-use Rattle.dj_link.proofs.KeptLaws.{entry_linked, all_judged}
-use Rattle.dj_link.proofs.constants.judge_constants.Goals as goal
+use Rattle.dj_link_rules.proofs.KeptLaws.{entry_linked, all_judged}
+use Rattle.dj_link_rules.proofs.constants.judge_constants.Goals as goal
 
 pub judge_constant-constant-requires-clause-linked : goal.judge_constant-constant-requires-clause-linked
 judge_constant-constant-requires-clause-linked c =

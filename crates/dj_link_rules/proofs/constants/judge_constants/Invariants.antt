@@ -1,7 +1,7 @@
 use Rattle.std.proofs.Common.{◌≡◌, take}
-use Rattle.dj_link.specs.Constants.{AreSeen, AreNumbersSeenBy}
-use Rattle.dj_link.proofs.KeptLaws.{all_kept}
-use Rattle.dj_link.proofs.constants.judge_constants.Given as goal
+use Rattle.dj_link_rules.specs.Constants.{AreSeen, AreNumbersSeenBy}
+use Rattle.dj_link_rules.proofs.KeptLaws.{all_kept}
+use Rattle.dj_link_rules.proofs.constants.judge_constants.Given as goal
 
 -- what was seen, and what is kept so far
 abbrev pub invariant-loop-entry : goal.invariant-loop-entry

@@ -2,11 +2,11 @@ use Rattle.std.proofs.Common.{◌≡◌, ℕ, Option, Some, sym, ap, subst, ◌�
 use Rattle.std.specs.Option.{option_map}
 use Rattle.dj_names.specs.trusted.Types.{same_name}
 use Rattle.dj_pool.specs.Views.{constant_of}
-use Rattle.dj_check.specs.trusted.Classes.{names_at}
-use Rattle.dj_link.specs.declared.name_numbers.NumberedName.{NumberedName}
-use Rattle.dj_link.specs.Constants.{static_in}
-use Rattle.dj_link.proofs.Resolving.{IsWithin, named, member_within, member_static, member_kept}
-use Rattle.dj_link.proofs.constants.member_of.Goals as goal
+use Rattle.dj_early_rules.specs.trusted.Classes.{names_at}
+use Rattle.dj_link_rules.specs.declared.name_numbers.NumberedName.{NumberedName}
+use Rattle.dj_link_rules.specs.Constants.{static_in}
+use Rattle.dj_link_rules.proofs.Resolving.{IsWithin, named, member_within, member_static, member_kept}
+use Rattle.dj_link_rules.proofs.constants.member_of.Goals as goal
 
 pub is_static_in-requires-clause-there : goal.is_static_in-requires-clause-there
 is_static_in-requires-clause-there c =

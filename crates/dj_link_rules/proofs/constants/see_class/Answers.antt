@@ -1,9 +1,9 @@
 use Rattle.std.proofs.Common.{Some, sym, ap, ◌∙◌}
 use Rattle.std.specs.Prelude.{option_copied}
 use Rattle.std.specs.Option.{option_map}
-use Rattle.dj_link.specs.Constants.{text_class}
-use Rattle.dj_link.proofs.KeptLaws.{one_more_seen}
-use Rattle.dj_link.proofs.constants.see_class.Goals as goal
+use Rattle.dj_link_rules.specs.Constants.{text_class}
+use Rattle.dj_link_rules.proofs.KeptLaws.{one_more_seen}
+use Rattle.dj_link_rules.proofs.constants.see_class.Goals as goal
 
 pub returns-clause-seen : goal.returns-clause-seen
 returns-clause-seen c =

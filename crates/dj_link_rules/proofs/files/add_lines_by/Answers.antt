@@ -1,6 +1,6 @@
 use Rattle.dj_report.proofs.Adding.{adds_one_more}
-use Rattle.dj_link.proofs.FileLaws.{IsOwnLinkLine, all_link_lines}
-use Rattle.dj_link.proofs.files.add_lines_by.Goals as goal
+use Rattle.dj_link_rules.proofs.FileLaws.{IsOwnLinkLine, all_link_lines}
+use Rattle.dj_link_rules.proofs.files.add_lines_by.Goals as goal
 
 pub add_file_lines-requires-clause-whole : goal.add_file_lines-requires-clause-whole
 add_file_lines-requires-clause-whole c = c.requires.whole c.loop-file.file-index _ c.loop-file-test.true

@@ -1,7 +1,7 @@
 use Rattle.std.proofs.Common.{take}
 use Rattle.dj_report.specs.Lines.{Adds, IsLineAmong}
-use Rattle.dj_link.proofs.FileLaws.{IsOwnLinkLine}
-use Rattle.dj_link.proofs.files.add_lines_by.Given as goal
+use Rattle.dj_link_rules.proofs.FileLaws.{IsOwnLinkLine}
+use Rattle.dj_link_rules.proofs.files.add_lines_by.Given as goal
 
 -- the lines of the files so far
 abbrev pub invariant-loop-file : goal.invariant-loop-file

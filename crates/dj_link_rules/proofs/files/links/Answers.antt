@@ -2,9 +2,9 @@ use Rattle.std.proofs.Common.{List, map, subst}
 use Rattle.dj_report.specs.declared.report.Violation.{Violation}
 use Rattle.dj_report.specs.Lines.{Adds}
 use Rattle.dj_report.proofs.Adding.{exactly_found}
-use Rattle.dj_rules.specs.Views.{path_file_view}
-use Rattle.dj_link.specs.trusted.Lines.{IsLinkLine}
-use Rattle.dj_link.proofs.files.links.Goals as goal
+use Rattle.dj_file_rules.specs.Views.{path_file_view}
+use Rattle.dj_link_rules.specs.trusted.Lines.{IsLinkLine}
+use Rattle.dj_link_rules.proofs.files.links.Goals as goal
 
 pub returns : goal.returns
 returns c =

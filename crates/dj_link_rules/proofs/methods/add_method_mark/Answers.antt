@@ -1,11 +1,11 @@
 use Rattle.std.proofs.Common.{subst}
 use Rattle.dj_class.specs.Members.{member_of}
 use Rattle.dj_class.specs.Views.{class_of}
-use Rattle.dj_check.specs.declared.code.MethodBody.{MethodBody}
-use Rattle.dj_check.specs.Marks.{names_in}
-use Rattle.dj_check.specs.Passes.{IsMethodView}
-use Rattle.dj_link.proofs.PassLaws.{bodiless_marks}
-use Rattle.dj_link.proofs.methods.add_method_mark.Goals as goal
+use Rattle.dj_early_rules.specs.declared.code.MethodBody.{MethodBody}
+use Rattle.dj_early_rules.specs.Marks.{names_in}
+use Rattle.dj_early_rules.specs.Passes.{IsMethodView}
+use Rattle.dj_link_rules.proofs.PassLaws.{bodiless_marks}
+use Rattle.dj_link_rules.proofs.methods.add_method_mark.Goals as goal
 
 pub unreachable-requires : goal.unreachable-requires
 unreachable-requires c =

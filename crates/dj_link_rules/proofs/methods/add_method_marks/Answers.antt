@@ -5,12 +5,12 @@ use Rattle.dj_class.specs.Members.{member_of}
 use Rattle.dj_class.specs.Views.{class_of}
 use Rattle.dj_report.specs.Lines.{Gains}
 use Rattle.dj_report.proofs.Adding.{IsAmong, adds_read}
-use Rattle.dj_check.specs.trusted.Malformed.{IsFaultyMethod}
-use Rattle.dj_check.specs.Marks.{MarksOf, names_in}
-use Rattle.dj_check.proofs.Anys.{found_at, seen_any}
-use Rattle.dj_check.proofs.MarkLaws.{marks_seen, method_valid}
-use Rattle.dj_link.specs.trusted.Lines.{MethodLinkViolates}
-use Rattle.dj_link.proofs.methods.add_method_marks.Goals as goal
+use Rattle.dj_early_rules.specs.trusted.Malformed.{IsFaultyMethod}
+use Rattle.dj_early_rules.specs.Marks.{MarksOf, names_in}
+use Rattle.dj_early_rules.proofs.Anys.{found_at, seen_any}
+use Rattle.dj_early_rules.proofs.MarkLaws.{marks_seen, method_valid}
+use Rattle.dj_link_rules.specs.trusted.Lines.{MethodLinkViolates}
+use Rattle.dj_link_rules.proofs.methods.add_method_marks.Goals as goal
 
 pub add_method_mark-requires-clause-attributes : goal.add_method_mark-requires-clause-attributes
 add_method_mark-requires-clause-attributes c =

@@ -3,11 +3,11 @@ use Rattle.dj_class.specs.Members.{member_of}
 use Rattle.dj_class.specs.Views.{class_of}
 use Rattle.dj_report.specs.Lines.{Gains}
 use Rattle.dj_report.proofs.Adding.{on_ok}
-use Rattle.dj_check.specs.Marks.{MarksOf}
-use Rattle.dj_check.proofs.MethodLaws.{short_code}
-use Rattle.dj_link.specs.trusted.Lines.{MethodLinkViolates}
-use Rattle.dj_link.proofs.PassLaws.{unreported_code, method_marks}
-use Rattle.dj_link.proofs.methods.add_whole_marks.Goals as goal
+use Rattle.dj_early_rules.specs.Marks.{MarksOf}
+use Rattle.dj_early_rules.proofs.MethodLaws.{short_code}
+use Rattle.dj_link_rules.specs.trusted.Lines.{MethodLinkViolates}
+use Rattle.dj_link_rules.proofs.PassLaws.{unreported_code, method_marks}
+use Rattle.dj_link_rules.proofs.methods.add_whole_marks.Goals as goal
 
 pub add_code_marks-requires-clause-few : goal.add_code_marks-requires-clause-few
 add_code_marks-requires-clause-few c = (short_code c.args.view.now.pool (member_of c.args.method.now) c.args.code.now c.requires.code).instrs

@@ -2,10 +2,10 @@ use Rattle.std.proofs.Common.{◌≡◌, ℕ, List, Option, Some, sym, ap, ◌�
 use Rattle.std.specs.Prelude.{option_and_then, option_copied}
 use Rattle.dj_pool.specs.trusted.Pool.{both, text_at}
 use Rattle.dj_pool.specs.Views.{constant_of}
-use Rattle.dj_check.specs.trusted.Classes.{names_at}
-use Rattle.dj_link.proofs.NameNumbers.{are_numbered}
-use Rattle.dj_link.proofs.PoolLinks.{names_there}
-use Rattle.dj_link.proofs.name_numbers.member_name.Goals as goal
+use Rattle.dj_early_rules.specs.trusted.Classes.{names_at}
+use Rattle.dj_link_rules.proofs.NameNumbers.{are_numbered}
+use Rattle.dj_link_rules.proofs.PoolLinks.{names_there}
+use Rattle.dj_link_rules.proofs.name_numbers.member_name.Goals as goal
 
 pub returns-clause-named : goal.returns-clause-named
 returns-clause-named c =

@@ -3,11 +3,11 @@ use Rattle.dj_ops.specs.declared.instruction.Instr.{Instr}
 use Rattle.dj_labels.specs.declared.labelled.Protected.{Protected}
 use Rattle.dj_report.specs.Lines.{Gains}
 use Rattle.dj_report.proofs.Adding.{on_ok}
-use Rattle.dj_check.specs.Marks.{MarksOf}
-use Rattle.dj_link.specs.Known.{KnownBelow}
-use Rattle.dj_link.specs.Marks.{AreRangeMarks, AreUnreported}
-use Rattle.dj_link.proofs.PassLaws.{code_marks}
-use Rattle.dj_link.proofs.passes.add_code_marks.Goals as goal
+use Rattle.dj_early_rules.specs.Marks.{MarksOf}
+use Rattle.dj_link_rules.specs.Known.{KnownBelow}
+use Rattle.dj_link_rules.specs.Marks.{AreRangeMarks, AreUnreported}
+use Rattle.dj_link_rules.proofs.PassLaws.{code_marks}
+use Rattle.dj_link_rules.proofs.passes.add_code_marks.Goals as goal
 
 pub add_instr_marks-requires-clause-unreported : goal.add_instr_marks-requires-clause-unreported
 add_instr_marks-requires-clause-unreported c t = subst (AreUnreported c.args.pool.now) (sym c.as_slice.ensures) (c.requires.unreported t)

@@ -3,10 +3,10 @@ use Rattle.std.proofs.lemmas.List.{take_all}
 use Rattle.dj_labels.specs.declared.labelled.Protected.{Protected}
 use Rattle.dj_report.specs.Lines.{Gains}
 use Rattle.dj_report.proofs.Adding.{adds_one_more}
-use Rattle.dj_check.specs.Marks.{MarksOf}
-use Rattle.dj_link.specs.Known.{KnownRange}
-use Rattle.dj_link.specs.Marks.{AreRangeMarks}
-use Rattle.dj_link.proofs.passes.add_handler_marks.Goals as goal
+use Rattle.dj_early_rules.specs.Marks.{MarksOf}
+use Rattle.dj_link_rules.specs.Known.{KnownRange}
+use Rattle.dj_link_rules.specs.Marks.{AreRangeMarks}
+use Rattle.dj_link_rules.proofs.passes.add_handler_marks.Goals as goal
 
 pub loop-range-preserved : goal.loop-range-preserved
 loop-range-preserved c =

@@ -1,7 +1,7 @@
 use Rattle.std.proofs.Common.{take}
 use Rattle.dj_report.specs.Lines.{Gains}
-use Rattle.dj_link.specs.Marks.{AreRangeMarks}
-use Rattle.dj_link.proofs.passes.add_handler_marks.Given as goal
+use Rattle.dj_link_rules.specs.Marks.{AreRangeMarks}
+use Rattle.dj_link_rules.proofs.passes.add_handler_marks.Given as goal
 
 -- the marks of the handlers so far
 abbrev pub invariant-loop-range : goal.invariant-loop-range

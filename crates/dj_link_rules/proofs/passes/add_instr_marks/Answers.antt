@@ -1,10 +1,10 @@
 use Rattle.std.proofs.Common.{◌≡◌, ℕ, length, refl, arith, subst}
 use Rattle.std.proofs.lemmas.Option.{slice_get_read}
 use Rattle.dj_report.specs.Lines.{Gains}
-use Rattle.dj_check.specs.Marks.{MarksOf}
-use Rattle.dj_link.specs.Known.{KnownBelow}
-use Rattle.dj_link.proofs.PassLaws.{none_below, more_below}
-use Rattle.dj_link.proofs.passes.add_instr_marks.Goals as goal
+use Rattle.dj_early_rules.specs.Marks.{MarksOf}
+use Rattle.dj_link_rules.specs.Known.{KnownBelow}
+use Rattle.dj_link_rules.proofs.PassLaws.{none_below, more_below}
+use Rattle.dj_link_rules.proofs.passes.add_instr_marks.Goals as goal
 
 pub loop-at-init : goal.loop-at-init
 loop-at-init c = none_below c.args.names c.args.known.now c.args.pool.now c.args.code.now c.args.marks.now.items

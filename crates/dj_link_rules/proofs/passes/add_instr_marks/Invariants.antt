@@ -1,7 +1,7 @@
 use Rattle.dj_report.specs.Lines.{Gains}
-use Rattle.dj_check.specs.Marks.{MarksOf}
-use Rattle.dj_link.specs.Known.{KnownBelow}
-use Rattle.dj_link.proofs.passes.add_instr_marks.Given as goal
+use Rattle.dj_early_rules.specs.Marks.{MarksOf}
+use Rattle.dj_link_rules.specs.Known.{KnownBelow}
+use Rattle.dj_link_rules.proofs.passes.add_instr_marks.Given as goal
 
 -- the marks of the instructions so far
 abbrev pub invariant-loop-at : goal.invariant-loop-at

@@ -1,6 +1,6 @@
 use Rattle.dj_report.proofs.Adding.{on_ok}
-use Rattle.dj_link.proofs.PassLaws.{instr_mark}
-use Rattle.dj_link.proofs.passes.add_named_mark.Goals as goal
+use Rattle.dj_link_rules.proofs.PassLaws.{instr_mark}
+use Rattle.dj_link_rules.proofs.passes.add_named_mark.Goals as goal
 
 pub returns : goal.returns
 returns c =

@@ -1,5 +1,5 @@
-use Rattle.dj_link.proofs.PassLaws.{reported_mark, foreign_mark, unlinked_mark}
-use Rattle.dj_link.proofs.passes.add_rule_mark.Goals as goal
+use Rattle.dj_link_rules.proofs.PassLaws.{reported_mark, foreign_mark, unlinked_mark}
+use Rattle.dj_link_rules.proofs.passes.add_rule_mark.Goals as goal
 
 pub returns-then-reported : goal.returns-then-reported
 returns-then-reported c = reported_mark c.args.place c.args.reported c.args.foreign c.args.unlinked c.args.marks.now.items c.if-reported.true

@@ -1,5 +1,5 @@
 use Rattle.std.proofs.Common.{◌≡◌, ◌++◌, map, take}
-use Rattle.dj_natives.specs.Views.{library_view}
+use Rattle.dj_library_types.specs.Views.{library_view}
 use Rattle.dj_model.specs.trusted.Libraries.{library_class}
 use Rattle.dj_loader.proofs.declaring.add_rows.Given as goal
 

@@ -1,7 +1,7 @@
 use Rattle.std.proofs.Common.{subst}
 use Rattle.dj_class.specs.Members.{member_of}
-use Rattle.dj_check.specs.declared.code.MethodBody.{MethodBody}
-use Rattle.dj_check.specs.Passes.{IsMethodView}
+use Rattle.dj_early_rules.specs.declared.code.MethodBody.{MethodBody}
+use Rattle.dj_early_rules.specs.Passes.{IsMethodView}
 use Rattle.dj_loader.proofs.Coded.{bodiless_reported, code_reported}
 use Rattle.dj_loader.proofs.file_parts.code_of.Goals as goal
 

@@ -1,7 +1,7 @@
 use Rattle.std.proofs.Common.{List, map, sym, ap, ◌∙◌, subst}
 use Rattle.dj_class.specs.Views.{class_of}
 use Rattle.dj_model.specs.trusted.Program.{Program}
-use Rattle.dj_linking.specs.Linked.{Linked}
+use Rattle.dj_resolution.specs.Linked.{Linked}
 use Rattle.dj_program.specs.trusted.Programs.{IsProgramIn}
 use Rattle.dj_image.specs.Sources.{Source, program_of_sources}
 use Rattle.dj_image.specs.Parts.{sources_of, AreFew, HasString}

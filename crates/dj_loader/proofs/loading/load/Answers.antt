@@ -1,6 +1,6 @@
 use Rattle.std.proofs.Common.{map}
 use Rattle.dj_class.specs.Views.{class_of}
-use Rattle.dj_natives.specs.Views.{library_view}
+use Rattle.dj_library_types.specs.Views.{library_view}
 use Rattle.dj_loader.proofs.Strings.{string_there}
 use Rattle.dj_loader.proofs.loading.load.Goals as goal
 

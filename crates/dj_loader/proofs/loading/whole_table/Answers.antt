@@ -1,10 +1,10 @@
 use Rattle.std.proofs.Common.{List, [], map, ap, ◌∙◌, subst}
 use Rattle.std.proofs.lemmas.Result.{err_from_is_err_and}
 use Rattle.dj_class.specs.Views.{class_of}
-use Rattle.dj_natives.specs.Views.{library_view}
+use Rattle.dj_library_types.specs.Views.{library_view}
 use Rattle.dj_model.specs.trusted.Program.{Class}
 use Rattle.dj_model.specs.trusted.Libraries.{joined}
-use Rattle.dj_classes.specs.Tables.{IsShared}
+use Rattle.dj_class_table.specs.Tables.{IsShared}
 use Rattle.dj_loader.specs.Loads.{all_classes, Never}
 use Rattle.dj_loader.proofs.Moved.{refuses_lacking, refuses_cycles, is_loadable}
 use Rattle.dj_loader.proofs.loading.whole_table.Goals as goal

@@ -1,8 +1,8 @@
 use Rattle.std.proofs.Common.{◌≡◌, ℕ, set, Some, sym, ap, ◌∙◌, arith}
 use Rattle.dj_class.specs.Views.{class_of}
-use Rattle.dj_rules.specs.trusted.Violations.{this_name}
-use Rattle.dj_classes.specs.Tables.{class_number}
-use Rattle.dj_classes.proofs.Numbered.{class_number-within}
+use Rattle.dj_file_rules.specs.trusted.Violations.{this_name}
+use Rattle.dj_class_table.specs.Tables.{class_number}
+use Rattle.dj_class_table.proofs.Numbered.{class_number-within}
 use Rattle.dj_loader.proofs.Owned.{owners_more}
 use Rattle.dj_loader.proofs.owners.note_owner.Goals as goal
 

@@ -1,7 +1,7 @@
 use Rattle.std.proofs.Common.{ℕ, ◌<◌, Option, IfSome, length, map, sym, subst}
 use Rattle.dj_class.specs.declared.class.ClassView.{ClassView}
 use Rattle.dj_class.specs.Views.{class_of}
-use Rattle.dj_check.specs.trusted.Malformed.{HasFaultyMethod}
+use Rattle.dj_early_rules.specs.trusted.Malformed.{HasFaultyMethod}
 use Rattle.dj_loader.specs.Filed.{AreFileParts, ArePartsFor}
 use Rattle.dj_loader.proofs.Sides.{ok_with}
 use Rattle.dj_loader.proofs.Owned.{file_part}

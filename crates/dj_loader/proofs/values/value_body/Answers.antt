@@ -3,7 +3,7 @@ use Rattle.std.specs.Prelude.{slice_get}
 use Rattle.std.proofs.lemmas.List.{get_or_default}
 use Rattle.dj_class.specs.declared.class.Attribute.{Attribute}
 use Rattle.dj_class.specs.trusted.ClassFile.{AttributeInfo}
-use Rattle.dj_check.specs.trusted.Attributes.{bodies_of}
+use Rattle.dj_early_rules.specs.trusted.Attributes.{bodies_of}
 use Rattle.dj_loader.proofs.FieldValues.{still_none, first_body}
 use Rattle.dj_loader.proofs.values.value_body.Goals as goal
 

@@ -1,6 +1,6 @@
 use Rattle.std.proofs.Common.{◌≡◌, [], map, take, codes}
 use Rattle.dj_class.specs.Parts.{attribute_of}
-use Rattle.dj_check.specs.trusted.Attributes.{bodies_of}
+use Rattle.dj_early_rules.specs.trusted.Attributes.{bodies_of}
 use Rattle.dj_loader.proofs.values.value_body.Given as goal
 
 -- none so far

@@ -1,7 +1,7 @@
 use Rattle.std.proofs.Common.{◌<◌, ◌^◌, [], length}
 use Rattle.std.proofs.lemmas.List.Elements.{All-nil, All-cons}
 use Rattle.dj_report.specs.declared.report.PathFile.{PathFile}
-use Rattle.dj_check.specs.trusted.Malformed.{IsRefused}
+use Rattle.dj_early_rules.specs.trusted.Malformed.{IsRefused}
 use Rattle.dj_loader_tests.proofs.judged.links_of.Goals as goal
 
 pub links-requires-clause-short : goal.links-requires-clause-short

@@ -1,5 +1,5 @@
-use Rattle.dj_declared.specs.Members.{IsDescriptor}
-use Rattle.dj_types.specs.Members.{resolved_field}
+use Rattle.dj_declarations.specs.Members.{IsDescriptor}
+use Rattle.dj_numbering.specs.Members.{resolved_field}
 use Rattle.dj_image.specs.Imaged.{program_of, typed_of}
 use Rattle.dj_loader_tests.proofs.Within.{resolved_field_within}
 use Rattle.dj_loader_tests.proofs.members.resolved_field.Goals as goal

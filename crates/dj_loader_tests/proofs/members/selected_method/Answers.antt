@@ -1,4 +1,4 @@
-use Rattle.dj_types.specs.Members.{selected}
+use Rattle.dj_numbering.specs.Members.{selected}
 use Rattle.dj_image.specs.Imaged.{program_of, typed_of}
 use Rattle.dj_loader_tests.proofs.Within.{selected_within}
 use Rattle.dj_loader_tests.proofs.members.selected_method.Goals as goal

@@ -1,6 +1,6 @@
 use Rattle.std.proofs.Common.{◌≡◌, IfOk, subst}
 use Rattle.dj_names.specs.trusted.Library.{deterministic_library}
-use Rattle.dj_natives.specs.Views.{library_view}
+use Rattle.dj_library_types.specs.Views.{library_view}
 use Rattle.dj_loader_tests.proofs.Libraries.{deterministic_small}
 use Rattle.dj_loader_tests.proofs.set.deterministic_library.Goals as goal
 

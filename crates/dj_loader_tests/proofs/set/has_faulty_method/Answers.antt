@@ -2,9 +2,9 @@ use Rattle.std.proofs.Common.{refl, subst, sym}
 use Rattle.dj_class.specs.declared.class.MemberView.{MemberView}
 use Rattle.dj_class.specs.Members.{member_of}
 use Rattle.dj_report.proofs.Adding.{not_both}
-use Rattle.dj_check.specs.trusted.Malformed.{IsFaultyMethod}
-use Rattle.dj_check.proofs.Anys.{none_more, found_at, none_at_all, seen_any, from_seen_any}
-use Rattle.dj_check.proofs.MarkLaws.{method_valid}
+use Rattle.dj_early_rules.specs.trusted.Malformed.{IsFaultyMethod}
+use Rattle.dj_early_rules.proofs.Anys.{none_more, found_at, none_at_all, seen_any, from_seen_any}
+use Rattle.dj_early_rules.proofs.MarkLaws.{method_valid}
 use Rattle.dj_loader_tests.proofs.set.has_faulty_method.Goals as goal
 
 pub is_faulty_method-requires : goal.is_faulty_method-requires

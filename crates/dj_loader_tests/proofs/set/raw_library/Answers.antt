@@ -1,6 +1,6 @@
 use Rattle.std.proofs.Common.{◌≡◌, IfOk, subst}
 use Rattle.dj_names.specs.trusted.Library.{raw_library}
-use Rattle.dj_natives.specs.Views.{library_view}
+use Rattle.dj_library_types.specs.Views.{library_view}
 use Rattle.dj_loader_tests.proofs.Libraries.{raw_small}
 use Rattle.dj_loader_tests.proofs.set.raw_library.Goals as goal
 

@@ -3,8 +3,8 @@ use Rattle.dj_names.specs.declared.run.Value.{Value}
 use Rattle.dj_names.specs.declared.run.Value.TheVariants as values
 use Rattle.dj_stack.specs.Frames.{top_operands}
 use Rattle.dj_effects.proofs.Frames.{both_same}
-use Rattle.dj_members.proofs.FieldFacts.{gets, gets_nothing}
-use Rattle.dj_members.proofs.fields.get_field.Goals as goal
+use Rattle.dj_member_effects.proofs.FieldFacts.{gets, gets_nothing}
+use Rattle.dj_member_effects.proofs.fields.get_field.Goals as goal
 
 pub returns-in-Ok : goal.returns-in-Ok
 returns-in-Ok g c =

@@ -1,6 +1,6 @@
 use Rattle.std.proofs.Common.{arith}
-use Rattle.dj_members.proofs.PutFacts.{puts_bits, puts_none}
-use Rattle.dj_members.proofs.fields.put_bits.Goals as goal
+use Rattle.dj_member_effects.proofs.PutFacts.{puts_bits, puts_none}
+use Rattle.dj_member_effects.proofs.fields.put_bits.Goals as goal
 
 pub returns-then-at-count : goal.returns-then-at-count
 returns-then-at-count c = puts_bits c.args.heap.now c.set_field.new.self c.args.r c.args.at c.args.bits c.set_field.ensures

@@ -3,8 +3,8 @@ use Rattle.dj_names.specs.declared.run.Value.{Value}
 use Rattle.dj_names.specs.declared.run.Value.TheVariants as values
 use Rattle.dj_stack.specs.Frames.{top_operands}
 use Rattle.dj_effects.proofs.Frames.{both_same}
-use Rattle.dj_members.proofs.FieldFacts.{puts, puts_limit, puts_no_such, puts_nothing}
-use Rattle.dj_members.proofs.fields.put_field.Goals as goal
+use Rattle.dj_member_effects.proofs.FieldFacts.{puts, puts_limit, puts_no_such, puts_nothing}
+use Rattle.dj_member_effects.proofs.fields.put_field.Goals as goal
 
 pub returns-then-not-is_of_kind : goal.returns-then-not-is_of_kind
 returns-then-not-is_of_kind g c = record {

@@ -3,8 +3,8 @@ use Rattle.dj_names.specs.declared.run.Value.{Value}
 use Rattle.dj_names.specs.declared.run.Value.TheVariants as values
 use Rattle.dj_stack.specs.Frames.{top_operands}
 use Rattle.dj_effects.proofs.Frames.{both_same}
-use Rattle.dj_members.proofs.ObjectFacts.{casts, casts_not}
-use Rattle.dj_members.proofs.objects.check_cast.Goals as goal
+use Rattle.dj_member_effects.proofs.ObjectFacts.{casts, casts_not}
+use Rattle.dj_member_effects.proofs.objects.check_cast.Goals as goal
 
 pub returns-then-is_instance : goal.returns-then-is_instance
 returns-then-is_instance g c =

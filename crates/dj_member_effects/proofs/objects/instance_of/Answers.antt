@@ -3,8 +3,8 @@ use Rattle.dj_names.specs.declared.run.Value.{Value}
 use Rattle.dj_names.specs.declared.run.Value.TheVariants as values
 use Rattle.dj_stack.specs.Frames.{top_operands}
 use Rattle.dj_effects.proofs.Frames.{both_same}
-use Rattle.dj_members.proofs.ObjectFacts.{says_instance}
-use Rattle.dj_members.proofs.objects.instance_of.Goals as goal
+use Rattle.dj_member_effects.proofs.ObjectFacts.{says_instance}
+use Rattle.dj_member_effects.proofs.objects.instance_of.Goals as goal
 
 pub returns : goal.returns
 returns g c =

@@ -2,8 +2,8 @@ use Rattle.std.proofs.Common.{◌≡◌, ◌∷◌, ap, ◌∙◌}
 use Rattle.dj_names.specs.declared.run.Value.{Value}
 use Rattle.dj_names.specs.declared.run.Value.TheVariants as values
 use Rattle.dj_stack.specs.Frames.{top_operands}
-use Rattle.dj_members.proofs.ObjectFacts.{throws}
-use Rattle.dj_members.proofs.objects.throw_top.Goals as goal
+use Rattle.dj_member_effects.proofs.ObjectFacts.{throws}
+use Rattle.dj_member_effects.proofs.objects.throw_top.Goals as goal
 
 pub returns-clause-thrown : goal.returns-clause-thrown
 returns-clause-thrown g c =

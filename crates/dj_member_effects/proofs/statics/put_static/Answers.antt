@@ -1,7 +1,7 @@
 use Rattle.std.proofs.Common.{set, refl, sym, ap, ◌∙◌}
 use Rattle.dj_stack.specs.Frames.{top_operands}
-use Rattle.dj_members.proofs.StaticFacts.{puts}
-use Rattle.dj_members.proofs.statics.put_static.Goals as goal
+use Rattle.dj_member_effects.proofs.StaticFacts.{puts}
+use Rattle.dj_member_effects.proofs.statics.put_static.Goals as goal
 
 pub returns : goal.returns
 returns c = record {

@@ -1,8 +1,8 @@
 use Rattle.std.proofs.Common.{get_or, refl, arith}
 use Rattle.std.proofs.lemmas.List.{get_or_default}
-use Rattle.dj_directory.specs.declared.rows.MemberRow.{MemberRow}
-use Rattle.dj_directory.proofs.CallLaws.{all_of, no_row, none_of, one_of}
-use Rattle.dj_directory.proofs.calls.firsts_of.Goals as goal
+use Rattle.dj_member_index.specs.declared.rows.MemberRow.{MemberRow}
+use Rattle.dj_member_index.proofs.CallLaws.{all_of, no_row, none_of, one_of}
+use Rattle.dj_member_index.proofs.calls.firsts_of.Goals as goal
 
 pub unreachable-requires : goal.unreachable-requires
 unreachable-requires c =

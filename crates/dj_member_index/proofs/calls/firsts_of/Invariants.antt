@@ -1,5 +1,5 @@
-use Rattle.dj_directory.proofs.CallLaws.{AreFirstsOf}
-use Rattle.dj_directory.proofs.calls.firsts_of.Given as goal
+use Rattle.dj_member_index.proofs.CallLaws.{AreFirstsOf}
+use Rattle.dj_member_index.proofs.calls.firsts_of.Given as goal
 
 -- those of the rows so far
 abbrev pub invariant-loop-row : goal.invariant-loop-row

@@ -1,9 +1,9 @@
 use Rattle.std.proofs.Common.{◌≡◌, rules, ℕ, ltb, true, false, subst}
 use Rattle.std.specs.List.Sorted.{IsPartitionPoint}
 use Rattle.std.proofs.lemmas.List.Sorted.{IsPartitionPoint-from_clause}
-use Rattle.dj_directory.specs.Calls.{place_key}
-use Rattle.dj_directory.proofs.CallLaws.{parted_places, placed_here}
-use Rattle.dj_directory.proofs.calls.halved.Goals as goal
+use Rattle.dj_member_index.specs.Calls.{place_key}
+use Rattle.dj_member_index.proofs.CallLaws.{parted_places, placed_here}
+use Rattle.dj_member_index.proofs.calls.halved.Goals as goal
 
 pub returns-else-is_placed-clause-none : goal.returns-else-is_placed-clause-none
 returns-else-is_placed-clause-none c e at placed =

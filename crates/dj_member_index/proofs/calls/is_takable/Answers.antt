@@ -1,10 +1,10 @@
 use Rattle.std.proofs.Common.{sym, ◌∙◌}
 use Rattle.std.specs.Prelude.{slice_get}
 use Rattle.std.proofs.lemmas.Bool.{false≢true}
-use Rattle.dj_classes.specs.Tables.{methods_at}
-use Rattle.dj_directory.specs.Calls.{tests}
-use Rattle.dj_directory.proofs.CallLaws.{in_class, in_methods, passes_is, takable_by}
-use Rattle.dj_directory.proofs.calls.is_takable.Goals as goal
+use Rattle.dj_class_table.specs.Tables.{methods_at}
+use Rattle.dj_member_index.specs.Calls.{tests}
+use Rattle.dj_member_index.proofs.CallLaws.{in_class, in_methods, passes_is, takable_by}
+use Rattle.dj_member_index.proofs.calls.is_takable.Goals as goal
 
 pub method_flags-flags-requires-clause-there : goal.method_flags-flags-requires-clause-there
 method_flags-flags-requires-clause-there c = in_class c.args.table.now c.args.rows.now c.requires.rows c.args.row c.requires.there

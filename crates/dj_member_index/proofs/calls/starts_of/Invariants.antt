@@ -1,5 +1,5 @@
 use Rattle.std.proofs.Common.{◌≤◌, length}
-use Rattle.dj_directory.proofs.calls.starts_of.Given as goal
+use Rattle.dj_member_index.proofs.calls.starts_of.Given as goal
 
 -- one of each class so far at most
 abbrev pub invariant-loop-class : goal.invariant-loop-class

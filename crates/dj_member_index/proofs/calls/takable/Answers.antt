@@ -1,11 +1,11 @@
 use Rattle.std.proofs.Common.{◌+◌, get_or, ap, ◌∙◌, subst, sym, arith}
 use Rattle.std.specs.Global.{Vec}
 use Rattle.std.proofs.lemmas.List.{get_or_default}
-use Rattle.dj_directory.specs.declared.rows.MemberRow.{MemberRow}
-use Rattle.dj_directory.specs.Calls.{tests, IsTakable, IsWhether}
-use Rattle.dj_directory.proofs.CallLaws.{AreSoFar, all_taken, none_more, one_more}
-use Rattle.dj_directory.proofs.calls.takable.Goals as goal
-use Rattle.dj_directory.proofs.calls.takable.Goals.{then-is_takable+in_ok-push, else-is_takable}
+use Rattle.dj_member_index.specs.declared.rows.MemberRow.{MemberRow}
+use Rattle.dj_member_index.specs.Calls.{tests, IsTakable, IsWhether}
+use Rattle.dj_member_index.proofs.CallLaws.{AreSoFar, all_taken, none_more, one_more}
+use Rattle.dj_member_index.proofs.calls.takable.Goals as goal
+use Rattle.dj_member_index.proofs.calls.takable.Goals.{then-is_takable+in_ok-push, else-is_takable}
 
 pub loop-row-preserved : goal.loop-row-preserved
 loop-row-preserved c =

@@ -1,6 +1,6 @@
-use Rattle.dj_directory.specs.Calls.{tests}
-use Rattle.dj_directory.proofs.CallLaws.{AreSoFar}
-use Rattle.dj_directory.proofs.calls.takable.Given as goal
+use Rattle.dj_member_index.specs.Calls.{tests}
+use Rattle.dj_member_index.proofs.CallLaws.{AreSoFar}
+use Rattle.dj_member_index.proofs.calls.takable.Given as goal
 
 -- those of the rows so far
 abbrev pub invariant-loop-row : goal.invariant-loop-row

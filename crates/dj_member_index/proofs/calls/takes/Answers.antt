@@ -1,5 +1,5 @@
-use Rattle.dj_directory.proofs.CallLaws.{takes_no_static, takes_private, takes_public}
-use Rattle.dj_directory.proofs.calls.takes.Goals as goal
+use Rattle.dj_member_index.proofs.CallLaws.{takes_no_static, takes_private, takes_public}
+use Rattle.dj_member_index.proofs.calls.takes.Goals as goal
 
 pub returns-then-flags-ne0 : goal.returns-then-flags-ne0
 returns-then-flags-ne0 c = takes_no_static c.args.private_too c.args.flags c.if-flags-ne0.true

@@ -1,7 +1,7 @@
 use Rattle.std.proofs.Common.{ℕ, List, length, map, sym, ap, ◌∙◌, subst}
-use Rattle.dj_directory.specs.DirectoryRows.{method_named, field_named, methods_named, fields_named, number_in, AreKnown}
-use Rattle.dj_directory.proofs.GatherLaws.{so_far_kept}
-use Rattle.dj_directory.proofs.gather.add_class.Goals as goal
+use Rattle.dj_member_index.specs.DirectoryRows.{method_named, field_named, methods_named, fields_named, number_in, AreKnown}
+use Rattle.dj_member_index.proofs.GatherLaws.{so_far_kept}
+use Rattle.dj_member_index.proofs.gather.add_class.Goals as goal
 
 pub add_methods-requires : goal.add_methods-requires
 add_methods-requires c = ap length c.deref.ensures.value ∙ c.in_ok-known.ensures.known_are.long

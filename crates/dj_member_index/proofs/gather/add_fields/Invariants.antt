@@ -1,6 +1,6 @@
 use Rattle.std.proofs.Common.{◌≡◌, map}
-use Rattle.dj_directory.specs.DirectoryRows.{field_named, Numbers, Members, AreKnown, AreSoFar}
-use Rattle.dj_directory.proofs.gather.add_fields.Given as goal
+use Rattle.dj_member_index.specs.DirectoryRows.{field_named, Numbers, Members, AreKnown, AreSoFar}
+use Rattle.dj_member_index.proofs.gather.add_fields.Given as goal
 
 -- the rows so far
 abbrev pub invariant-loop-place : goal.invariant-loop-place

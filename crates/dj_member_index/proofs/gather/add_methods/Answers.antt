@@ -1,8 +1,8 @@
 use Rattle.std.proofs.Common.{◌≤◌, length, map, ap, arith}
 use Rattle.std.proofs.lemmas.List.{length-map}
-use Rattle.dj_directory.specs.DirectoryRows.{method_named}
-use Rattle.dj_directory.proofs.GatherLaws.{method_at, next_member, class_done}
-use Rattle.dj_directory.proofs.gather.add_methods.Goals as goal
+use Rattle.dj_member_index.specs.DirectoryRows.{method_named}
+use Rattle.dj_member_index.proofs.GatherLaws.{method_at, next_member, class_done}
+use Rattle.dj_member_index.proofs.gather.add_methods.Goals as goal
 
 pub loop-place-init : goal.loop-place-init
 loop-place-init c number members are is far = far

@@ -1,6 +1,6 @@
 use Rattle.std.proofs.Common.{arith}
-use Rattle.dj_directory.proofs.GatherLaws.{none_numbered, numbered_more, all_numbered}
-use Rattle.dj_directory.proofs.gather.number_texts.Goals as goal
+use Rattle.dj_member_index.proofs.GatherLaws.{none_numbered, numbered_more, all_numbered}
+use Rattle.dj_member_index.proofs.gather.number_texts.Goals as goal
 
 pub loop-place-init : goal.loop-place-init
 loop-place-init c = none_numbered c.args.numbers.now c.args.texts.now.texts c.in_ok-known.known.items c.in_ok-known.ensures.items c.requires

@@ -1,5 +1,5 @@
-use Rattle.dj_directory.proofs.GatherLaws.{IsNumbering}
-use Rattle.dj_directory.proofs.gather.number_texts.Given as goal
+use Rattle.dj_member_index.proofs.GatherLaws.{IsNumbering}
+use Rattle.dj_member_index.proofs.gather.number_texts.Given as goal
 
 -- the numbers so far
 abbrev pub invariant-loop-place : goal.invariant-loop-place

@@ -1,9 +1,9 @@
 use Rattle.std.proofs.Common.{get_or, ap, ◌∙◌, arith}
 use Rattle.std.proofs.lemmas.List.{get_or_default}
-use Rattle.dj_directory.specs.declared.rows.MemberRow.{MemberRow}
-use Rattle.dj_directory.specs.Spans.{mark_of}
-use Rattle.dj_directory.proofs.SpanLaws.{all_marks, more_marks, no_marks}
-use Rattle.dj_directory.proofs.marks.marks_of.Goals as goal
+use Rattle.dj_member_index.specs.declared.rows.MemberRow.{MemberRow}
+use Rattle.dj_member_index.specs.Spans.{mark_of}
+use Rattle.dj_member_index.proofs.SpanLaws.{all_marks, more_marks, no_marks}
+use Rattle.dj_member_index.proofs.marks.marks_of.Goals as goal
 
 pub loop-row-init : goal.loop-row-init
 loop-row-init c = no_marks c.args.spans.now c.args.rows.now c.new-marks.result.items c.new-marks.ensures.items

@@ -1,5 +1,5 @@
-use Rattle.dj_directory.proofs.SpanLaws.{AreMarksOf}
-use Rattle.dj_directory.proofs.marks.marks_of.Given as goal
+use Rattle.dj_member_index.proofs.SpanLaws.{AreMarksOf}
+use Rattle.dj_member_index.proofs.marks.marks_of.Given as goal
 
 -- those of the rows so far
 abbrev pub invariant-loop-row : goal.invariant-loop-row

@@ -1,7 +1,7 @@
 use Rattle.std.proofs.Common.{ℕ, IfSome, length, refl, sym, ◌∙◌, subst}
-use Rattle.dj_directory.specs.Spans.{IsNearestIn}
-use Rattle.dj_directory.proofs.SpanLaws.{ends_cover, start_covers}
-use Rattle.dj_directory.proofs.marks.nearest_after.Goals as goal
+use Rattle.dj_member_index.specs.Spans.{IsNearestIn}
+use Rattle.dj_member_index.proofs.SpanLaws.{ends_cover, start_covers}
+use Rattle.dj_member_index.proofs.marks.nearest_after.Goals as goal
 
 pub returns-then-start-mark : goal.returns-then-start-mark
 returns-then-start-mark c = start_covers c.args.marks.now c.requires.order c.args.spans.now (length c.args.nearest.now) c.args.mark c.requires.mark (sym c.start-start.ensures ∙ c.if-start-mark.true)

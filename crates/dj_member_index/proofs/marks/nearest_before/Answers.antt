@@ -1,10 +1,10 @@
 use Rattle.std.proofs.Common.{ℕ, ◌-◌, ◌<◌, length, get_or, subst, arith}
 use Rattle.std.proofs.lemmas.List.{get_or_default}
-use Rattle.dj_directory.specs.declared.rows.MemberRow.{MemberRow}
-use Rattle.dj_directory.proofs.RowLaws.{IsPointAt}
-use Rattle.dj_directory.proofs.SpanLaws.{known_before, none_before, others_before}
-use Rattle.dj_directory.proofs.marks.nearest_before.Goals as goal
-use Rattle.dj_directory.proofs.marks.nearest_before.Goals.{then-mark-name-via-then-mark-name, then-mark-name-via-else-mark-name+then-mark-desc}
+use Rattle.dj_member_index.specs.declared.rows.MemberRow.{MemberRow}
+use Rattle.dj_member_index.proofs.RowLaws.{IsPointAt}
+use Rattle.dj_member_index.proofs.SpanLaws.{known_before, none_before, others_before}
+use Rattle.dj_member_index.proofs.marks.nearest_before.Goals as goal
+use Rattle.dj_member_index.proofs.marks.nearest_before.Goals.{then-mark-name-via-then-mark-name, then-mark-name-via-else-mark-name+then-mark-desc}
 
 pub returns-then-at-eq0 : goal.returns-then-at-eq0
 returns-then-at-eq0 c spans each =

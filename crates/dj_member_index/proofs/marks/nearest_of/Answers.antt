@@ -1,8 +1,8 @@
 use Rattle.std.proofs.Common.{ℕ, List, [], ◌∷◌, Option, length, sym, ap, subst, arith}
 use Rattle.std.proofs.lemmas.List.{length-append}
-use Rattle.dj_directory.specs.Spans.{AreNearest, Covers}
-use Rattle.dj_directory.proofs.SpanLaws.{more_nearest}
-use Rattle.dj_directory.proofs.marks.nearest_of.Goals as goal
+use Rattle.dj_member_index.specs.Spans.{AreNearest, Covers}
+use Rattle.dj_member_index.proofs.SpanLaws.{more_nearest}
+use Rattle.dj_member_index.proofs.marks.nearest_of.Goals as goal
 
 pub nearest_after-requires-clause-before : goal.nearest_after-requires-clause-before
 nearest_after-requires-clause-before c = subst (AreNearest c.args.spans.now c.args.marks.now) (sym c.deref.ensures.value) c.loop-mark.invariant.1

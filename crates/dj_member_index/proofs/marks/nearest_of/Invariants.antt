@@ -1,6 +1,6 @@
 use Rattle.std.proofs.Common.{◌≡◌, length}
-use Rattle.dj_directory.specs.Spans.{AreNearest}
-use Rattle.dj_directory.proofs.marks.nearest_of.Given as goal
+use Rattle.dj_member_index.specs.Spans.{AreNearest}
+use Rattle.dj_member_index.proofs.marks.nearest_of.Given as goal
 
 -- those of the marks so far
 abbrev pub invariant-loop-mark : goal.invariant-loop-mark

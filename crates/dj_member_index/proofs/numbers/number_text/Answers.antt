@@ -1,7 +1,7 @@
 use Rattle.std.proofs.Common.{ℕ, ◌+◌, Option, cond, sym, ap, ◌∙◌, btree_map_len}
 use Rattle.std.specs.Option.{is_some}
-use Rattle.dj_directory.proofs.NumberLaws.{bor, numbered_first, numbered_again}
-use Rattle.dj_directory.proofs.numbers.number_text.Goals as goal
+use Rattle.dj_member_index.proofs.NumberLaws.{bor, numbered_first, numbered_again}
+use Rattle.dj_member_index.proofs.numbers.number_text.Goals as goal
 
 pub returns-in-Some : goal.returns-in-Some
 returns-in-Some c = numbered_again c.args.numbers.now c.args.text.now c.in-Some.number (sym c.in-Some.ensures) c.requires

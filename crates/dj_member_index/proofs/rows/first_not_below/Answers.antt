@@ -1,8 +1,8 @@
 use Rattle.std.proofs.Common.{rules, ltb}
 use Rattle.std.proofs.lemmas.List.Sorted.{IsPartitionPoint-from_clause}
-use Rattle.dj_directory.specs.DirectoryRows.{key_of}
-use Rattle.dj_directory.proofs.RowLaws.{parted}
-use Rattle.dj_directory.proofs.rows.first_not_below.Goals as goal
+use Rattle.dj_member_index.specs.DirectoryRows.{key_of}
+use Rattle.dj_member_index.proofs.RowLaws.{parted}
+use Rattle.dj_member_index.proofs.rows.first_not_below.Goals as goal
 
 pub returns-clause-point : goal.returns-clause-point
 returns-clause-point c =

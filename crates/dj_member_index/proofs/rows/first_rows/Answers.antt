@@ -1,9 +1,9 @@
 use Rattle.std.proofs.Common.{◌+◌, ap, ◌∙◌, subst, sym, arith}
 use Rattle.std.specs.Global.{Vec}
-use Rattle.dj_directory.specs.declared.rows.MemberRow.{MemberRow}
-use Rattle.dj_directory.proofs.FirstLaws.{AreFirstOf, all_first, first_more, none_first, repeat_more}
-use Rattle.dj_directory.proofs.rows.first_rows.Goals as goal
-use Rattle.dj_directory.proofs.rows.first_rows.Goals.{then-not-is_repeat+in_ok-push, else-not-is_repeat}
+use Rattle.dj_member_index.specs.declared.rows.MemberRow.{MemberRow}
+use Rattle.dj_member_index.proofs.FirstLaws.{AreFirstOf, all_first, first_more, none_first, repeat_more}
+use Rattle.dj_member_index.proofs.rows.first_rows.Goals as goal
+use Rattle.dj_member_index.proofs.rows.first_rows.Goals.{then-not-is_repeat+in_ok-push, else-not-is_repeat}
 
 pub loop-at-init : goal.loop-at-init
 loop-at-init c = none_first c.args.rows.now c.new-firsts.result.items c.new-firsts.ensures.items

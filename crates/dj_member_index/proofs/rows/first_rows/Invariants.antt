@@ -1,5 +1,5 @@
-use Rattle.dj_directory.proofs.FirstLaws.{AreFirstOf}
-use Rattle.dj_directory.proofs.rows.first_rows.Given as goal
+use Rattle.dj_member_index.proofs.FirstLaws.{AreFirstOf}
+use Rattle.dj_member_index.proofs.rows.first_rows.Given as goal
 
 -- those of the rows so far
 abbrev pub invariant-loop-at : goal.invariant-loop-at

@@ -1,10 +1,10 @@
 use Rattle.std.proofs.Common.{◌≡◌, ℕ, ◌<◌, ltb, true, false, length, get_or, subst, arith}
 use Rattle.std.specs.List.Sorted.{IsPartitionPoint}
 use Rattle.std.proofs.lemmas.List.{get_or_default}
-use Rattle.dj_directory.specs.declared.rows.MemberRow.{MemberRow}
-use Rattle.dj_directory.specs.DirectoryRows.{key_of}
-use Rattle.dj_directory.proofs.RowLaws.{none_past, reported_at}
-use Rattle.dj_directory.proofs.rows.place_in.Goals as goal
+use Rattle.dj_member_index.specs.declared.rows.MemberRow.{MemberRow}
+use Rattle.dj_member_index.specs.DirectoryRows.{key_of}
+use Rattle.dj_member_index.proofs.RowLaws.{none_past, reported_at}
+use Rattle.dj_member_index.proofs.rows.place_in.Goals as goal
 
 pub returns-then-at-rows : goal.returns-then-at-rows
 returns-then-at-rows c =

@@ -1,7 +1,7 @@
 use Rattle.std.proofs.Common.{ℕ, subst, sym, arith}
-use Rattle.dj_directory.specs.DirectoryRows.{AreInOrder}
-use Rattle.dj_directory.proofs.RowLaws.{IsPointAt, are_rows_with, in_order_rest}
-use Rattle.dj_directory.proofs.rows.rows_with.Goals as goal
+use Rattle.dj_member_index.specs.DirectoryRows.{AreInOrder}
+use Rattle.dj_member_index.proofs.RowLaws.{IsPointAt, are_rows_with, in_order_rest}
+use Rattle.dj_member_index.proofs.rows.rows_with.Goals as goal
 
 pub first_not_below-requires-2 : goal.first_not_below-requires-2
 first_not_below-requires-2 c = subst AreInOrder (sym c.split_at.ensures.back) (in_order_rest c.args.rows.now c.first_not_below.result c.requires c.first_not_below.ensures.bound)

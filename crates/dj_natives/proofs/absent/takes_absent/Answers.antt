@@ -1,7 +1,7 @@
 use Rattle.std.proofs.Common.{sym, ◌∙◌}
 use Rattle.std.proofs.lemmas.Bool.{false≢true}
-use Rattle.dj_calls.proofs.BooleanArrays.{booleans_reported, chars_reported, others_reported}
-use Rattle.dj_calls.proofs.absent.takes_absent.Goals as goal
+use Rattle.dj_natives.proofs.BooleanArrays.{booleans_reported, chars_reported, others_reported}
+use Rattle.dj_natives.proofs.absent.takes_absent.Goals as goal
 
 pub returns-then-is_of_booleans : goal.returns-then-is_of_booleans
 returns-then-is_of_booleans g c =

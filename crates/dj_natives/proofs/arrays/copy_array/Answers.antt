@@ -1,11 +1,11 @@
 use Rattle.std.proofs.Common.{refl}
 use Rattle.dj_names.specs.declared.native.NativeId.TheVariants as natives
 use Rattle.dj_model.specs.trusted.Natives.{answer, reference, number}
-use Rattle.dj_calls.specs.Calls.{seen_of}
-use Rattle.dj_calls.specs.Copies.{copy_answer}
-use Rattle.dj_calls.proofs.Counted.{acts_done}
-use Rattle.dj_calls.proofs.CopyAnswers.{copy_owes}
-use Rattle.dj_calls.proofs.arrays.copy_array.Goals as goal
+use Rattle.dj_natives.specs.Calls.{seen_of}
+use Rattle.dj_natives.specs.Copies.{copy_answer}
+use Rattle.dj_natives.proofs.Counted.{acts_done}
+use Rattle.dj_natives.proofs.CopyAnswers.{copy_owes}
+use Rattle.dj_natives.proofs.arrays.copy_array.Goals as goal
 
 pub returns : goal.returns
 unfolding answer

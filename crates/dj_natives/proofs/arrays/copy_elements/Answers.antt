@@ -1,5 +1,5 @@
-use Rattle.dj_calls.proofs.Copied.{copied_all, copied_part}
-use Rattle.dj_calls.proofs.arrays.copy_elements.Goals as goal
+use Rattle.dj_natives.proofs.Copied.{copied_all, copied_part}
+use Rattle.dj_natives.proofs.arrays.copy_elements.Goals as goal
 
 pub returns-then-taken-copy : goal.returns-then-taken-copy
 returns-then-taken-copy g c = λ answer so.

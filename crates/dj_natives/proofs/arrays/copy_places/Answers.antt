@@ -1,11 +1,11 @@
 use Rattle.std.proofs.Common.{sym, subst}
 use Rattle.dj_names.specs.declared.run.Raised.TheVariants as raises
 use Rattle.dj_model.specs.trusted.Natives as model
-use Rattle.dj_calls.specs.declared.answer.NativeAnswer.TheVariants as reported
-use Rattle.dj_calls.specs.Calls.{Done}
-use Rattle.dj_calls.specs.Copies.{copy_answer}
-use Rattle.dj_calls.proofs.Performed.{raises_done}
-use Rattle.dj_calls.proofs.arrays.copy_places.Goals as goal
+use Rattle.dj_natives.specs.declared.answer.NativeAnswer.TheVariants as reported
+use Rattle.dj_natives.specs.Calls.{Done}
+use Rattle.dj_natives.specs.Copies.{copy_answer}
+use Rattle.dj_natives.proofs.Performed.{raises_done}
+use Rattle.dj_natives.proofs.arrays.copy_places.Goals as goal
 
 pub returns-in-Some : goal.returns-in-Some
 returns-in-Some g c =

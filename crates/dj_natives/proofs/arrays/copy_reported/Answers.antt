@@ -1,12 +1,12 @@
 use Rattle.std.proofs.Common.{◌≡◌, ℕ, ◌≤◌, Some, None, sym, subst, ◌∙◌, arith}
 use Rattle.dj_names.specs.declared.run.Raised.TheVariants as raises
 use Rattle.dj_model.specs.trusted.Natives as model
-use Rattle.dj_calls.specs.declared.answer.NativeAnswer.TheVariants as reported
-use Rattle.dj_calls.specs.Calls.{Done}
-use Rattle.dj_calls.specs.Seen.{elements_at, element_of}
-use Rattle.dj_calls.proofs.CopyPlaces.{null_source, null_target, no_source}
-use Rattle.dj_calls.proofs.Performed.{raises_done}
-use Rattle.dj_calls.proofs.arrays.copy_reported.Goals as goal
+use Rattle.dj_natives.specs.declared.answer.NativeAnswer.TheVariants as reported
+use Rattle.dj_natives.specs.Calls.{Done}
+use Rattle.dj_natives.specs.Seen.{elements_at, element_of}
+use Rattle.dj_natives.proofs.CopyPlaces.{null_source, null_target, no_source}
+use Rattle.dj_natives.proofs.Performed.{raises_done}
+use Rattle.dj_natives.proofs.arrays.copy_reported.Goals as goal
 
 pub returns-then-source-eq0 : goal.returns-then-source-eq0
 returns-then-source-eq0 g c =

@@ -1,8 +1,8 @@
 use Rattle.std.proofs.Common.{◌≡◌, ◌+◌, ◌-◌, ℤ, subst, arith, w64, FitsSigned, rules}
 use Rattle.std.proofs.lemmas.Int.{to_z-of_z}
 use Rattle.dj_heap.specs.Heaps.{Replaces, with_number}
-use Rattle.dj_calls.proofs.Moves.{MovesDown, down_none, down_there, down_target, down_more, down_all}
-use Rattle.dj_calls.proofs.arrays.move_down.Goals as goal
+use Rattle.dj_natives.proofs.Moves.{MovesDown, down_none, down_there, down_target, down_more, down_all}
+use Rattle.dj_natives.proofs.arrays.move_down.Goals as goal
 
 pub loop-left-init : goal.loop-left-init
 loop-left-init c = record { few = omega arith; moves = down_none c.args.heap.now c.args.copy c.args.count }

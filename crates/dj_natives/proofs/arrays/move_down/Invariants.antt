@@ -1,6 +1,6 @@
 use Rattle.std.proofs.Common.{◌≤◌}
-use Rattle.dj_calls.proofs.Moves.{MovesDown}
-use Rattle.dj_calls.proofs.arrays.move_down.Given as goal
+use Rattle.dj_natives.proofs.Moves.{MovesDown}
+use Rattle.dj_natives.proofs.arrays.move_down.Given as goal
 
 -- the elements from a place on
 abbrev pub invariant-loop-left : goal.invariant-loop-left

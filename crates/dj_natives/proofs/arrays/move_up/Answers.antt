@@ -1,8 +1,8 @@
 use Rattle.std.proofs.Common.{◌≡◌, ◌+◌, ℤ, subst, arith, w64, FitsSigned, rules}
 use Rattle.std.proofs.lemmas.Int.{to_z-of_z}
 use Rattle.dj_heap.specs.Heaps.{Replaces, with_number}
-use Rattle.dj_calls.proofs.Moves.{up_none, up_there, up_target, up_more}
-use Rattle.dj_calls.proofs.arrays.move_up.Goals as goal
+use Rattle.dj_natives.proofs.Moves.{up_none, up_there, up_target, up_more}
+use Rattle.dj_natives.proofs.arrays.move_up.Goals as goal
 
 pub loop-at-init : goal.loop-at-init
 loop-at-init c = up_none c.args.heap.now c.args.copy

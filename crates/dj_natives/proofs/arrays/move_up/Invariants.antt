@@ -1,5 +1,5 @@
-use Rattle.dj_calls.specs.Copies.{Moves}
-use Rattle.dj_calls.proofs.arrays.move_up.Given as goal
+use Rattle.dj_natives.specs.Copies.{Moves}
+use Rattle.dj_natives.proofs.arrays.move_up.Given as goal
 
 -- the elements so far
 abbrev pub invariant-loop-at : goal.invariant-loop-at

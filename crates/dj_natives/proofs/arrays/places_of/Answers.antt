@@ -3,12 +3,12 @@ use Rattle.std.specs.Prelude.{◌&&◌}
 use Rattle.dj_names.specs.declared.descriptor.Kind.TheVariants as kinds
 use Rattle.dj_names.specs.declared.native.NativeId.TheVariants as natives
 use Rattle.dj_model.specs.NativeKinds.{native_signature}
-use Rattle.dj_calls.specs.Copies.{IsPlaces, fits_at, contents_at}
-use Rattle.dj_calls.specs.Seen.{elements_at, element_of}
+use Rattle.dj_natives.specs.Copies.{IsPlaces, fits_at, contents_at}
+use Rattle.dj_natives.specs.Seen.{elements_at, element_of}
 use Rattle.dj_model.specs.trusted.Natives.{reference}
-use Rattle.dj_calls.proofs.ArgumentKinds.{argument_kind}
-use Rattle.dj_calls.proofs.CopyPlaces.{is_array, are_places, outside_from, outside_to, outside_count, outside_array}
-use Rattle.dj_calls.proofs.arrays.places_of.Goals as goal
+use Rattle.dj_natives.proofs.ArgumentKinds.{argument_kind}
+use Rattle.dj_natives.proofs.CopyPlaces.{is_array, are_places, outside_from, outside_to, outside_count, outside_array}
+use Rattle.dj_natives.proofs.arrays.places_of.Goals as goal
 
 pub place-requires : goal.place-requires
 unfolding native_signature

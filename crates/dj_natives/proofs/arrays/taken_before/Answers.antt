@@ -2,9 +2,9 @@ use Rattle.std.proofs.Common.{◌≡◌, ℤ, sym, subst, ◌∙◌, arith, w64,
 use Rattle.std.specs.Prelude.{unsigned_abs}
 use Rattle.std.proofs.lemmas.Int.{to_z-of_z}
 use Rattle.dj_names.specs.declared.run.Element.TheVariants as elements
-use Rattle.dj_calls.specs.Copies.{takes_at}
-use Rattle.dj_calls.proofs.Takings.{takes_none, takes_more, takes_stop, takes_all, takes_element, takes_there}
-use Rattle.dj_calls.proofs.arrays.taken_before.Goals as goal
+use Rattle.dj_natives.specs.Copies.{takes_at}
+use Rattle.dj_natives.proofs.Takings.{takes_none, takes_more, takes_stop, takes_all, takes_element, takes_there}
+use Rattle.dj_natives.proofs.arrays.taken_before.Goals as goal
 
 pub loop-at-init : goal.loop-at-init
 loop-at-init g c =

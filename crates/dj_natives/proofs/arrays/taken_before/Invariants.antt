@@ -1,6 +1,6 @@
-use Rattle.dj_calls.specs.Copies.{takes_at}
-use Rattle.dj_calls.proofs.Takings.{TakesTo}
-use Rattle.dj_calls.proofs.arrays.taken_before.Given as goal
+use Rattle.dj_natives.specs.Copies.{takes_at}
+use Rattle.dj_natives.proofs.Takings.{TakesTo}
+use Rattle.dj_natives.proofs.arrays.taken_before.Given as goal
 
 -- those so far are taken
 abbrev pub invariant-loop-at : goal.invariant-loop-at

@@ -1,5 +1,5 @@
-use Rattle.dj_calls.proofs.Copied.{moves_references, moves_others}
-use Rattle.dj_calls.proofs.arrays.taken_of.Goals as goal
+use Rattle.dj_natives.proofs.Copied.{moves_references, moves_others}
+use Rattle.dj_natives.proofs.arrays.taken_of.Goals as goal
 
 pub returns-in-Ref-clause-moved : goal.returns-in-Ref-clause-moved
 returns-in-Ref-clause-moved g c = rw c.in-Ref.is

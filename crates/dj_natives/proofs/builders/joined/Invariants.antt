@@ -1,6 +1,6 @@
 use Rattle.std.proofs.Common.{◌≡◌, ◌++◌, take}
-use Rattle.dj_calls.specs.Seen.{units_at}
-use Rattle.dj_calls.proofs.builders.joined.Given as goal
+use Rattle.dj_natives.specs.Seen.{units_at}
+use Rattle.dj_natives.proofs.builders.joined.Given as goal
 
 -- the units so far
 abbrev pub invariant-loop-unit : goal.invariant-loop-unit

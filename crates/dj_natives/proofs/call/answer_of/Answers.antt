@@ -1,7 +1,7 @@
-use Rattle.dj_calls.specs.Calls.{seen_of}
-use Rattle.dj_calls.proofs.Groups.{none_is_answered}
-use Rattle.dj_calls.proofs.Reported.{last_reported}
-use Rattle.dj_calls.proofs.call.answer_of.Goals as goal
+use Rattle.dj_natives.specs.Calls.{seen_of}
+use Rattle.dj_natives.proofs.Groups.{none_is_answered}
+use Rattle.dj_natives.proofs.Reported.{last_reported}
+use Rattle.dj_natives.proofs.call.answer_of.Goals as goal
 
 pub returns : goal.returns
 returns g c =

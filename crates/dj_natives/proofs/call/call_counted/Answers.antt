@@ -1,8 +1,8 @@
 use Rattle.std.proofs.Common.{Some, subst}
-use Rattle.dj_calls.specs.Counting.{Counts, due_view}
-use Rattle.dj_calls.specs.declared.answer.NativeAnswer.TheVariants as reported
-use Rattle.dj_calls.proofs.Counted.{fine_calls, stop_calls_all}
-use Rattle.dj_calls.proofs.call.call_counted.Goals as goal
+use Rattle.dj_natives.specs.Counting.{Counts, due_view}
+use Rattle.dj_natives.specs.declared.answer.NativeAnswer.TheVariants as reported
+use Rattle.dj_natives.proofs.Counted.{fine_calls, stop_calls_all}
+use Rattle.dj_natives.proofs.call.call_counted.Goals as goal
 
 pub returns-in-Fine : goal.returns-in-Fine
 returns-in-Fine g c =

@@ -1,4 +1,4 @@
-use Rattle.dj_calls.proofs.call.call_native.Goals as goal
+use Rattle.dj_natives.proofs.call.call_native.Goals as goal
 
 pub returns-in-Some : goal.returns-in-Some
 returns-in-Some g c = rw c.in-Some.is c.call_counted.ensures

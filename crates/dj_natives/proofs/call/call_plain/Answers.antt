@@ -1,6 +1,6 @@
 use Rattle.std.proofs.Common.{None}
-use Rattle.dj_calls.proofs.Counted.{fine_calls, plain_due, is_plain, counts_none}
-use Rattle.dj_calls.proofs.call.call_plain.Goals as goal
+use Rattle.dj_natives.proofs.Counted.{fine_calls, plain_due, is_plain, counts_none}
+use Rattle.dj_natives.proofs.call.call_plain.Goals as goal
 
 pub returns : goal.returns
 returns g c =

@@ -1,9 +1,9 @@
 use Rattle.std.proofs.Common.{◌≡◌, ◌++◌, length, ap, sym, ◌∙◌}
 use Rattle.dj_model.specs.trusted.Natives as model
-use Rattle.dj_calls.specs.Answers.{answer_view}
-use Rattle.dj_calls.specs.Seen.{units_at}
-use Rattle.dj_calls.proofs.Reported.{reported_as, reported_by, joined_made}
-use Rattle.dj_calls.proofs.makers.concat.Goals as goal
+use Rattle.dj_natives.specs.Answers.{answer_view}
+use Rattle.dj_natives.specs.Seen.{units_at}
+use Rattle.dj_natives.proofs.Reported.{reported_as, reported_by, joined_made}
+use Rattle.dj_natives.proofs.makers.concat.Goals as goal
 
 pub returns : goal.returns
 returns c =

@@ -1,10 +1,10 @@
 use Rattle.std.proofs.Common.{pos, arith}
 use Rattle.std.specs.Prelude.{slice_range}
 use Rattle.dj_model.specs.trusted.Natives as model
-use Rattle.dj_calls.specs.Answers.{answer_view}
-use Rattle.dj_calls.specs.Seen.{units_at}
-use Rattle.dj_calls.proofs.Reported.{reported_as, reported_by, part_made}
-use Rattle.dj_calls.proofs.makers.inner_part.Goals as goal
+use Rattle.dj_natives.specs.Answers.{answer_view}
+use Rattle.dj_natives.specs.Seen.{units_at}
+use Rattle.dj_natives.proofs.Reported.{reported_as, reported_by, part_made}
+use Rattle.dj_natives.proofs.makers.inner_part.Goals as goal
 
 pub returns : goal.returns
 returns c =

@@ -9,13 +9,13 @@ use Rattle.dj_names.specs.declared.run.Value.TheVariants as values
 use Rattle.dj_names.specs.trusted.Types.{same_name}
 use Rattle.dj_heap.specs.Heaps.{object_in}
 use Rattle.dj_model.specs.trusted.Natives.{answer, reference, number, unit, flag, gives_int, gives_truth, gives_reference, unit_at, hash_onto, compared_text, unless_null, joined_text, part_between, MakesText, MakesChars, KeepsText, SetsFields, elements_units, signed_decimal, truth_text, text_or_null}
-use Rattle.dj_calls.specs.Answers.{answer_view}
-use Rattle.dj_calls.specs.Calls.{seen_of}
-use Rattle.dj_calls.specs.Known.{IsFitting, IsOfChars}
-use Rattle.dj_calls.specs.Seen.{units_at, is_text_at, field_at, elements_at, null_or_units}
-use Rattle.dj_calls.proofs.Others.{no_on_texts, no_making_text, no_on_builders}
-use Rattle.dj_calls.proofs.Reported.{says, reported_some, reported_flip, reported_by, reported_appended, seen_units, seen_is_text, seen_elements, seen_builder}
-use Rattle.dj_calls.proofs.makers.making_text.Goals as goal
+use Rattle.dj_natives.specs.Answers.{answer_view}
+use Rattle.dj_natives.specs.Calls.{seen_of}
+use Rattle.dj_natives.specs.Known.{IsFitting, IsOfChars}
+use Rattle.dj_natives.specs.Seen.{units_at, is_text_at, field_at, elements_at, null_or_units}
+use Rattle.dj_natives.proofs.Others.{no_on_texts, no_making_text, no_on_builders}
+use Rattle.dj_natives.proofs.Reported.{says, reported_some, reported_flip, reported_by, reported_appended, seen_units, seen_is_text, seen_elements, seen_builder}
+use Rattle.dj_natives.proofs.makers.making_text.Goals as goal
 
 pub value_of_chars-requires : goal.value_of_chars-requires
 value_of_chars-requires c = record {

@@ -1,10 +1,10 @@
 use Rattle.std.proofs.Common.{◌≡◌, ℕ, ℤ, pos, Some, None, length, IfSome, sym, subst, ◌∙◌, w64, FitsSigned, to_z, of_z, rules}
 use Rattle.std.proofs.lemmas.Int.{to_z-of_z}
 use Rattle.dj_model.specs.trusted.Natives as model
-use Rattle.dj_calls.specs.Answers.{answer_view}
-use Rattle.dj_calls.specs.Seen.{units_at, place_within}
-use Rattle.dj_calls.proofs.Reported.{place_found, no_from, no_to}
-use Rattle.dj_calls.proofs.makers.part.Goals as goal
+use Rattle.dj_natives.specs.Answers.{answer_view}
+use Rattle.dj_natives.specs.Seen.{units_at, place_within}
+use Rattle.dj_natives.proofs.Reported.{place_found, no_from, no_to}
+use Rattle.dj_natives.proofs.makers.part.Goals as goal
 
 pub returns-in-Some : goal.returns-in-Some
 returns-in-Some c =

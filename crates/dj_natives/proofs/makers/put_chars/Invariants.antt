@@ -1,7 +1,7 @@
 use Rattle.std.proofs.Common.{◌≡◌, ◌++◌, take}
 use Rattle.dj_model.specs.trusted.Natives as model
-use Rattle.dj_calls.specs.Seen.{elements_at}
-use Rattle.dj_calls.proofs.makers.put_chars.Given as goal
+use Rattle.dj_natives.specs.Seen.{elements_at}
+use Rattle.dj_natives.proofs.makers.put_chars.Given as goal
 
 -- the elements so far
 abbrev pub invariant-loop-at : goal.invariant-loop-at

@@ -1,8 +1,8 @@
 use Rattle.dj_model.specs.trusted.Natives as model
-use Rattle.dj_calls.specs.Answers.{answer_view}
-use Rattle.dj_calls.specs.Seen.{elements_at}
-use Rattle.dj_calls.proofs.Reported.{reported_as, reported_by, not_null_made}
-use Rattle.dj_calls.proofs.makers.value_of_chars.Goals as goal
+use Rattle.dj_natives.specs.Answers.{answer_view}
+use Rattle.dj_natives.specs.Seen.{elements_at}
+use Rattle.dj_natives.proofs.Reported.{reported_as, reported_by, not_null_made}
+use Rattle.dj_natives.proofs.makers.value_of_chars.Goals as goal
 
 pub returns : goal.returns
 returns c =

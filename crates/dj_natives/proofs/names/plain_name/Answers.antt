@@ -1,6 +1,6 @@
 use Rattle.std.proofs.Common.{◌≡◌, ℕ, List, IfOk, subst}
-use Rattle.dj_calls.proofs.NameFacts.{plain_reported}
-use Rattle.dj_calls.proofs.names.plain_name.Goals as goal
+use Rattle.dj_natives.proofs.NameFacts.{plain_reported}
+use Rattle.dj_natives.proofs.names.plain_name.Goals as goal
 
 pub returns : goal.returns
 returns g c =

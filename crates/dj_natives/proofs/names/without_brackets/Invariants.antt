@@ -1,6 +1,6 @@
 use Rattle.std.proofs.Common.{◌≡◌, ◌≤◌, length}
-use Rattle.dj_calls.specs.Names.{after_brackets}
-use Rattle.dj_calls.proofs.names.without_brackets.Given as goal
+use Rattle.dj_natives.specs.Names.{after_brackets}
+use Rattle.dj_natives.proofs.names.without_brackets.Given as goal
 
 -- the rest has the same elements
 abbrev pub invariant-loop-rest : goal.invariant-loop-rest

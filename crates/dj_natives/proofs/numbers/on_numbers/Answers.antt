@@ -2,8 +2,8 @@ use Rattle.std.proofs.Common.{refl}
 use Rattle.dj_names.specs.declared.descriptor.Kind.TheVariants as kinds
 use Rattle.dj_names.specs.declared.native.NativeId.TheVariants as natives
 use Rattle.dj_model.specs.NativeKinds.{native_signature}
-use Rattle.dj_calls.proofs.ArgumentKinds.{argument_kind}
-use Rattle.dj_calls.proofs.numbers.on_numbers.Goals as goal
+use Rattle.dj_natives.proofs.ArgumentKinds.{argument_kind}
+use Rattle.dj_natives.proofs.numbers.on_numbers.Goals as goal
 
 pub int-requires : goal.int-requires
 unfolding native_signature

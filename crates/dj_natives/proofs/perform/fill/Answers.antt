@@ -3,9 +3,9 @@ use Rattle.std.proofs.lemmas.Int.{ints, to_z-of_z}
 use Rattle.std.specs.Prelude.{slice_index}
 use Rattle.std.proofs.lemmas.Option.{slice_get-get_or}
 use Rattle.dj_heap.specs.Heaps.{Replaces, with_number}
-use Rattle.dj_calls.specs.Calls.{IsFillable}
-use Rattle.dj_calls.proofs.HeapLaws.{fills_none, fills_more, fills_all, fill_within}
-use Rattle.dj_calls.proofs.perform.fill.Goals as goal
+use Rattle.dj_natives.specs.Calls.{IsFillable}
+use Rattle.dj_natives.proofs.HeapLaws.{fills_none, fills_more, fills_all, fill_within}
+use Rattle.dj_natives.proofs.perform.fill.Goals as goal
 
 pub loop-at-init : goal.loop-at-init
 loop-at-init c = fills_none c.args.heap.now c.args.array c.args.units.now

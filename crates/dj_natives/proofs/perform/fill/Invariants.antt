@@ -1,5 +1,5 @@
-use Rattle.dj_calls.proofs.HeapLaws.{FillsTo}
-use Rattle.dj_calls.proofs.perform.fill.Given as goal
+use Rattle.dj_natives.proofs.HeapLaws.{FillsTo}
+use Rattle.dj_natives.proofs.perform.fill.Given as goal
 
 -- the elements so far
 abbrev pub invariant-loop-at : goal.invariant-loop-at

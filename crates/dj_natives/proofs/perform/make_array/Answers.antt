@@ -1,5 +1,5 @@
-use Rattle.dj_calls.proofs.Performed.{few_units, filled, chars_refused}
-use Rattle.dj_calls.proofs.perform.make_array.Goals as goal
+use Rattle.dj_natives.proofs.Performed.{few_units, filled, chars_refused}
+use Rattle.dj_natives.proofs.perform.make_array.Goals as goal
 
 pub returns-in-Ok-array : goal.returns-in-Ok-array
 returns-in-Ok-array g c =

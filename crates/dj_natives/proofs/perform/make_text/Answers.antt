@@ -1,10 +1,10 @@
 use Rattle.std.proofs.Common.{subst}
 use Rattle.dj_names.specs.declared.run.Value.TheVariants as values
 use Rattle.dj_model.specs.trusted.Natives as model
-use Rattle.dj_calls.specs.declared.answer.NativeAnswer.TheVariants as reported
-use Rattle.dj_calls.specs.Calls.{Done}
-use Rattle.dj_calls.proofs.Performed.{text_made, text_refused}
-use Rattle.dj_calls.proofs.perform.make_text.Goals as goal
+use Rattle.dj_natives.specs.declared.answer.NativeAnswer.TheVariants as reported
+use Rattle.dj_natives.specs.Calls.{Done}
+use Rattle.dj_natives.proofs.Performed.{text_made, text_refused}
+use Rattle.dj_natives.proofs.perform.make_text.Goals as goal
 
 pub returns-in-Ok : goal.returns-in-Ok
 returns-in-Ok g c =

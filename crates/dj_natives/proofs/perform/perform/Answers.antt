@@ -1,8 +1,8 @@
 use Rattle.std.proofs.Common.{subst, sym}
 use Rattle.dj_model.specs.trusted.Natives as model
-use Rattle.dj_calls.specs.Calls.{Done}
-use Rattle.dj_calls.proofs.Performed.{returns_done, raises_done, adds_done}
-use Rattle.dj_calls.proofs.perform.perform.Goals as goal
+use Rattle.dj_natives.specs.Calls.{Done}
+use Rattle.dj_natives.proofs.Performed.{returns_done, raises_done, adds_done}
+use Rattle.dj_natives.proofs.perform.perform.Goals as goal
 
 pub returns-in-Returns : goal.returns-in-Returns
 returns-in-Returns g c = rw c.in-Returns.is

@@ -1,5 +1,5 @@
-use Rattle.dj_calls.proofs.HeapLaws.{set_there, set_lacking}
-use Rattle.dj_calls.proofs.perform.set_field.Goals as goal
+use Rattle.dj_natives.proofs.HeapLaws.{set_there, set_lacking}
+use Rattle.dj_natives.proofs.perform.set_field.Goals as goal
 
 pub returns-in-Some : goal.returns-in-Some
 returns-in-Some c =

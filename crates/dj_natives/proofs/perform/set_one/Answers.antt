@@ -1,9 +1,9 @@
 use Rattle.std.proofs.Common.{[], ◌∷◌, ap, ◌∙◌}
 use Rattle.dj_names.specs.declared.run.Value.TheVariants as values
 use Rattle.dj_heap.specs.Heaps.{object_in}
-use Rattle.dj_calls.specs.Calls.{set_in}
-use Rattle.dj_calls.proofs.Performed.{one_value, sets_done}
-use Rattle.dj_calls.proofs.perform.set_one.Goals as goal
+use Rattle.dj_natives.specs.Calls.{set_in}
+use Rattle.dj_natives.proofs.Performed.{one_value, sets_done}
+use Rattle.dj_natives.proofs.perform.set_one.Goals as goal
 
 pub returns : goal.returns
 returns g c =

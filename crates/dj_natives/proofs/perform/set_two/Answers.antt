@@ -1,7 +1,7 @@
 use Rattle.std.proofs.Common.{[], ◌∷◌}
 use Rattle.dj_names.specs.declared.run.Value.TheVariants as values
-use Rattle.dj_calls.proofs.Performed.{two_values, sets_done}
-use Rattle.dj_calls.proofs.perform.set_two.Goals as goal
+use Rattle.dj_natives.proofs.Performed.{two_values, sets_done}
+use Rattle.dj_natives.proofs.perform.set_two.Goals as goal
 
 pub returns : goal.returns
 returns g c =

@@ -1,7 +1,7 @@
 use Rattle.std.proofs.Common.{subst, ap, ◌∙◌, Some}
-use Rattle.dj_calls.specs.Seen.{IsInstanceWith}
-use Rattle.dj_calls.proofs.HeapLaws.{instance_is}
-use Rattle.dj_calls.proofs.seen.instance_with.Goals as goal
+use Rattle.dj_natives.specs.Seen.{IsInstanceWith}
+use Rattle.dj_natives.proofs.HeapLaws.{instance_is}
+use Rattle.dj_natives.proofs.seen.instance_with.Goals as goal
 
 pub returns-then-at-length : goal.returns-then-at-length
 returns-then-at-length c = (

@@ -1,7 +1,7 @@
 use Rattle.std.proofs.Common.{◌≡◌, ◌++◌}
 use Rattle.std.specs.Prelude.{slice_range}
-use Rattle.dj_calls.specs.Seen.{units_at}
-use Rattle.dj_calls.proofs.seen.put_between.Given as goal
+use Rattle.dj_natives.specs.Seen.{units_at}
+use Rattle.dj_natives.proofs.seen.put_between.Given as goal
 
 -- the units so far
 abbrev pub invariant-loop-at : goal.invariant-loop-at

@@ -1,7 +1,7 @@
 use Rattle.std.proofs.Common.{◌≡◌, take, drop}
 use Rattle.dj_names.specs.trusted.Types.{same_name}
-use Rattle.dj_calls.specs.Seen.{units_at}
-use Rattle.dj_calls.proofs.texts.agree.Given as goal
+use Rattle.dj_natives.specs.Seen.{units_at}
+use Rattle.dj_natives.proofs.texts.agree.Given as goal
 
 -- the rest decides
 abbrev pub invariant-loop-at : goal.invariant-loop-at

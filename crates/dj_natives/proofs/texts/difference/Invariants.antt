@@ -1,7 +1,7 @@
 use Rattle.std.proofs.Common.{◌≡◌, drop}
 use Rattle.dj_model.specs.trusted.Natives as model
-use Rattle.dj_calls.specs.Seen.{units_at}
-use Rattle.dj_calls.proofs.texts.difference.Given as goal
+use Rattle.dj_natives.specs.Seen.{units_at}
+use Rattle.dj_natives.proofs.texts.difference.Given as goal
 
 -- the rest decides
 abbrev pub invariant-loop-at : goal.invariant-loop-at

@@ -1,7 +1,7 @@
 use Rattle.std.proofs.Common.{ap, sym}
 use Rattle.dj_model.specs.trusted.Linking.{is_subtype, is_subclass, chain_of, interfaces_from, interfaces_above, most_classes}
-use Rattle.dj_call_tests.specs.Few.{few_below}
-use Rattle.dj_call_tests.proofs.few.below.Goals as goal
+use Rattle.dj_natives_tests.specs.Few.{few_below}
+use Rattle.dj_natives_tests.proofs.few.below.Goals as goal
 
 pub returns-then-boxed : goal.returns-then-boxed
 unfolding is_subtype is_subclass chain_of interfaces_from interfaces_above most_classes

@@ -1,6 +1,6 @@
 use Rattle.std.proofs.Common.{arith}
-use Rattle.dj_call_tests.proofs.KnownObjects.{known_instance}
-use Rattle.dj_call_tests.proofs.known.is_known.Goals as goal
+use Rattle.dj_natives_tests.proofs.KnownObjects.{known_instance}
+use Rattle.dj_natives_tests.proofs.known.is_known.Goals as goal
 
 pub returns-in-Instance : goal.returns-in-Instance
 returns-in-Instance c = λ t.

@@ -1,6 +1,6 @@
-use Rattle.dj_call_tests.specs.Few.{few_types}
-use Rattle.dj_call_tests.proofs.KnownObjects.{known_references}
-use Rattle.dj_call_tests.proofs.known.is_known_array.Goals as goal
+use Rattle.dj_natives_tests.specs.Few.{few_types}
+use Rattle.dj_natives_tests.proofs.KnownObjects.{known_references}
+use Rattle.dj_natives_tests.proofs.known.is_known_array.Goals as goal
 
 pub returns-in-Some : goal.returns-in-Some
 returns-in-Some c = λ t.

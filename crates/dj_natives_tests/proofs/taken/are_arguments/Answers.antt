@@ -1,7 +1,7 @@
 use Rattle.std.proofs.Common.{sym, ◌∙◌}
 use Rattle.std.proofs.lemmas.Bool.{true≢false}
-use Rattle.dj_call_tests.proofs.KindsTaken.{arguments_of}
-use Rattle.dj_call_tests.proofs.taken.are_arguments.Goals as goal
+use Rattle.dj_natives_tests.proofs.KindsTaken.{arguments_of}
+use Rattle.dj_natives_tests.proofs.taken.are_arguments.Goals as goal
 
 pub returns-then-row : goal.returns-then-row
 returns-then-row c = λ t.

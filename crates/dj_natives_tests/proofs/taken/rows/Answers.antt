@@ -1,6 +1,6 @@
 use Rattle.std.proofs.Common.{refl}
 use Rattle.dj_model.specs.NativeKinds.{native_signature}
-use Rattle.dj_call_tests.proofs.taken.rows.Goals as goal
+use Rattle.dj_natives_tests.proofs.taken.rows.Goals as goal
 
 pub returns : goal.returns
 unfolding native_signature

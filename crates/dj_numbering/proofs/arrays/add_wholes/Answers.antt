@@ -1,9 +1,9 @@
 use Rattle.std.proofs.Common.{ℕ, ◌<◌, subst, ap, ◌∙◌, ◌++◌, ◌∷◌, []}
 use Rattle.dj_names.specs.trusted.Types.{Name}
 use Rattle.dj_names.specs.declared.descriptor.Of.TheVariants as ofs
-use Rattle.dj_types.specs.Kept.{whole_text}
-use Rattle.dj_types.proofs.Wholes.{whole_more}
-use Rattle.dj_types.proofs.arrays.add_wholes.Goals as goal
+use Rattle.dj_numbering.specs.Kept.{whole_text}
+use Rattle.dj_numbering.proofs.Wholes.{whole_more}
+use Rattle.dj_numbering.proofs.arrays.add_wholes.Goals as goal
 
 pub loop-class-preserved : goal.loop-class-preserved
 loop-class-preserved c =

@@ -1,6 +1,6 @@
 use Rattle.std.proofs.Common.{ap, ◌∙◌, Some}
-use Rattle.dj_types.proofs.Wholes.{component_deep}
-use Rattle.dj_types.proofs.arrays.component_text.Goals as goal
+use Rattle.dj_numbering.proofs.Wholes.{component_deep}
+use Rattle.dj_numbering.proofs.arrays.component_text.Goals as goal
 
 pub returns-then-dims-gt1 : goal.returns-then-dims-gt1
 returns-then-dims-gt1 c =

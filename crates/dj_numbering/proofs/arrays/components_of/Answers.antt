@@ -1,9 +1,9 @@
 use Rattle.std.proofs.Common.{map, sym, subst}
-use Rattle.dj_types.specs.Shapes.{shape_type}
-use Rattle.dj_types.specs.Kept.{DoTextsRise}
-use Rattle.dj_types.proofs.Rising.{texts_rise}
-use Rattle.dj_types.proofs.Wholes.{spelled_by, some_dims}
-use Rattle.dj_types.proofs.arrays.components_of.Goals as goal
+use Rattle.dj_numbering.specs.Shapes.{shape_type}
+use Rattle.dj_numbering.specs.Kept.{DoTextsRise}
+use Rattle.dj_numbering.proofs.Rising.{texts_rise}
+use Rattle.dj_numbering.proofs.Wholes.{spelled_by, some_dims}
+use Rattle.dj_numbering.proofs.arrays.components_of.Goals as goal
 
 pub component_of-requires-clause-rise : goal.component_of-requires-clause-rise
 component_of-requires-clause-rise c =

@@ -1,7 +1,7 @@
 use Rattle.std.proofs.Common.{◌≡◌, map, take}
-use Rattle.dj_types.specs.Shapes.{shape_type}
-use Rattle.dj_types.specs.Kept.{component_in, text_in}
-use Rattle.dj_types.proofs.arrays.components_of.Given as goal
+use Rattle.dj_numbering.specs.Shapes.{shape_type}
+use Rattle.dj_numbering.specs.Kept.{component_in, text_in}
+use Rattle.dj_numbering.proofs.arrays.components_of.Given as goal
 
 -- the numbers of those so far
 abbrev pub invariant-loop-shape : goal.invariant-loop-shape

@@ -1,8 +1,8 @@
 use Rattle.std.proofs.Common.{Some, map, sym, ap, ◌+◌, ◌∙◌, arith, ℕ}
 use Rattle.std.proofs.lemmas.List.{length-map}
-use Rattle.dj_types.specs.Kept.{text_in}
-use Rattle.dj_types.proofs.Numbers.{number_of_class, number_of_none, number_of_text, place_within}
-use Rattle.dj_types.proofs.arrays.number_in.Goals as goal
+use Rattle.dj_numbering.specs.Kept.{text_in}
+use Rattle.dj_numbering.proofs.Numbers.{number_of_class, number_of_none, number_of_text, place_within}
+use Rattle.dj_numbering.proofs.arrays.number_in.Goals as goal
 
 pub returns-in-Some : goal.returns-in-Some
 returns-in-Some c = sym (number_of_class c.args.table.now (map (text_in c.args.wholes.now) c.args.shapes.now) c.args.text.now c.in-Some.class (sym c.in-Some.ensures))

@@ -1,9 +1,9 @@
 use Rattle.std.proofs.Common.{rules, sym}
 use Rattle.std.proofs.lemmas.Fn.{always_returns_same}
-use Rattle.dj_types.specs.declared.shapes.Shape.{Shape}
-use Rattle.dj_types.specs.Kept.{text_in}
-use Rattle.dj_types.proofs.Texts.{against, text_found, text_missing}
-use Rattle.dj_types.proofs.arrays.place_in.Goals as goal
+use Rattle.dj_numbering.specs.declared.shapes.Shape.{Shape}
+use Rattle.dj_numbering.specs.Kept.{text_in}
+use Rattle.dj_numbering.proofs.Texts.{against, text_found, text_missing}
+use Rattle.dj_numbering.proofs.arrays.place_in.Goals as goal
 
 pub returns-in-Ok : goal.returns-in-Ok
 returns-in-Ok c =

@@ -1,7 +1,7 @@
 use Rattle.std.proofs.Common.{◌≡◌, List, None, Some, Option, get_or, sym, ap, ◌∙◌}
-use Rattle.dj_types.specs.declared.heights.Height.{Height}
-use Rattle.dj_types.proofs.FieldSums.{summed_more}
-use Rattle.dj_types.proofs.heights.field_sums.Goals as goal
+use Rattle.dj_numbering.specs.declared.heights.Height.{Height}
+use Rattle.dj_numbering.proofs.FieldSums.{summed_more}
+use Rattle.dj_numbering.proofs.heights.field_sums.Goals as goal
 
 pub loop-height-preserved : goal.loop-height-preserved
 loop-height-preserved c =

@@ -1,8 +1,8 @@
 use Rattle.std.proofs.Common.{ℕ, ◌<◌, length, Option, IfSome, slice_get, refl, sym, subst, ◌∙◌}
-use Rattle.dj_linking.proofs.Finding.{super_within}
-use Rattle.dj_types.specs.Numbered.{IsHeight}
-use Rattle.dj_types.proofs.FieldSums.{height_reported, height_more, one_known}
-use Rattle.dj_types.proofs.heights.learn.Goals as goal
+use Rattle.dj_resolution.proofs.Finding.{super_within}
+use Rattle.dj_numbering.specs.Numbered.{IsHeight}
+use Rattle.dj_numbering.proofs.FieldSums.{height_reported, height_more, one_known}
+use Rattle.dj_numbering.proofs.heights.learn.Goals as goal
 
 pub height_of-requires : goal.height_of-requires
 height_of-requires c =

@@ -1,7 +1,7 @@
 use Rattle.std.proofs.Common.{ℕ, ◌<◌, List, All, length, Option, IfSome, slice_get, sym, subst}
 use Rattle.std.proofs.lemmas.List.Elements.{All-push}
-use Rattle.dj_linking.proofs.Finding.{super_within}
-use Rattle.dj_types.proofs.heights.unknown_from.Goals as goal
+use Rattle.dj_resolution.proofs.Finding.{super_within}
+use Rattle.dj_numbering.proofs.heights.unknown_from.Goals as goal
 
 pub loop-preserved : goal.loop-preserved
 loop-preserved c =

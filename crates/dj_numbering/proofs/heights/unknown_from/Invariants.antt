@@ -1,5 +1,5 @@
 use Rattle.std.proofs.Common.{All, IfSome, length, ◌<◌}
-use Rattle.dj_types.proofs.heights.unknown_from.Given as goal
+use Rattle.dj_numbering.proofs.heights.unknown_from.Given as goal
 
 abbrev pub invariant-loop : goal.invariant-loop
 invariant-loop l = record {

@@ -4,9 +4,9 @@ use Rattle.dj_names.specs.declared.descriptor.Desc.{Desc}
 use Rattle.dj_names.specs.declared.descriptor.Desc.TheVariants as descs
 use Rattle.dj_names.specs.trusted.Types.{Name}
 use Rattle.dj_names.specs.trusted.Descriptors.{Describes, IsFieldDescriptor, IsMethodDescriptor}
-use Rattle.dj_declared.specs.trusted.Files.{desc_in}
-use Rattle.dj_declared.proofs.DescTests.{is_descriptor}
-use Rattle.dj_types.proofs.members.is_descriptor.Goals as goal
+use Rattle.dj_declarations.specs.trusted.Files.{desc_in}
+use Rattle.dj_declarations.proofs.DescTests.{is_descriptor}
+use Rattle.dj_numbering.proofs.members.is_descriptor.Goals as goal
 
 either : (text : Name) (desc : Desc) → Describes text desc → IsFieldDescriptor text ⊎ IsMethodDescriptor text
 either text (descs.Field ty) d = inl (ty, d)

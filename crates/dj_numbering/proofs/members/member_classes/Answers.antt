@@ -1,7 +1,7 @@
 use Rattle.std.proofs.Common.{length, ap, ◌∙◌, arith}
 use Rattle.std.proofs.lemmas.List.{length_push}
-use Rattle.dj_types.proofs.Starts.{begun_later, homes_more}
-use Rattle.dj_types.proofs.members.member_classes.Goals as goal
+use Rattle.dj_numbering.proofs.Starts.{begun_later, homes_more}
+use Rattle.dj_numbering.proofs.members.member_classes.Goals as goal
 
 pub place_in-requires-clause-begun : goal.place_in-requires-clause-begun
 place_in-requires-clause-begun c = begun_later c.args.starts.now c.loop-number.number (c.requires.begun (let some = c.loop-number-test.true in omega (arith, some)))

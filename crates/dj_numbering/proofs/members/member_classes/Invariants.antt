@@ -1,6 +1,6 @@
 use Rattle.std.proofs.Common.{◌≡◌, length}
-use Rattle.dj_types.specs.Numbered.{AreMemberClasses}
-use Rattle.dj_types.proofs.members.member_classes.Given as goal
+use Rattle.dj_numbering.specs.Numbered.{AreMemberClasses}
+use Rattle.dj_numbering.proofs.members.member_classes.Given as goal
 
 -- the members so far
 abbrev pub invariant-loop-number : goal.invariant-loop-number

@@ -1,10 +1,10 @@
 use Rattle.std.proofs.Common.{◌≡◌, ℕ, ◌+◌, ◌<◌, length, sym, ap, ◌∙◌, arith}
 use Rattle.std.proofs.lemmas.List.{length-map}
-use Rattle.dj_classes.specs.Tables.{methods_of}
-use Rattle.dj_types.specs.Members.{methods_in}
-use Rattle.dj_types.specs.Numbered.{counts_of}
-use Rattle.dj_types.proofs.Starts.{summed_more, summed_all, count_there, counts_length}
-use Rattle.dj_types.proofs.members.method_starts.Goals as goal
+use Rattle.dj_class_table.specs.Tables.{methods_of}
+use Rattle.dj_numbering.specs.Members.{methods_in}
+use Rattle.dj_numbering.specs.Numbered.{counts_of}
+use Rattle.dj_numbering.proofs.Starts.{summed_more, summed_all, count_there, counts_length}
+use Rattle.dj_numbering.proofs.members.method_starts.Goals as goal
 
 pub loop-class-preserved : goal.loop-class-preserved
 loop-class-preserved c =

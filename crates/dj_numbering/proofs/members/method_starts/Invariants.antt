@@ -1,7 +1,7 @@
-use Rattle.dj_types.specs.Members.{methods_in}
-use Rattle.dj_types.specs.Numbered.{counts_of}
-use Rattle.dj_types.proofs.Starts.{IsSummed}
-use Rattle.dj_types.proofs.members.method_starts.Given as goal
+use Rattle.dj_numbering.specs.Members.{methods_in}
+use Rattle.dj_numbering.specs.Numbered.{counts_of}
+use Rattle.dj_numbering.proofs.Starts.{IsSummed}
+use Rattle.dj_numbering.proofs.members.method_starts.Given as goal
 
 -- the classes so far
 abbrev pub invariant-loop-class : goal.invariant-loop-class

@@ -1,10 +1,10 @@
 use Rattle.std.proofs.Common.{◌≡◌, List, map, sym, ap, ◌∙◌, subst}
 use Rattle.dj_names.specs.trusted.Types.{Name}
 use Rattle.dj_names.specs.trusted.Descriptors.{type_text}
-use Rattle.dj_types.specs.declared.shapes.Shape.{Shape}
-use Rattle.dj_types.specs.Kept.{DoTextsRise, text_in, types_kept}
-use Rattle.dj_types.proofs.Rising.{texts_rise}
-use Rattle.dj_types.proofs.own.number_of.Goals as goal
+use Rattle.dj_numbering.specs.declared.shapes.Shape.{Shape}
+use Rattle.dj_numbering.specs.Kept.{DoTextsRise, text_in, types_kept}
+use Rattle.dj_numbering.proofs.Rising.{texts_rise}
+use Rattle.dj_numbering.proofs.own.number_of.Goals as goal
 
 pub number_in-requires-clause-rise : goal.number_in-requires-clause-rise
 number_in-requires-clause-rise c =

@@ -1,11 +1,11 @@
 use Rattle.std.proofs.Common.{ℕ, List, length, sym, ap, subst, arith}
 use Rattle.std.specs.Prelude.{slice_get}
-use Rattle.dj_types.specs.Members.{all_fields}
-use Rattle.dj_types.specs.Numbered.{AreMemberClasses, IsStartOf}
-use Rattle.dj_types.proofs.Placed.{place_of_field}
-use Rattle.dj_types.proofs.Sums.{IsFieldPlace, own_within, place_reported}
-use Rattle.dj_types.proofs.places.object_place.Goals as goal
-use Rattle.dj_types.proofs.places.object_place.Goals.{After-instance_fields_before}
+use Rattle.dj_numbering.specs.Members.{all_fields}
+use Rattle.dj_numbering.specs.Numbered.{AreMemberClasses, IsStartOf}
+use Rattle.dj_numbering.proofs.Placed.{place_of_field}
+use Rattle.dj_numbering.proofs.Sums.{IsFieldPlace, own_within, place_reported}
+use Rattle.dj_numbering.proofs.places.object_place.Goals as goal
+use Rattle.dj_numbering.proofs.places.object_place.Goals.{After-instance_fields_before}
 
 pub place_at-class-requires-clause-there : goal.place_at-class-requires-clause-there
 place_at-class-requires-clause-there c =

@@ -1,6 +1,6 @@
 use Rattle.std.proofs.Common.{arith}
-use Rattle.dj_types.proofs.Placed.{all_places, no_places, one_place}
-use Rattle.dj_types.proofs.places.object_places.Goals as goal
+use Rattle.dj_numbering.proofs.Placed.{all_places, no_places, one_place}
+use Rattle.dj_numbering.proofs.places.object_places.Goals as goal
 
 pub loop-field-init : goal.loop-field-init
 loop-field-init c = no_places c.args.table.now c.in_ok-places.places.items c.in_ok-places.ensures.items

@@ -1,5 +1,5 @@
-use Rattle.dj_types.proofs.Placed.{ArePlacesSoFar}
-use Rattle.dj_types.proofs.places.object_places.Given as goal
+use Rattle.dj_numbering.proofs.Placed.{ArePlacesSoFar}
+use Rattle.dj_numbering.proofs.places.object_places.Given as goal
 
 -- those of the fields so far
 abbrev pub invariant-loop-field : goal.invariant-loop-field

@@ -1,8 +1,8 @@
 use Rattle.std.proofs.Common.{ap, sym, subst, ◌∙◌, arith}
 use Rattle.std.proofs.lemmas.Result.{err_from_is_err_and}
-use Rattle.dj_bytes.specs.Steps.{Fails}
-use Rattle.dj_bytes.specs.Reading.{Cursor}
-use Rattle.dj_bytes.specs.Views.{cursor_of}
+use Rattle.dj_cursor.specs.Steps.{Fails}
+use Rattle.dj_cursor.specs.Reading.{Cursor}
+use Rattle.dj_cursor.specs.Views.{cursor_of}
 use Rattle.dj_ops.specs.declared.instruction.Instr.TheVariants.{Simple}
 use Rattle.dj_ops.specs.Reading.{is_memory, instr_at}
 use Rattle.dj_ops.proofs.Whole.{what_is_read, read_all_read, read_all_refused, failed_all_read, failed_refused, failed_all_refused}

@@ -1,8 +1,8 @@
 use Rattle.std.proofs.lemmas.Result.{err_from_is_err_and}
-use Rattle.dj_bytes.specs.Reading.{many_at}
+use Rattle.dj_cursor.specs.Reading.{many_at}
 use Rattle.dj_ops.specs.Reading.{is_memory, pair_at}
-use Rattle.dj_bytes.specs.Views.{cursor_of}
-use Rattle.dj_bytes.proofs.Loop.{goes_on, ends, is_done}
+use Rattle.dj_cursor.specs.Views.{cursor_of}
+use Rattle.dj_cursor.proofs.Loop.{goes_on, ends, is_done}
 use Rattle.dj_ops.proofs.switches.read_pair_list.Goals as goal
 
 pub returns-in_err-pair : goal.returns-in_err-pair

@@ -1,8 +1,8 @@
 use Rattle.std.proofs.Common.{◌≡◌, ◌-◌}
-use Rattle.dj_bytes.specs.Reading.{many_at}
+use Rattle.dj_cursor.specs.Reading.{many_at}
 use Rattle.dj_ops.specs.Reading.{pair_at}
-use Rattle.dj_bytes.specs.Views.{cursor_of}
-use Rattle.dj_bytes.proofs.Loop.{with_prefix}
+use Rattle.dj_cursor.specs.Views.{cursor_of}
+use Rattle.dj_cursor.proofs.Loop.{with_prefix}
 use Rattle.dj_ops.proofs.switches.read_pair_list.Given as goal
 
 abbrev pub invariant-loop : goal.invariant-loop

@@ -2,10 +2,10 @@ use Rattle.std.proofs.Common.{FitsSigned, rules}
 use Rattle.std.specs.Int.{w64}
 use Rattle.std.proofs.lemmas.Int.{to_z-of_z}
 use Rattle.std.proofs.lemmas.Result.{err_from_is_err_and}
-use Rattle.dj_bytes.specs.Reading.{many_at}
+use Rattle.dj_cursor.specs.Reading.{many_at}
 use Rattle.dj_ops.specs.Reading.{is_memory, target_at}
-use Rattle.dj_bytes.specs.Views.{cursor_of}
-use Rattle.dj_bytes.proofs.Loop.{goes_on, ends, is_done}
+use Rattle.dj_cursor.specs.Views.{cursor_of}
+use Rattle.dj_cursor.proofs.Loop.{goes_on, ends, is_done}
 use Rattle.dj_ops.proofs.switches.read_target_list.Goals as goal
 
 pub returns-in_err-target : goal.returns-in_err-target

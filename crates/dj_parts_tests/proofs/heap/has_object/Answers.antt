@@ -1,7 +1,7 @@
 use Rattle.std.proofs.Common.{arith}
 use Rattle.std.proofs.lemmas.Bool.{leb-true}
-use Rattle.dj_machine_tests.proofs.Places.{object_here}
-use Rattle.dj_machine_tests.proofs.heap.has_object.Goals as goal
+use Rattle.dj_parts_tests.proofs.Places.{object_here}
+use Rattle.dj_parts_tests.proofs.heap.has_object.Goals as goal
 
 pub returns-then-r-gt0 : goal.returns-then-r-gt0
 returns-then-r-gt0 c = λ within.

@@ -1,7 +1,7 @@
 use Rattle.std.proofs.Common.{◌≡◌, ◌+◌, ◌++◌, ◌∷◌, [], map, false, arith}
 use Rattle.std.proofs.lemmas.Result.{err_from_is_err_and}
 use Rattle.std.proofs.lemmas.List.{map_push}
-use Rattle.dj_bytes.specs.Views.{cursor_of}
+use Rattle.dj_cursor.specs.Views.{cursor_of}
 use Rattle.dj_pool.specs.Views.{constant_of}
 use Rattle.dj_pool.specs.Reading.{slots_at}
 use Rattle.dj_pool.proofs.Loop.{slots_go_on, slots_end, slots_done}

@@ -1,6 +1,6 @@
 use Rattle.std.proofs.Common.{◌≡◌, ◌+◌, ◌-◌, false, map, vec_len}
-use Rattle.dj_bytes.specs.Views.{cursor_of}
-use Rattle.dj_bytes.proofs.Loop.{with_prefix}
+use Rattle.dj_cursor.specs.Views.{cursor_of}
+use Rattle.dj_cursor.proofs.Loop.{with_prefix}
 use Rattle.dj_pool.specs.Views.{constant_of}
 use Rattle.dj_pool.specs.Reading.{slots_at}
 use Rattle.dj_pool.proofs.read.read_slots.Given as goal

@@ -1,7 +1,7 @@
 use Rattle.std.proofs.Common.{◌≡◌, ◌<◌, Bool, List, false, true, length, get_or, subst, ap, arith}
-use Rattle.dj_linking.specs.Numbers.{lists_of}
-use Rattle.dj_linking.proofs.Knowing.{all_known}
-use Rattle.dj_linking.proofs.above.interfaces_above.Goals as goal
+use Rattle.dj_resolution.specs.Numbers.{lists_of}
+use Rattle.dj_resolution.proofs.Knowing.{all_known}
+use Rattle.dj_resolution.proofs.above.interfaces_above.Goals as goal
 
 pub returns : goal.returns
 returns c =

@@ -1,5 +1,5 @@
 use Rattle.std.proofs.Common.{◌≡◌, ◌<◌, ℕ, false, true, get_or}
-use Rattle.dj_linking.proofs.above.interfaces_above.Given as goal
+use Rattle.dj_resolution.proofs.above.interfaces_above.Given as goal
 
 -- those so far are marked
 abbrev pub invariant-loop-mark : goal.invariant-loop-mark

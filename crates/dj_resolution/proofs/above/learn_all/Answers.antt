@@ -1,9 +1,9 @@
 use Rattle.std.proofs.Common.{length, get_or, refl}
-use Rattle.dj_linking.specs.Numbers.{lists_of}
-use Rattle.dj_linking.proofs.Bits.{have_none}
-use Rattle.dj_linking.proofs.Knowing.{known_none}
-use Rattle.dj_linking.proofs.Marks.{found_below}
-use Rattle.dj_linking.proofs.above.learn_all.Goals as goal
+use Rattle.dj_resolution.specs.Numbers.{lists_of}
+use Rattle.dj_resolution.proofs.Bits.{have_none}
+use Rattle.dj_resolution.proofs.Knowing.{known_none}
+use Rattle.dj_resolution.proofs.Marks.{found_below}
+use Rattle.dj_resolution.proofs.above.learn_all.Goals as goal
 
 pub loop-class-init : goal.loop-class-init
 loop-class-init c = record {

@@ -1,6 +1,6 @@
-use Rattle.dj_linking.specs.Bits.{HaveBits}
-use Rattle.dj_linking.specs.Numbers.{AreKnown, lists_of}
-use Rattle.dj_linking.proofs.above.learn_all.Given as goal
+use Rattle.dj_resolution.specs.Bits.{HaveBits}
+use Rattle.dj_resolution.specs.Numbers.{AreKnown, lists_of}
+use Rattle.dj_resolution.proofs.above.learn_all.Given as goal
 
 -- what is known so far
 abbrev pub invariant-loop-class : goal.invariant-loop-class

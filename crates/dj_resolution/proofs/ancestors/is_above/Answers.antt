@@ -1,8 +1,8 @@
 use Rattle.std.proofs.Common.{sym, ◌∙◌, arith}
-use Rattle.dj_linking.specs.Numbers.{lists_of, once_above}
-use Rattle.dj_linking.proofs.Chained.{has_reported}
-use Rattle.dj_linking.proofs.Listed.{listed_there, not_listed}
-use Rattle.dj_linking.proofs.ancestors.is_above.Goals as goal
+use Rattle.dj_resolution.specs.Numbers.{lists_of, once_above}
+use Rattle.dj_resolution.proofs.Chained.{has_reported}
+use Rattle.dj_resolution.proofs.Listed.{listed_there, not_listed}
+use Rattle.dj_resolution.proofs.ancestors.is_above.Goals as goal
 
 pub has-requires : goal.has-requires
 has-requires c = omega (arith, c.requires.methods.count, c.requires.there)

@@ -1,9 +1,9 @@
 use Rattle.std.proofs.Common.{◌<◌, ◌∷◌, ℕ, Option, Some, IfSome, length, sym, ◌∙◌, subst}
 use Rattle.dj_model.specs.trusted.Linking.{most_classes}
-use Rattle.dj_linking.specs.Numbers.{has, numbers_above, numbers_up}
-use Rattle.dj_linking.proofs.Finding.{IsWalked, walk_begun, walked_here, walked_more, walked_off, walked_out}
-use Rattle.dj_linking.proofs.Subclasses.{where_so, so_reported, not_so_reported, is_in_flat, not_in_flat}
-use Rattle.dj_linking.proofs.ancestors.is_above_by_class.Goals as goal
+use Rattle.dj_resolution.specs.Numbers.{has, numbers_above, numbers_up}
+use Rattle.dj_resolution.proofs.Finding.{IsWalked, walk_begun, walked_here, walked_more, walked_off, walked_out}
+use Rattle.dj_resolution.proofs.Subclasses.{where_so, so_reported, not_so_reported, is_in_flat, not_in_flat}
+use Rattle.dj_resolution.proofs.ancestors.is_above_by_class.Goals as goal
 
 pub loop-init : goal.loop-init
 loop-init c = walk_begun (λ k. where_so c.args.other (has (k ∷ numbers_above c.args.table.now k) c.args.other)) c.args.table.now c.args.class c.requires.there

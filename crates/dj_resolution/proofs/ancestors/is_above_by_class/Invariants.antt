@@ -1,8 +1,8 @@
 use Rattle.std.proofs.Common.{◌∷◌}
-use Rattle.dj_linking.specs.Numbers.{has, numbers_above}
-use Rattle.dj_linking.proofs.Finding.{IsWalked}
-use Rattle.dj_linking.proofs.Subclasses.{where_so}
-use Rattle.dj_linking.proofs.ancestors.is_above_by_class.Given as goal
+use Rattle.dj_resolution.specs.Numbers.{has, numbers_above}
+use Rattle.dj_resolution.proofs.Finding.{IsWalked}
+use Rattle.dj_resolution.proofs.Subclasses.{where_so}
+use Rattle.dj_resolution.proofs.ancestors.is_above_by_class.Given as goal
 
 -- it is none so far
 abbrev pub invariant-loop : goal.invariant-loop

@@ -1,9 +1,9 @@
 use Rattle.std.proofs.Common.{sym, ◌∙◌}
-use Rattle.dj_linking.specs.Numbers.{numbers_above}
-use Rattle.dj_linking.proofs.Lists.{has_here}
-use Rattle.dj_linking.proofs.Marks.{above_is}
-use Rattle.dj_linking.proofs.Subclasses.{among_above}
-use Rattle.dj_linking.proofs.ancestors.is_at.Goals as goal
+use Rattle.dj_resolution.specs.Numbers.{numbers_above}
+use Rattle.dj_resolution.proofs.Lists.{has_here}
+use Rattle.dj_resolution.proofs.Marks.{above_is}
+use Rattle.dj_resolution.proofs.Subclasses.{among_above}
+use Rattle.dj_resolution.proofs.ancestors.is_at.Goals as goal
 
 pub returns-then-class-other : goal.returns-then-class-other
 returns-then-class-other c = sym (has_here (numbers_above c.args.table.now c.args.class) c.args.class c.args.other c.if-class-other.true)

@@ -1,12 +1,12 @@
 use Rattle.std.proofs.Common.{◌<◌, ℕ, Option, IfSome, length, slice_get, subst, sym}
 use Rattle.std.specs.Option.{option_map}
 use Rattle.dj_model.specs.trusted.Linking.{is_not_static}
-use Rattle.dj_classes.specs.Tables.{methods_at, method_there, super_number}
-use Rattle.dj_linking.specs.Numbers.{most_above, numbers_up}
-use Rattle.dj_linking.proofs.Calling.{enough_above, first_of_none, first_of_some, reported_named}
-use Rattle.dj_linking.proofs.Finding.{super_within}
-use Rattle.dj_linking.proofs.Selections.{descriptor_there}
-use Rattle.dj_linking.proofs.calls.instance_method_like.Goals as goal
+use Rattle.dj_class_table.specs.Tables.{methods_at, method_there, super_number}
+use Rattle.dj_resolution.specs.Numbers.{most_above, numbers_up}
+use Rattle.dj_resolution.proofs.Calling.{enough_above, first_of_none, first_of_some, reported_named}
+use Rattle.dj_resolution.proofs.Finding.{super_within}
+use Rattle.dj_resolution.proofs.Selections.{descriptor_there}
+use Rattle.dj_resolution.proofs.calls.instance_method_like.Goals as goal
 
 pub returns-in_err-next : goal.returns-in_err-next
 returns-in_err-next c = first_of_none c.args.table.now is_not_static c.args.resolved most_above (super_number c.args.table.now c.args.class) c.from_residual.result (sym c.in_err-next.ensures) c.from_residual.ensures

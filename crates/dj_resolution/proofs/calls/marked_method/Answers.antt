@@ -1,10 +1,10 @@
 use Rattle.std.proofs.Common.{Some, subst}
 use Rattle.dj_model.specs.trusted.Linking.{most_classes}
-use Rattle.dj_directory.specs.Calls.{tests, IsNearestLike}
-use Rattle.dj_linking.specs.Numbers.{lists_of}
-use Rattle.dj_linking.proofs.Calling.{marked_like, none_marked_like}
-use Rattle.dj_linking.proofs.Chained.{up_within}
-use Rattle.dj_linking.proofs.calls.marked_method.Goals as goal
+use Rattle.dj_member_index.specs.Calls.{tests, IsNearestLike}
+use Rattle.dj_resolution.specs.Numbers.{lists_of}
+use Rattle.dj_resolution.proofs.Calling.{marked_like, none_marked_like}
+use Rattle.dj_resolution.proofs.Chained.{up_within}
+use Rattle.dj_resolution.proofs.calls.marked_method.Goals as goal
 
 pub returns-in_default : goal.returns-in_default
 returns-in_default c =

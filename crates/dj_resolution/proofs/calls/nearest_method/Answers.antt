@@ -1,7 +1,7 @@
-use Rattle.dj_directory.specs.Calls.{tests}
-use Rattle.dj_linking.specs.Numbers.{lists_of}
-use Rattle.dj_linking.proofs.Calling.{nearest_like, none_like}
-use Rattle.dj_linking.proofs.calls.nearest_method.Goals as goal
+use Rattle.dj_member_index.specs.Calls.{tests}
+use Rattle.dj_resolution.specs.Numbers.{lists_of}
+use Rattle.dj_resolution.proofs.Calling.{nearest_like, none_like}
+use Rattle.dj_resolution.proofs.calls.nearest_method.Goals as goal
 
 pub returns-in_default : goal.returns-in_default
 returns-in_default c =

@@ -1,11 +1,11 @@
 use Rattle.std.proofs.Common.{◌<◌, ℕ, Option, Some, IfSome, length, subst}
 use Rattle.std.specs.Option.{option_map}
 use Rattle.dj_model.specs.trusted.Linking.{is_plain, most_classes}
-use Rattle.dj_classes.specs.Tables.{methods_at, method_there}
-use Rattle.dj_linking.specs.Numbers.{numbers_up}
-use Rattle.dj_linking.proofs.Calling.{enough_classes, first_of_none, first_of_some, reported_named}
-use Rattle.dj_linking.proofs.Selections.{descriptor_there}
-use Rattle.dj_linking.proofs.calls.plain_method_like.Goals as goal
+use Rattle.dj_class_table.specs.Tables.{methods_at, method_there}
+use Rattle.dj_resolution.specs.Numbers.{numbers_up}
+use Rattle.dj_resolution.proofs.Calling.{enough_classes, first_of_none, first_of_some, reported_named}
+use Rattle.dj_resolution.proofs.Selections.{descriptor_there}
+use Rattle.dj_resolution.proofs.calls.plain_method_like.Goals as goal
 
 pub returns-in_err-first : goal.returns-in_err-first
 returns-in_err-first c = first_of_none c.args.table.now is_plain c.args.resolved most_classes c.args.class c.from_residual.result c.in_err-first.was c.from_residual.ensures

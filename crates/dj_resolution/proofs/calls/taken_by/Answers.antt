@@ -1,7 +1,7 @@
 use Rattle.std.specs.Option.{option_map}
-use Rattle.dj_classes.specs.Tables.{method_there}
-use Rattle.dj_linking.proofs.Selections.{is_private_there, not_private_there, taken_private, taken_above}
-use Rattle.dj_linking.proofs.calls.taken_by.Goals as goal
+use Rattle.dj_class_table.specs.Tables.{method_there}
+use Rattle.dj_resolution.proofs.Selections.{is_private_there, not_private_there, taken_private, taken_above}
+use Rattle.dj_resolution.proofs.calls.taken_by.Goals as goal
 
 pub returns-then-method_flags-eq0 : goal.returns-then-method_flags-eq0
 returns-then-method_flags-eq0 c found there =

@@ -1,8 +1,8 @@
 use Rattle.std.proofs.Common.{length, subst, sym, arith}
-use Rattle.dj_linking.specs.Numbers.{AreBelow, lists_of, once_above}
-use Rattle.dj_linking.proofs.Chained.{list_reported, rows_below}
-use Rattle.dj_linking.proofs.Marks.{once_below}
-use Rattle.dj_linking.proofs.costly.left_by_search.Goals as goal
+use Rattle.dj_resolution.specs.Numbers.{AreBelow, lists_of, once_above}
+use Rattle.dj_resolution.proofs.Chained.{list_reported, rows_below}
+use Rattle.dj_resolution.proofs.Marks.{once_below}
+use Rattle.dj_resolution.proofs.costly.left_by_search.Goals as goal
 
 pub list_of-requires : goal.list_of-requires
 list_of-requires c = omega (arith, c.requires.methods.count, c.requires.there)

@@ -1,7 +1,7 @@
 use Rattle.std.proofs.Common.{slice_get}
-use Rattle.dj_classes.specs.Tables.{methods_at}
-use Rattle.dj_linking.proofs.Marking.{by_private, by_static}
-use Rattle.dj_linking.proofs.declarers.is_plain_row.Goals as goal
+use Rattle.dj_class_table.specs.Tables.{methods_at}
+use Rattle.dj_resolution.proofs.Marking.{by_private, by_static}
+use Rattle.dj_resolution.proofs.declarers.is_plain_row.Goals as goal
 
 pub returns-then-flags-eq0 : goal.returns-then-flags-eq0
 returns-then-flags-eq0 c =

@@ -1,8 +1,8 @@
 use Rattle.std.proofs.Common.{true, get_or, refl, ◌∙◌, arith}
 use Rattle.std.proofs.lemmas.List.{get_or_default}
-use Rattle.dj_directory.specs.declared.rows.MemberRow.{MemberRow}
-use Rattle.dj_linking.proofs.Marking.{adds_all, adds_next, adds_none}
-use Rattle.dj_linking.proofs.declarers.mark_all.Goals as goal
+use Rattle.dj_member_index.specs.declared.rows.MemberRow.{MemberRow}
+use Rattle.dj_resolution.proofs.Marking.{adds_all, adds_next, adds_none}
+use Rattle.dj_resolution.proofs.declarers.mark_all.Goals as goal
 
 abbrev none : MemberRow
 none = record { name = 0; desc = 0; class = 0; place = 0 }

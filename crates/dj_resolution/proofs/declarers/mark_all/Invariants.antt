@@ -1,6 +1,6 @@
 use Rattle.std.proofs.Common.{◌≡◌, length, take, true}
-use Rattle.dj_linking.specs.Marked.{AddsMarks}
-use Rattle.dj_linking.proofs.declarers.mark_all.Given as goal
+use Rattle.dj_resolution.specs.Marked.{AddsMarks}
+use Rattle.dj_resolution.proofs.declarers.mark_all.Given as goal
 
 -- those of the first rows
 abbrev pub invariant-loop-row : goal.invariant-loop-row

@@ -1,10 +1,10 @@
 use Rattle.std.proofs.Common.{◌≡◌, ℕ, ◌&&◌, Bool, true, get_or, nat_eq, refl, ◌∙◌, subst, arith, if◌then◌else◌}
 use Rattle.std.proofs.lemmas.List.{get_or_default}
-use Rattle.dj_directory.specs.declared.rows.MemberRow.{MemberRow}
-use Rattle.dj_linking.specs.Bits.{in_bits}
-use Rattle.dj_linking.specs.Marked.{is_plain_at}
-use Rattle.dj_linking.proofs.Marking.{adds_all, adds_next, adds_none}
-use Rattle.dj_linking.proofs.declarers.mark_plain.Goals as goal
+use Rattle.dj_member_index.specs.declared.rows.MemberRow.{MemberRow}
+use Rattle.dj_resolution.specs.Bits.{in_bits}
+use Rattle.dj_resolution.specs.Marked.{is_plain_at}
+use Rattle.dj_resolution.proofs.Marking.{adds_all, adds_next, adds_none}
+use Rattle.dj_resolution.proofs.declarers.mark_plain.Goals as goal
 
 abbrev none : MemberRow
 none = record { name = 0; desc = 0; class = 0; place = 0 }

@@ -1,6 +1,6 @@
 use Rattle.std.proofs.Common.{◌≡◌, length, take}
-use Rattle.dj_linking.specs.Marked.{AddsMarks, is_plain_at}
-use Rattle.dj_linking.proofs.declarers.mark_plain.Given as goal
+use Rattle.dj_resolution.specs.Marked.{AddsMarks, is_plain_at}
+use Rattle.dj_resolution.proofs.declarers.mark_plain.Given as goal
 
 -- those of the first rows
 abbrev pub invariant-loop-row : goal.invariant-loop-row

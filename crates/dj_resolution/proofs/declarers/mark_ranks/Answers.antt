@@ -1,10 +1,10 @@
 use Rattle.std.proofs.Common.{◌≡◌, ℕ, ◌*◌, ◌&&◌, true, length, get_or, ltb, nat_eq, refl, ◌∙◌, subst, if◌then◌else◌}
 use Rattle.std.proofs.lemmas.List.{get_or_default}
-use Rattle.dj_directory.specs.declared.rows.MemberRow.{MemberRow}
-use Rattle.dj_linking.specs.Bits.{in_bits}
-use Rattle.dj_linking.specs.Ranked.{rank_in}
-use Rattle.dj_linking.proofs.Marking.{adds_all, adds_next, adds_none}
-use Rattle.dj_linking.proofs.declarers.mark_ranks.Goals as goal
+use Rattle.dj_member_index.specs.declared.rows.MemberRow.{MemberRow}
+use Rattle.dj_resolution.specs.Bits.{in_bits}
+use Rattle.dj_resolution.specs.Ranked.{rank_in}
+use Rattle.dj_resolution.proofs.Marking.{adds_all, adds_next, adds_none}
+use Rattle.dj_resolution.proofs.declarers.mark_ranks.Goals as goal
 
 abbrev none : MemberRow
 none = record { name = 0; desc = 0; class = 0; place = 0 }

@@ -1,7 +1,7 @@
 use Rattle.std.proofs.Common.{◌≡◌, ◌*◌, length, ltb, take}
-use Rattle.dj_linking.specs.Marked.{AddsMarks}
-use Rattle.dj_linking.specs.Ranked.{rank_in}
-use Rattle.dj_linking.proofs.declarers.mark_ranks.Given as goal
+use Rattle.dj_resolution.specs.Marked.{AddsMarks}
+use Rattle.dj_resolution.specs.Ranked.{rank_in}
+use Rattle.dj_resolution.proofs.declarers.mark_ranks.Given as goal
 
 -- those of the first rows
 abbrev pub invariant-loop-row : goal.invariant-loop-row

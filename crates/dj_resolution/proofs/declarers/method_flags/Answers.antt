@@ -1,9 +1,9 @@
 use Rattle.std.proofs.Common.{◌≡◌, ◌<◌, Some, length, slice_get, sym, subst}
 use Rattle.std.specs.Option.{option_map}
 use Rattle.dj_model.specs.trusted.Program.{Program}
-use Rattle.dj_declared.specs.Members.{method_flags}
-use Rattle.dj_classes.specs.Tables.{methods_at}
-use Rattle.dj_linking.proofs.declarers.method_flags.Goals as goal
+use Rattle.dj_declarations.specs.Members.{method_flags}
+use Rattle.dj_class_table.specs.Tables.{methods_at}
+use Rattle.dj_resolution.proofs.declarers.method_flags.Goals as goal
 
 pub method_flags-requires-clause-there : goal.method_flags-requires-clause-there
 method_flags-requires-clause-there c = subst (λ (p : Program). c.args.class < length p) (sym c.classes.ensures) c.requires.there

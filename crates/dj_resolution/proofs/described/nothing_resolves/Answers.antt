@@ -1,11 +1,11 @@
 use Rattle.std.proofs.Common.{◌≡◌, None, subst}
 use Rattle.dj_model.specs.trusted.Program.{Program}
-use Rattle.dj_declared.specs.trusted.Files.{desc_in}
-use Rattle.dj_declared.specs.Members.{method_place, field_place}
-use Rattle.dj_classes.specs.Tables.{methods_at, fields_at}
-use Rattle.dj_linking.proofs.Resolution.{DoNamesDiffer}
-use Rattle.dj_linking.proofs.Unnumbered.{unresolved_method, unresolved_field}
-use Rattle.dj_linking.proofs.described.nothing_resolves.Goals as goal
+use Rattle.dj_declarations.specs.trusted.Files.{desc_in}
+use Rattle.dj_declarations.specs.Members.{method_place, field_place}
+use Rattle.dj_class_table.specs.Tables.{methods_at, fields_at}
+use Rattle.dj_resolution.proofs.Resolution.{DoNamesDiffer}
+use Rattle.dj_resolution.proofs.Unnumbered.{unresolved_method, unresolved_field}
+use Rattle.dj_resolution.proofs.described.nothing_resolves.Goals as goal
 
 pub returns : goal.returns
 returns c =

@@ -1,9 +1,9 @@
 use Rattle.std.proofs.Common.{ℕ, ◌<◌, length, arith}
 use Rattle.std.specs.Global.{Vec}
 use Rattle.std.proofs.lemmas.List.{length-map}
-use Rattle.dj_linking.proofs.Chained.{below_append}
-use Rattle.dj_linking.proofs.Marks.{found_below, row_below}
-use Rattle.dj_linking.proofs.downward.downward.Goals as goal
+use Rattle.dj_resolution.proofs.Chained.{below_append}
+use Rattle.dj_resolution.proofs.Marks.{found_below, row_below}
+use Rattle.dj_resolution.proofs.downward.downward.Goals as goal
 
 pub index-requires : goal.index-requires
 index-requires c =

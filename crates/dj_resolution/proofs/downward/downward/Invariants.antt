@@ -1,6 +1,6 @@
 use Rattle.std.proofs.Common.{length}
-use Rattle.dj_linking.specs.Numbers.{AreBelow}
-use Rattle.dj_linking.proofs.downward.downward.Given as goal
+use Rattle.dj_resolution.specs.Numbers.{AreBelow}
+use Rattle.dj_resolution.proofs.downward.downward.Given as goal
 
 -- so far
 abbrev pub invariant-loop-turn : goal.invariant-loop-turn

@@ -1,11 +1,11 @@
 use Rattle.std.proofs.Common.{ℕ, ◌<◌, ◌++◌, ◌∷◌, [], length, subst, sym, ◌∙◌, ap, arith}
 use Rattle.std.specs.Global.{Vec}
 use Rattle.std.proofs.lemmas.List.{length-map}
-use Rattle.dj_linking.specs.Numbers.{AreInside, lists_of}
-use Rattle.dj_linking.proofs.Chained.{next_within}
-use Rattle.dj_linking.proofs.Marks.{inside_more}
-use Rattle.dj_linking.proofs.downward.subclasses.Goals as goal
-use Rattle.dj_linking.proofs.downward.subclasses.Goals.{in-Some+in_ok-push, in_default}
+use Rattle.dj_resolution.specs.Numbers.{AreInside, lists_of}
+use Rattle.dj_resolution.proofs.Chained.{next_within}
+use Rattle.dj_resolution.proofs.Marks.{inside_more}
+use Rattle.dj_resolution.proofs.downward.subclasses.Goals as goal
+use Rattle.dj_resolution.proofs.downward.subclasses.Goals.{in-Some+in_ok-push, in_default}
 
 pub index_mut-requires : goal.index_mut-requires
 index_mut-requires c =

@@ -1,9 +1,9 @@
 use Rattle.std.proofs.Common.{ℕ, length, subst, sym, ◌∙◌, ap, arith}
 use Rattle.std.specs.Global.{Vec}
-use Rattle.dj_linking.specs.Numbers.{AreBelow}
-use Rattle.dj_linking.proofs.Marks.{below_push}
-use Rattle.dj_linking.proofs.downward.without_superclass.Goals as goal
-use Rattle.dj_linking.proofs.downward.without_superclass.Goals.{then-is_none+in_ok-push, else-is_none}
+use Rattle.dj_resolution.specs.Numbers.{AreBelow}
+use Rattle.dj_resolution.proofs.Marks.{below_push}
+use Rattle.dj_resolution.proofs.downward.without_superclass.Goals as goal
+use Rattle.dj_resolution.proofs.downward.without_superclass.Goals.{then-is_none+in_ok-push, else-is_none}
 
 pub loop-class-preserved : goal.loop-class-preserved
 loop-class-preserved c = elim c.if-is_none.branch [

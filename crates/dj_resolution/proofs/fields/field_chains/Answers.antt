@@ -1,10 +1,10 @@
 use Rattle.std.proofs.Common.{◌≡◌, ◌<◌, List, ℕ, length, subst, sym}
 use Rattle.std.specs.Global.{Vec}
-use Rattle.dj_linking.specs.Numbers.{AreInside, lists_of}
-use Rattle.dj_linking.specs.Chained.{field_row, row_at}
-use Rattle.dj_linking.proofs.Chained.{lists_ok, rows_inside}
-use Rattle.dj_linking.proofs.Listed.{field_row_below}
-use Rattle.dj_linking.proofs.fields.field_chains.Goals as goal
+use Rattle.dj_resolution.specs.Numbers.{AreInside, lists_of}
+use Rattle.dj_resolution.specs.Chained.{field_row, row_at}
+use Rattle.dj_resolution.proofs.Chained.{lists_ok, rows_inside}
+use Rattle.dj_resolution.proofs.Listed.{field_row_below}
+use Rattle.dj_resolution.proofs.fields.field_chains.Goals as goal
 
 pub of-requires-clause-rows : goal.of-requires-clause-rows
 of-requires-clause-rows c =

@@ -1,7 +1,7 @@
 use Rattle.std.proofs.Common.{length, subst, sym, ◌∙◌, arith}
-use Rattle.dj_linking.specs.Numbers.{AreBelow}
-use Rattle.dj_linking.proofs.Marks.{above_is, once_below}
-use Rattle.dj_linking.proofs.fields.field_rows.Goals as goal
+use Rattle.dj_resolution.specs.Numbers.{AreBelow}
+use Rattle.dj_resolution.proofs.Marks.{above_is, once_below}
+use Rattle.dj_resolution.proofs.fields.field_rows.Goals as goal
 
 pub row_of-requires-clause-above : goal.row_of-requires-clause-above
 row_of-requires-clause-above c =

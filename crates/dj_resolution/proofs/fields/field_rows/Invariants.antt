@@ -1,7 +1,7 @@
 use Rattle.std.proofs.Common.{◌≡◌, ◌<◌, ℕ, [], length, get_or}
-use Rattle.dj_linking.specs.Numbers.{lists_of}
-use Rattle.dj_linking.specs.Chained.{field_row}
-use Rattle.dj_linking.proofs.fields.field_rows.Given as goal
+use Rattle.dj_resolution.specs.Numbers.{lists_of}
+use Rattle.dj_resolution.specs.Chained.{field_row}
+use Rattle.dj_resolution.proofs.fields.field_rows.Given as goal
 
 -- those so far
 abbrev pub invariant-loop-class : goal.invariant-loop-class

@@ -1,7 +1,7 @@
 use Rattle.std.proofs.Common.{◌≡◌, ◌∷◌, take}
 use Rattle.std.specs.List.{filter}
-use Rattle.dj_linking.specs.Chained.{has_field}
-use Rattle.dj_linking.proofs.fields.row_of.Given as goal
+use Rattle.dj_resolution.specs.Chained.{has_field}
+use Rattle.dj_resolution.proofs.fields.row_of.Given as goal
 
 -- those so far
 abbrev pub invariant-loop-interface : goal.invariant-loop-interface

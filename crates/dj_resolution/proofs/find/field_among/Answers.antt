@@ -1,9 +1,9 @@
 use Rattle.std.proofs.Common.{refl}
-use Rattle.dj_declared.specs.trusted.Files.{desc_in}
-use Rattle.dj_classes.specs.Tables.{field_there}
-use Rattle.dj_linking.specs.Numbers.{field_found}
-use Rattle.dj_linking.proofs.Finding.{searched_here, searched_more, searched_end, has_at}
-use Rattle.dj_linking.proofs.find.field_among.Goals as goal
+use Rattle.dj_declarations.specs.trusted.Files.{desc_in}
+use Rattle.dj_class_table.specs.Tables.{field_there}
+use Rattle.dj_resolution.specs.Numbers.{field_found}
+use Rattle.dj_resolution.proofs.Finding.{searched_here, searched_more, searched_end, has_at}
+use Rattle.dj_resolution.proofs.find.field_among.Goals as goal
 
 pub loop-class-init : goal.loop-class-init
 loop-class-init c = record { same = refl }

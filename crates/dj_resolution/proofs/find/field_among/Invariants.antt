@@ -1,7 +1,7 @@
-use Rattle.dj_declared.specs.trusted.Files.{desc_in}
-use Rattle.dj_linking.specs.Numbers.{field_found}
-use Rattle.dj_linking.proofs.Finding.{IsSearched}
-use Rattle.dj_linking.proofs.find.field_among.Given as goal
+use Rattle.dj_declarations.specs.trusted.Files.{desc_in}
+use Rattle.dj_resolution.specs.Numbers.{field_found}
+use Rattle.dj_resolution.proofs.Finding.{IsSearched}
+use Rattle.dj_resolution.proofs.find.field_among.Given as goal
 
 -- nothing so far
 abbrev pub invariant-loop-class : goal.invariant-loop-class

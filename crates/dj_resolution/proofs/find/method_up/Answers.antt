@@ -1,11 +1,11 @@
 use Rattle.std.proofs.Common.{◌<◌, ℕ, Option, IfSome, length, ◌∙◌, ap, subst}
 use Rattle.std.specs.Option.{option_map}
 use Rattle.dj_model.specs.trusted.Linking.{any_method}
-use Rattle.dj_declared.specs.trusted.Files.{desc_in}
-use Rattle.dj_classes.specs.Tables.{method_there}
-use Rattle.dj_linking.specs.Numbers.{method_found}
-use Rattle.dj_linking.proofs.Finding.{IsWalked, walk_begun, walked_here, walked_more, walked_off, walked_out}
-use Rattle.dj_linking.proofs.find.method_up.Goals as goal
+use Rattle.dj_declarations.specs.trusted.Files.{desc_in}
+use Rattle.dj_class_table.specs.Tables.{method_there}
+use Rattle.dj_resolution.specs.Numbers.{method_found}
+use Rattle.dj_resolution.proofs.Finding.{IsWalked, walk_begun, walked_here, walked_more, walked_off, walked_out}
+use Rattle.dj_resolution.proofs.find.method_up.Goals as goal
 
 pub loop-init : goal.loop-init
 loop-init c = walk_begun (method_found c.args.table.now any_method c.args.name.now (desc_in c.args.desc.now)) c.args.table.now c.args.class c.requires.there

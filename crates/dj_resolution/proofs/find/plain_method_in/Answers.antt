@@ -1,8 +1,8 @@
 use Rattle.std.proofs.Common.{inl, inr}
-use Rattle.dj_declared.specs.trusted.Files.{desc_in}
-use Rattle.dj_linking.proofs.Finding.{plain_there, plain_not_there, private_set, static_set}
-use Rattle.dj_linking.proofs.find.plain_method_in.Goals as goal
-use Rattle.dj_linking.proofs.find.plain_method_in.Goals.{else-flags-eq0-via-then-flags-eq0+else-flags-eq0-2, else-flags-eq0-via-else-flags-eq0}
+use Rattle.dj_declarations.specs.trusted.Files.{desc_in}
+use Rattle.dj_resolution.proofs.Finding.{plain_there, plain_not_there, private_set, static_set}
+use Rattle.dj_resolution.proofs.find.plain_method_in.Goals as goal
+use Rattle.dj_resolution.proofs.find.plain_method_in.Goals.{else-flags-eq0-via-then-flags-eq0+else-flags-eq0-2, else-flags-eq0-via-else-flags-eq0}
 
 pub returns-then-flags-eq0-2 : goal.returns-then-flags-eq0-2
 returns-then-flags-eq0-2 c =

@@ -1,12 +1,12 @@
 use Rattle.std.proofs.Common.{ℕ, List, Some, length, subst, sym, ◌∙◌, ap, arith}
 use Rattle.std.specs.Option.{option_map}
 use Rattle.dj_model.specs.trusted.Linking.{is_plain}
-use Rattle.dj_declared.specs.trusted.Files.{desc_in}
-use Rattle.dj_linking.specs.Numbers.{AreBelow, first_some, lists_of, method_found, once_above}
-use Rattle.dj_linking.proofs.Chained.{list_reported, rows_below}
-use Rattle.dj_linking.proofs.Listed.{methods_found}
-use Rattle.dj_linking.proofs.Marks.{once_below}
-use Rattle.dj_linking.proofs.find.plain_method_up.Goals as goal
+use Rattle.dj_declarations.specs.trusted.Files.{desc_in}
+use Rattle.dj_resolution.specs.Numbers.{AreBelow, first_some, lists_of, method_found, once_above}
+use Rattle.dj_resolution.proofs.Chained.{list_reported, rows_below}
+use Rattle.dj_resolution.proofs.Listed.{methods_found}
+use Rattle.dj_resolution.proofs.Marks.{once_below}
+use Rattle.dj_resolution.proofs.find.plain_method_up.Goals as goal
 
 pub list_of-requires : goal.list_of-requires
 list_of-requires c = omega (arith, c.requires.methods.count, c.requires.there)

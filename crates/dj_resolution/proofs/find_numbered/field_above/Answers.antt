@@ -1,12 +1,12 @@
 use Rattle.std.proofs.Common.{List, ℕ, Some, length, sym, ◌∙◌, ap, subst}
 use Rattle.std.specs.Option.{option_map}
-use Rattle.dj_declared.specs.trusted.Files.{desc_in}
-use Rattle.dj_classes.specs.Tables.{field_there}
-use Rattle.dj_linking.specs.Numbers.{AreBelow, field_found, first_some, numbers_above}
-use Rattle.dj_linking.proofs.Finding.{reported_next}
-use Rattle.dj_linking.proofs.Marks.{above_is, once_below}
-use Rattle.dj_linking.proofs.Searches.{reported_above}
-use Rattle.dj_linking.proofs.find_numbered.field_above.Goals as goal
+use Rattle.dj_declarations.specs.trusted.Files.{desc_in}
+use Rattle.dj_class_table.specs.Tables.{field_there}
+use Rattle.dj_resolution.specs.Numbers.{AreBelow, field_found, first_some, numbers_above}
+use Rattle.dj_resolution.proofs.Finding.{reported_next}
+use Rattle.dj_resolution.proofs.Marks.{above_is, once_below}
+use Rattle.dj_resolution.proofs.Searches.{reported_above}
+use Rattle.dj_resolution.proofs.find_numbered.field_above.Goals as goal
 
 pub field_among-requires-clause-below : goal.field_among-requires-clause-below
 field_among-requires-clause-below c =

@@ -1,10 +1,10 @@
 use Rattle.std.proofs.Common.{◌<◌, ◌∷◌, ℕ, Option, IfSome, length, ◌∙◌, ap, subst, sym, slice_get}
 use Rattle.std.specs.Option.{option_map}
-use Rattle.dj_declared.specs.trusted.Files.{desc_in}
-use Rattle.dj_classes.specs.Tables.{field_there}
-use Rattle.dj_linking.specs.Numbers.{field_found, first_some, numbers_above}
-use Rattle.dj_linking.proofs.Finding.{IsWalked, walk_begun, walked_here, walked_more, walked_off, walked_out, super_within}
-use Rattle.dj_linking.proofs.find_numbered.field_by_class.Goals as goal
+use Rattle.dj_declarations.specs.trusted.Files.{desc_in}
+use Rattle.dj_class_table.specs.Tables.{field_there}
+use Rattle.dj_resolution.specs.Numbers.{field_found, first_some, numbers_above}
+use Rattle.dj_resolution.proofs.Finding.{IsWalked, walk_begun, walked_here, walked_more, walked_off, walked_out, super_within}
+use Rattle.dj_resolution.proofs.find_numbered.field_by_class.Goals as goal
 
 pub loop-init : goal.loop-init
 loop-init c = (c.requires.there, λ n d h. walk_begun (λ k. first_some (field_found c.args.directory.now.program n (desc_in d)) (k ∷ numbers_above c.args.directory.now.program k)) c.args.directory.now.program c.args.class c.requires.there)

@@ -1,9 +1,9 @@
 use Rattle.std.proofs.Common.{◌∷◌, ℕ, List, ◌<◌, IfSome, length}
-use Rattle.dj_declared.specs.trusted.Files.{desc_in}
-use Rattle.dj_linking.specs.Numbered.{AreTexts}
-use Rattle.dj_linking.specs.Numbers.{field_found, first_some, numbers_above}
-use Rattle.dj_linking.proofs.Finding.{IsWalked}
-use Rattle.dj_linking.proofs.find_numbered.field_by_class.Given as goal
+use Rattle.dj_declarations.specs.trusted.Files.{desc_in}
+use Rattle.dj_resolution.specs.Numbered.{AreTexts}
+use Rattle.dj_resolution.specs.Numbers.{field_found, first_some, numbers_above}
+use Rattle.dj_resolution.proofs.Finding.{IsWalked}
+use Rattle.dj_resolution.proofs.find_numbered.field_by_class.Given as goal
 
 -- nothing so far
 abbrev pub invariant-loop : goal.invariant-loop

@@ -1,8 +1,8 @@
 use Rattle.std.proofs.Common.{length}
-use Rattle.dj_declared.specs.trusted.Files.{desc_in}
-use Rattle.dj_linking.specs.Numbers.{field_found}
-use Rattle.dj_linking.proofs.Marking.{none_here}
-use Rattle.dj_linking.proofs.find_numbered.field_if.Goals as goal
+use Rattle.dj_declarations.specs.trusted.Files.{desc_in}
+use Rattle.dj_resolution.specs.Numbers.{field_found}
+use Rattle.dj_resolution.proofs.Marking.{none_here}
+use Rattle.dj_resolution.proofs.find_numbered.field_if.Goals as goal
 
 pub returns-else-may_be_in : goal.returns-else-may_be_in
 returns-else-may_be_in c n d h =

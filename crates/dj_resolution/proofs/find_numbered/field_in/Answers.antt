@@ -1,9 +1,9 @@
 use Rattle.std.proofs.Common.{ap, ◌∙◌}
 use Rattle.std.specs.Option.{option_map}
-use Rattle.dj_declared.specs.trusted.Files.{desc_in}
-use Rattle.dj_classes.specs.Tables.{field_there}
-use Rattle.dj_linking.proofs.Numbered.{field_reported, no_field_reported}
-use Rattle.dj_linking.proofs.find_numbered.field_in.Goals as goal
+use Rattle.dj_declarations.specs.trusted.Files.{desc_in}
+use Rattle.dj_class_table.specs.Tables.{field_there}
+use Rattle.dj_resolution.proofs.Numbered.{field_reported, no_field_reported}
+use Rattle.dj_resolution.proofs.find_numbered.field_in.Goals as goal
 
 pub returns-in_err-member : goal.returns-in_err-member
 returns-in_err-member c n d h =

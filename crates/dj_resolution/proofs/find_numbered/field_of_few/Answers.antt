@@ -1,9 +1,9 @@
 use Rattle.std.proofs.Common.{ℕ, List, length, refl, subst, sym, ◌∙◌}
-use Rattle.dj_declared.specs.trusted.Files.{desc_in}
-use Rattle.dj_linking.specs.Marked.{IsCovered}
-use Rattle.dj_linking.specs.Numbers.{field_found}
-use Rattle.dj_linking.proofs.Marking.{fields_covered, no_fields}
-use Rattle.dj_linking.proofs.find_numbered.field_of_few.Goals as goal
+use Rattle.dj_declarations.specs.trusted.Files.{desc_in}
+use Rattle.dj_resolution.specs.Marked.{IsCovered}
+use Rattle.dj_resolution.specs.Numbers.{field_found}
+use Rattle.dj_resolution.proofs.Marking.{fields_covered, no_fields}
+use Rattle.dj_resolution.proofs.find_numbered.field_of_few.Goals as goal
 
 pub returns-then-is_empty : goal.returns-then-is_empty
 returns-then-is_empty c n d h =

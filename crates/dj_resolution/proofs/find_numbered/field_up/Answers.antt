@@ -1,11 +1,11 @@
 use Rattle.std.proofs.Common.{ℕ, List, Some, length, subst, sym, ◌∙◌, ap, arith}
 use Rattle.std.specs.Option.{option_map}
-use Rattle.dj_declared.specs.trusted.Files.{desc_in}
-use Rattle.dj_linking.specs.Chained.{field_row}
-use Rattle.dj_linking.specs.Numbers.{AreBelow, field_found, first_some, lists_of}
-use Rattle.dj_linking.proofs.Chained.{list_reported, rows_below}
-use Rattle.dj_linking.proofs.Listed.{field_row_below, fields_found}
-use Rattle.dj_linking.proofs.find_numbered.field_up.Goals as goal
+use Rattle.dj_declarations.specs.trusted.Files.{desc_in}
+use Rattle.dj_resolution.specs.Chained.{field_row}
+use Rattle.dj_resolution.specs.Numbers.{AreBelow, field_found, first_some, lists_of}
+use Rattle.dj_resolution.proofs.Chained.{list_reported, rows_below}
+use Rattle.dj_resolution.proofs.Listed.{field_row_below, fields_found}
+use Rattle.dj_resolution.proofs.find_numbered.field_up.Goals as goal
 
 pub list_of-requires : goal.list_of-requires
 list_of-requires c = omega (arith, c.requires.fields.count, c.requires.there)

@@ -1,8 +1,8 @@
 use Rattle.std.proofs.Common.{◌≡◌, ◌<◌, Some, length, slice_get, sym, subst}
 use Rattle.std.specs.Option.{option_map}
 use Rattle.dj_model.specs.trusted.Program.{Program}
-use Rattle.dj_classes.specs.Tables.{flags_in}
-use Rattle.dj_linking.proofs.find_numbered.flags_of.Goals as goal
+use Rattle.dj_class_table.specs.Tables.{flags_in}
+use Rattle.dj_resolution.proofs.find_numbered.flags_of.Goals as goal
 
 pub flags_of-requires : goal.flags_of-requires
 flags_of-requires c = subst (λ (p : Program). c.args.class < length p) (sym c.classes.ensures) c.requires

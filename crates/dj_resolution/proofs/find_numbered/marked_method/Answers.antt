@@ -3,14 +3,14 @@ use Rattle.std.specs.Option.{option_map}
 use Rattle.std.proofs.lemmas.Option.{none-some}
 use Rattle.dj_model.specs.trusted.Program.{Program}
 use Rattle.dj_model.specs.trusted.Linking.{most_classes}
-use Rattle.dj_declared.specs.trusted.Files.{desc_in}
-use Rattle.dj_classes.specs.Tables.{method_there}
-use Rattle.dj_linking.specs.Nearest.{IsNearMarked, IsNearestMarked}
-use Rattle.dj_linking.specs.Numbers.{lists_of, numbers_up}
-use Rattle.dj_linking.specs.Ranked.{AreRanksOf}
-use Rattle.dj_linking.proofs.Chained.{up_within}
-use Rattle.dj_linking.proofs.Covering.{near_marked, none_marked, rank_covers}
-use Rattle.dj_linking.proofs.find_numbered.marked_method.Goals as goal
+use Rattle.dj_declarations.specs.trusted.Files.{desc_in}
+use Rattle.dj_class_table.specs.Tables.{method_there}
+use Rattle.dj_resolution.specs.Nearest.{IsNearMarked, IsNearestMarked}
+use Rattle.dj_resolution.specs.Numbers.{lists_of, numbers_up}
+use Rattle.dj_resolution.specs.Ranked.{AreRanksOf}
+use Rattle.dj_resolution.proofs.Chained.{up_within}
+use Rattle.dj_resolution.proofs.Covering.{near_marked, none_marked, rank_covers}
+use Rattle.dj_resolution.proofs.find_numbered.marked_method.Goals as goal
 
 pub nearest_marked-requires-clause-there : goal.nearest_marked-requires-clause-there
 nearest_marked-requires-clause-there c = subst (λ (p : Program). c.args.class < length p) (sym c.classes.ensures) c.requires.there

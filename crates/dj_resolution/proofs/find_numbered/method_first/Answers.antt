@@ -2,11 +2,11 @@ use Rattle.std.proofs.Common.{◌≡◌, ◌∷◌, ℕ, Option, None, Some, sli
 use Rattle.std.specs.Option.{option_map}
 use Rattle.dj_model.specs.trusted.Program.{is_interface, flags_of}
 use Rattle.dj_model.specs.trusted.Linking.{any_method, most_classes, option_list}
-use Rattle.dj_declared.specs.trusted.Files.{desc_in}
-use Rattle.dj_classes.specs.Tables.{method_there}
-use Rattle.dj_linking.specs.Numbers.{method_found, numbers_up, first_some}
-use Rattle.dj_linking.proofs.Finding.{interface_set, interface_clear, first_of_class, then_of_object, no_object, of_superclasses}
-use Rattle.dj_linking.proofs.find_numbered.method_first.Goals as goal
+use Rattle.dj_declarations.specs.trusted.Files.{desc_in}
+use Rattle.dj_class_table.specs.Tables.{method_there}
+use Rattle.dj_resolution.specs.Numbers.{method_found, numbers_up, first_some}
+use Rattle.dj_resolution.proofs.Finding.{interface_set, interface_clear, first_of_class, then_of_object, no_object, of_superclasses}
+use Rattle.dj_resolution.proofs.find_numbered.method_first.Goals as goal
 
 pub returns-then-flags_of-eq0 : goal.returns-then-flags_of-eq0
 returns-then-flags_of-eq0 c n d h =

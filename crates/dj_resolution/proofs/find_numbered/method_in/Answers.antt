@@ -1,9 +1,9 @@
 use Rattle.std.proofs.Common.{ap, ◌∙◌}
 use Rattle.std.specs.Option.{option_map}
-use Rattle.dj_declared.specs.trusted.Files.{desc_in}
-use Rattle.dj_classes.specs.Tables.{method_there}
-use Rattle.dj_linking.proofs.Numbered.{method_reported, no_method_reported}
-use Rattle.dj_linking.proofs.find_numbered.method_in.Goals as goal
+use Rattle.dj_declarations.specs.trusted.Files.{desc_in}
+use Rattle.dj_class_table.specs.Tables.{method_there}
+use Rattle.dj_resolution.proofs.Numbered.{method_reported, no_method_reported}
+use Rattle.dj_resolution.proofs.find_numbered.method_in.Goals as goal
 
 pub returns-in_err-member : goal.returns-in_err-member
 returns-in_err-member c n d h =

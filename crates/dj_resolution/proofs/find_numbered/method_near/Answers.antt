@@ -1,10 +1,10 @@
 use Rattle.std.proofs.Common.{◌<◌, ℕ, Option, IfSome, length, subst, sym, slice_get, arith}
 use Rattle.dj_model.specs.trusted.Linking.{any_method}
-use Rattle.dj_declared.specs.trusted.Files.{desc_in}
-use Rattle.dj_classes.specs.Tables.{method_there}
-use Rattle.dj_linking.specs.Numbers.{method_found}
-use Rattle.dj_linking.proofs.Finding.{IsWalked, walk_begun, walked_here, walked_more, walked_off, super_within}
-use Rattle.dj_linking.proofs.find_numbered.method_near.Goals as goal
+use Rattle.dj_declarations.specs.trusted.Files.{desc_in}
+use Rattle.dj_class_table.specs.Tables.{method_there}
+use Rattle.dj_resolution.specs.Numbers.{method_found}
+use Rattle.dj_resolution.proofs.Finding.{IsWalked, walk_begun, walked_here, walked_more, walked_off, super_within}
+use Rattle.dj_resolution.proofs.find_numbered.method_near.Goals as goal
 
 pub loop-init : goal.loop-init
 loop-init c = (c.requires, λ n d h. walk_begun (method_found c.args.directory.now.program any_method n (desc_in d)) c.args.directory.now.program c.args.class c.requires)

@@ -1,10 +1,10 @@
 use Rattle.std.proofs.Common.{ℕ, List, ◌<◌, IfSome, length}
 use Rattle.dj_model.specs.trusted.Linking.{any_method}
-use Rattle.dj_declared.specs.trusted.Files.{desc_in}
-use Rattle.dj_linking.specs.Numbered.{AreTexts}
-use Rattle.dj_linking.specs.Numbers.{method_found}
-use Rattle.dj_linking.proofs.Finding.{IsWalked}
-use Rattle.dj_linking.proofs.find_numbered.method_near.Given as goal
+use Rattle.dj_declarations.specs.trusted.Files.{desc_in}
+use Rattle.dj_resolution.specs.Numbered.{AreTexts}
+use Rattle.dj_resolution.specs.Numbers.{method_found}
+use Rattle.dj_resolution.proofs.Finding.{IsWalked}
+use Rattle.dj_resolution.proofs.find_numbered.method_near.Given as goal
 
 -- nothing so far
 abbrev pub invariant-loop : goal.invariant-loop

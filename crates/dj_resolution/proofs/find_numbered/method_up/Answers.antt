@@ -1,7 +1,7 @@
 use Rattle.std.proofs.Common.{◌<◌, length, subst, sym}
 use Rattle.dj_model.specs.trusted.Program.{Program}
-use Rattle.dj_linking.specs.Ranked.{AreRanksOf}
-use Rattle.dj_linking.proofs.find_numbered.method_up.Goals as goal
+use Rattle.dj_resolution.specs.Ranked.{AreRanksOf}
+use Rattle.dj_resolution.proofs.find_numbered.method_up.Goals as goal
 
 pub has_row-requires-clause-there : goal.has_row-requires-clause-there
 has_row-requires-clause-there c = subst (λ (p : Program). c.args.class < length p) (sym c.classes.ensures) c.requires.there

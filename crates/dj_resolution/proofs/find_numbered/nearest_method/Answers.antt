@@ -2,13 +2,13 @@ use Rattle.std.proofs.Common.{◌<◌, ℕ, Option, None, Some, ◌∙◌, ap, l
 use Rattle.std.specs.Option.{option_map}
 use Rattle.dj_model.specs.trusted.Program.{Program}
 use Rattle.dj_model.specs.trusted.Linking.{most_classes, FoundMethod}
-use Rattle.dj_declared.specs.trusted.Files.{desc_in}
-use Rattle.dj_classes.specs.Tables.{method_there}
-use Rattle.dj_linking.specs.Nearest.{IsNearest}
-use Rattle.dj_linking.specs.Numbers.{SaysMethod, lists_of, numbers_up}
-use Rattle.dj_linking.specs.Ranked.{AreRanksOf}
-use Rattle.dj_linking.proofs.Nearing.{nearest_reported, none_reported}
-use Rattle.dj_linking.proofs.find_numbered.nearest_method.Goals as goal
+use Rattle.dj_declarations.specs.trusted.Files.{desc_in}
+use Rattle.dj_class_table.specs.Tables.{method_there}
+use Rattle.dj_resolution.specs.Nearest.{IsNearest}
+use Rattle.dj_resolution.specs.Numbers.{SaysMethod, lists_of, numbers_up}
+use Rattle.dj_resolution.specs.Ranked.{AreRanksOf}
+use Rattle.dj_resolution.proofs.Nearing.{nearest_reported, none_reported}
+use Rattle.dj_resolution.proofs.find_numbered.nearest_method.Goals as goal
 
 pub nearest_of-requires-clause-there : goal.nearest_of-requires-clause-there
 nearest_of-requires-clause-there c = subst (λ (p : Program). c.args.class < length p) (sym c.classes.ensures) c.requires.there

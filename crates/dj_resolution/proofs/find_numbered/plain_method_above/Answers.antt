@@ -1,12 +1,12 @@
 use Rattle.std.proofs.Common.{List, ℕ, length, sym, ◌∙◌, subst}
 use Rattle.std.specs.Option.{option_map}
 use Rattle.dj_model.specs.trusted.Linking.{is_plain}
-use Rattle.dj_declared.specs.trusted.Files.{desc_in}
-use Rattle.dj_classes.specs.Tables.{method_there}
-use Rattle.dj_linking.specs.Numbers.{AreBelow, method_found, numbers_above}
-use Rattle.dj_linking.proofs.Marks.{above_is, once_below}
-use Rattle.dj_linking.proofs.Searches.{reported_above}
-use Rattle.dj_linking.proofs.find_numbered.plain_method_above.Goals as goal
+use Rattle.dj_declarations.specs.trusted.Files.{desc_in}
+use Rattle.dj_class_table.specs.Tables.{method_there}
+use Rattle.dj_resolution.specs.Numbers.{AreBelow, method_found, numbers_above}
+use Rattle.dj_resolution.proofs.Marks.{above_is, once_below}
+use Rattle.dj_resolution.proofs.Searches.{reported_above}
+use Rattle.dj_resolution.proofs.find_numbered.plain_method_above.Goals as goal
 
 pub plain_method_among-requires-clause-below : goal.plain_method_among-requires-clause-below
 plain_method_among-requires-clause-below c =

@@ -1,10 +1,10 @@
 use Rattle.std.proofs.Common.{ℕ, List, ◌<◌, IfSome, length}
 use Rattle.dj_model.specs.trusted.Linking.{is_plain}
-use Rattle.dj_declared.specs.trusted.Files.{desc_in}
-use Rattle.dj_linking.specs.Numbered.{AreTexts}
-use Rattle.dj_linking.specs.Numbers.{method_found, first_some, numbers_above}
-use Rattle.dj_linking.proofs.Finding.{IsWalked}
-use Rattle.dj_linking.proofs.find_numbered.plain_method_by_class.Given as goal
+use Rattle.dj_declarations.specs.trusted.Files.{desc_in}
+use Rattle.dj_resolution.specs.Numbered.{AreTexts}
+use Rattle.dj_resolution.specs.Numbers.{method_found, first_some, numbers_above}
+use Rattle.dj_resolution.proofs.Finding.{IsWalked}
+use Rattle.dj_resolution.proofs.find_numbered.plain_method_by_class.Given as goal
 
 -- nothing so far
 abbrev pub invariant-loop : goal.invariant-loop

@@ -1,9 +1,9 @@
 use Rattle.std.proofs.Common.{length}
 use Rattle.dj_model.specs.trusted.Linking.{is_plain}
-use Rattle.dj_declared.specs.trusted.Files.{desc_in}
-use Rattle.dj_linking.specs.Numbers.{method_found}
-use Rattle.dj_linking.proofs.Marking.{none_here}
-use Rattle.dj_linking.proofs.find_numbered.plain_method_if.Goals as goal
+use Rattle.dj_declarations.specs.trusted.Files.{desc_in}
+use Rattle.dj_resolution.specs.Numbers.{method_found}
+use Rattle.dj_resolution.proofs.Marking.{none_here}
+use Rattle.dj_resolution.proofs.find_numbered.plain_method_if.Goals as goal
 
 pub returns-else-may_be_in : goal.returns-else-may_be_in
 returns-else-may_be_in c n d h =

@@ -1,11 +1,11 @@
 use Rattle.std.proofs.Common.{Some, ap, ◌∙◌, inl, inr}
 use Rattle.std.specs.Option.{option_map}
-use Rattle.dj_declared.specs.trusted.Files.{desc_in}
-use Rattle.dj_linking.proofs.Finding.{plain_there, plain_not_there, private_set, static_set}
-use Rattle.dj_classes.specs.Tables.{method_there}
-use Rattle.dj_linking.proofs.Numbered.{method_found_at, no_plain_reported}
-use Rattle.dj_linking.proofs.find_numbered.plain_method_in.Goals as goal
-use Rattle.dj_linking.proofs.find_numbered.plain_method_in.Goals.{else-flags-eq0-via-then-flags-eq0+else-flags-eq0-2, else-flags-eq0-via-else-flags-eq0}
+use Rattle.dj_declarations.specs.trusted.Files.{desc_in}
+use Rattle.dj_resolution.proofs.Finding.{plain_there, plain_not_there, private_set, static_set}
+use Rattle.dj_class_table.specs.Tables.{method_there}
+use Rattle.dj_resolution.proofs.Numbered.{method_found_at, no_plain_reported}
+use Rattle.dj_resolution.proofs.find_numbered.plain_method_in.Goals as goal
+use Rattle.dj_resolution.proofs.find_numbered.plain_method_in.Goals.{else-flags-eq0-via-then-flags-eq0+else-flags-eq0-2, else-flags-eq0-via-else-flags-eq0}
 
 pub returns-then-flags-eq0-2 : goal.returns-then-flags-eq0-2
 returns-then-flags-eq0-2 c n d h =

@@ -1,10 +1,10 @@
 use Rattle.std.proofs.Common.{ℕ, List, length, subst, sym, ◌∙◌}
 use Rattle.dj_model.specs.trusted.Linking.{is_plain}
-use Rattle.dj_declared.specs.trusted.Files.{desc_in}
-use Rattle.dj_linking.specs.Marked.{IsCovered}
-use Rattle.dj_linking.specs.Numbers.{method_found}
-use Rattle.dj_linking.proofs.Marking.{methods_covered, no_methods}
-use Rattle.dj_linking.proofs.find_numbered.plain_method_of_few.Goals as goal
+use Rattle.dj_declarations.specs.trusted.Files.{desc_in}
+use Rattle.dj_resolution.specs.Marked.{IsCovered}
+use Rattle.dj_resolution.specs.Numbers.{method_found}
+use Rattle.dj_resolution.proofs.Marking.{methods_covered, no_methods}
+use Rattle.dj_resolution.proofs.find_numbered.plain_method_of_few.Goals as goal
 
 pub returns-then-is_empty : goal.returns-then-is_empty
 returns-then-is_empty c n d h =

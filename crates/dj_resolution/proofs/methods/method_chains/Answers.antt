@@ -1,8 +1,8 @@
-use Rattle.dj_linking.specs.Numbers.{lists_of, once_above}
-use Rattle.dj_linking.specs.Chained.{row_at}
-use Rattle.dj_linking.proofs.Chained.{lists_ok, rows_inside}
-use Rattle.dj_linking.proofs.Marks.{once_below}
-use Rattle.dj_linking.proofs.methods.method_chains.Goals as goal
+use Rattle.dj_resolution.specs.Numbers.{lists_of, once_above}
+use Rattle.dj_resolution.specs.Chained.{row_at}
+use Rattle.dj_resolution.proofs.Chained.{lists_ok, rows_inside}
+use Rattle.dj_resolution.proofs.Marks.{once_below}
+use Rattle.dj_resolution.proofs.methods.method_chains.Goals as goal
 
 pub of-requires-clause-rows : goal.of-requires-clause-rows
 of-requires-clause-rows c =

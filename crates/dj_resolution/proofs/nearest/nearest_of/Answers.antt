@@ -1,11 +1,11 @@
 use Rattle.std.proofs.Common.{◌+◌, Some, get_or, subst, sym}
 use Rattle.std.proofs.lemmas.List.{get_or_default}
 use Rattle.dj_model.specs.trusted.Linking.{most_classes}
-use Rattle.dj_directory.specs.declared.rows.MemberRow.{MemberRow}
-use Rattle.dj_linking.specs.Nearest.{IsNearest}
-use Rattle.dj_linking.specs.Numbers.{numbers_up}
-use Rattle.dj_linking.proofs.Nearing.{one_more}
-use Rattle.dj_linking.proofs.nearest.nearest_of.Goals as goal
+use Rattle.dj_member_index.specs.declared.rows.MemberRow.{MemberRow}
+use Rattle.dj_resolution.specs.Nearest.{IsNearest}
+use Rattle.dj_resolution.specs.Numbers.{numbers_up}
+use Rattle.dj_resolution.proofs.Nearing.{one_more}
+use Rattle.dj_resolution.proofs.nearest.nearest_of.Goals as goal
 
 pub loop-row-preserved : goal.loop-row-preserved
 loop-row-preserved c =

@@ -1,8 +1,8 @@
 use Rattle.dj_model.specs.trusted.Linking.{most_classes}
 use Rattle.std.proofs.Common.{Some}
-use Rattle.dj_linking.specs.Nearest.{IsNearest}
-use Rattle.dj_linking.specs.Numbers.{numbers_up}
-use Rattle.dj_linking.proofs.nearest.nearest_of.Given as goal
+use Rattle.dj_resolution.specs.Nearest.{IsNearest}
+use Rattle.dj_resolution.specs.Numbers.{numbers_up}
+use Rattle.dj_resolution.proofs.nearest.nearest_of.Given as goal
 
 -- the nearest of the rows so far
 abbrev pub invariant-loop-row : goal.invariant-loop-row

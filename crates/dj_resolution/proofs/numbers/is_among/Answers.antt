@@ -1,6 +1,6 @@
 use Rattle.std.proofs.Common.{refl, sym}
-use Rattle.dj_linking.proofs.Subclasses.{passed_here, passed_more, passed_end}
-use Rattle.dj_linking.proofs.numbers.is_among.Goals as goal
+use Rattle.dj_resolution.proofs.Subclasses.{passed_here, passed_more, passed_end}
+use Rattle.dj_resolution.proofs.numbers.is_among.Goals as goal
 
 pub loop-other-init : goal.loop-other-init
 loop-other-init c = record { same = refl }

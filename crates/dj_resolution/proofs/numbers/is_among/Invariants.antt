@@ -1,5 +1,5 @@
-use Rattle.dj_linking.proofs.Subclasses.{IsPassed}
-use Rattle.dj_linking.proofs.numbers.is_among.Given as goal
+use Rattle.dj_resolution.proofs.Subclasses.{IsPassed}
+use Rattle.dj_resolution.proofs.numbers.is_among.Given as goal
 
 -- it is none so far
 abbrev pub invariant-loop-other : goal.invariant-loop-other

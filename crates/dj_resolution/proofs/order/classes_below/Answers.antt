@@ -2,9 +2,9 @@ use Rattle.std.proofs.Common.{ℕ, ◌<◌, ◌≡◌, true, List, length, slice
 use Rattle.std.specs.Global.{Vec}
 use Rattle.std.proofs.lemmas.List.{length-map}
 use Rattle.dj_model.specs.trusted.Program.{interfaces_of}
-use Rattle.dj_linking.specs.Numbers.{has}
-use Rattle.dj_linking.proofs.Marks.{numbers_below}
-use Rattle.dj_linking.proofs.order.classes_below.Goals as goal
+use Rattle.dj_resolution.specs.Numbers.{has}
+use Rattle.dj_resolution.proofs.Marks.{numbers_below}
+use Rattle.dj_resolution.proofs.order.classes_below.Goals as goal
 
 pub put_below-requires-clause-listed : goal.put_below-requires-clause-listed
 put_below-requires-clause-listed c = λ z there.

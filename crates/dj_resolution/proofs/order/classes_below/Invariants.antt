@@ -1,6 +1,6 @@
 use Rattle.std.proofs.Common.{length}
-use Rattle.dj_linking.specs.Numbers.{AreInside, lists_of}
-use Rattle.dj_linking.proofs.order.classes_below.Given as goal
+use Rattle.dj_resolution.specs.Numbers.{AreInside, lists_of}
+use Rattle.dj_resolution.proofs.order.classes_below.Given as goal
 
 -- so far
 abbrev pub invariant-loop-class : goal.invariant-loop-class

@@ -1,5 +1,5 @@
 use Rattle.std.proofs.Common.{◌≡◌, length}
-use Rattle.dj_linking.proofs.order.listed_counts.Given as goal
+use Rattle.dj_resolution.proofs.order.listed_counts.Given as goal
 
 -- one a class
 abbrev pub invariant-loop-class : goal.invariant-loop-class

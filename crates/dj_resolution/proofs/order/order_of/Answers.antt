@@ -1,9 +1,9 @@
 use Rattle.std.proofs.Common.{ℕ, ◌<◌, length, subst, ap, arith, sym, ◌∙◌}
 use Rattle.std.specs.Global.{Vec}
 use Rattle.std.proofs.lemmas.List.{length-map}
-use Rattle.dj_linking.specs.Numbers.{AreBelow}
-use Rattle.dj_linking.proofs.Marks.{found_below, row_below}
-use Rattle.dj_linking.proofs.order.order_of.Goals as goal
+use Rattle.dj_resolution.specs.Numbers.{AreBelow}
+use Rattle.dj_resolution.proofs.Marks.{found_below, row_below}
+use Rattle.dj_resolution.proofs.order.order_of.Goals as goal
 
 pub without_interfaces-requires : goal.without_interfaces-requires
 without_interfaces-requires c = let same = ap length c.deref.ensures.value in omega (arith, same, c.in_ok-left.ensures, c.class_count-count.ensures.count, c.class_count-count.ensures.few)

@@ -1,7 +1,7 @@
 use Rattle.std.proofs.Common.{◌<◌, ℕ, length, get_or, subst, sym}
-use Rattle.dj_linking.proofs.Finding.{has_at}
-use Rattle.dj_linking.proofs.Marks.{inside_more}
-use Rattle.dj_linking.proofs.order.put_below.Goals as goal
+use Rattle.dj_resolution.proofs.Finding.{has_at}
+use Rattle.dj_resolution.proofs.Marks.{inside_more}
+use Rattle.dj_resolution.proofs.order.put_below.Goals as goal
 
 pub bounds-below-interface : goal.bounds-below-interface
 bounds-below-interface c =

@@ -1,11 +1,11 @@
 use Rattle.std.proofs.Common.{◌<◌, ℕ, length, get_or, subst, sym, ◌∙◌, ap}
 use Rattle.std.specs.Global.{Vec}
 use Rattle.std.proofs.Math.ListN.{length-set}
-use Rattle.dj_linking.specs.Numbers.{AreBelow}
-use Rattle.dj_linking.proofs.Finding.{has_at}
-use Rattle.dj_linking.proofs.Marks.{below_push}
-use Rattle.dj_linking.proofs.order.release.Goals as goal
-use Rattle.dj_linking.proofs.order.release.Goals.{then-left-at-eq0+in_ok-push, else-left-at-eq0}
+use Rattle.dj_resolution.specs.Numbers.{AreBelow}
+use Rattle.dj_resolution.proofs.Finding.{has_at}
+use Rattle.dj_resolution.proofs.Marks.{below_push}
+use Rattle.dj_resolution.proofs.order.release.Goals as goal
+use Rattle.dj_resolution.proofs.order.release.Goals.{then-left-at-eq0+in_ok-push, else-left-at-eq0}
 
 pub bounds-left-at : goal.bounds-left-at
 bounds-left-at c =

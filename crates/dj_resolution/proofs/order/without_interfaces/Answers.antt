@@ -1,9 +1,9 @@
 use Rattle.std.proofs.Common.{ℕ, length, subst, sym, ◌∙◌, ap}
 use Rattle.std.specs.Global.{Vec}
-use Rattle.dj_linking.specs.Numbers.{AreBelow}
-use Rattle.dj_linking.proofs.Marks.{below_push}
-use Rattle.dj_linking.proofs.order.without_interfaces.Goals as goal
-use Rattle.dj_linking.proofs.order.without_interfaces.Goals.{then-count-eq0+in_ok-push, else-count-eq0}
+use Rattle.dj_resolution.specs.Numbers.{AreBelow}
+use Rattle.dj_resolution.proofs.Marks.{below_push}
+use Rattle.dj_resolution.proofs.order.without_interfaces.Goals as goal
+use Rattle.dj_resolution.proofs.order.without_interfaces.Goals.{then-count-eq0+in_ok-push, else-count-eq0}
 
 pub loop-class-preserved : goal.loop-class-preserved
 loop-class-preserved c = elim c.if-count-eq0.branch [

@@ -2,12 +2,12 @@ use Rattle.std.proofs.Common.{◌≡◌, ℕ, List, Option, IfSome, true, nat_eq
 use Rattle.std.specs.Global.{Vec}
 use Rattle.std.specs.Vec.{vec_len, with_items}
 use Rattle.std.proofs.lemmas.List.{length-map, with_items_is}
-use Rattle.dj_linking.specs.Bits.{in_bits}
-use Rattle.dj_linking.specs.Numbers.{lists_of}
-use Rattle.dj_linking.specs.Ranked.{IsRowAbove}
-use Rattle.dj_linking.proofs.Finding.{has_at}
-use Rattle.dj_linking.proofs.Ranking.{learnt_rows, not_learnt}
-use Rattle.dj_linking.proofs.ranked.learn.Goals as goal
+use Rattle.dj_resolution.specs.Bits.{in_bits}
+use Rattle.dj_resolution.specs.Numbers.{lists_of}
+use Rattle.dj_resolution.specs.Ranked.{IsRowAbove}
+use Rattle.dj_resolution.proofs.Finding.{has_at}
+use Rattle.dj_resolution.proofs.Ranking.{learnt_rows, not_learnt}
+use Rattle.dj_resolution.proofs.ranked.learn.Goals as goal
 
 pub bounds-ranks-class : goal.bounds-ranks-class
 bounds-ranks-class c = let lt = c.requires.below (get_or c.args.order.now c.args.rank 0) (has_at c.args.order.now c.args.rank c.requires.there) in omega (arith, lt, c.requires.ranked.ranks_count)

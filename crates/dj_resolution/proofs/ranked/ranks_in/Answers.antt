@@ -1,6 +1,6 @@
 use Rattle.std.proofs.Common.{◌<◌, refl, arith}
-use Rattle.dj_linking.proofs.Marks.{found_below}
-use Rattle.dj_linking.proofs.ranked.ranks_in.Goals as goal
+use Rattle.dj_resolution.proofs.Marks.{found_below}
+use Rattle.dj_resolution.proofs.ranked.ranks_in.Goals as goal
 
 pub index_mut-requires : goal.index_mut-requires
 index_mut-requires c =

@@ -1,5 +1,5 @@
 use Rattle.std.proofs.Common.{◌≡◌, length}
-use Rattle.dj_linking.proofs.ranked.ranks_in.Given as goal
+use Rattle.dj_resolution.proofs.ranked.ranks_in.Given as goal
 
 -- as many as there are classes
 abbrev pub invariant-loop-rank : goal.invariant-loop-rank

@@ -1,10 +1,10 @@
 use Rattle.std.proofs.Common.{ℕ, List, ◌+◌, ◌<◌, ◌/◌, length, sym, ◌∙◌, ap, subst, arith}
 use Rattle.std.specs.Global.{Vec}
 use Rattle.std.proofs.lemmas.List.{length-map}
-use Rattle.dj_linking.specs.Numbers.{lists_of}
-use Rattle.dj_linking.proofs.Chained.{next_within}
-use Rattle.dj_linking.proofs.Ranking.{first_above, next_above, row_is_at, some_in}
-use Rattle.dj_linking.proofs.ranked.row_above.Goals as goal
+use Rattle.dj_resolution.specs.Numbers.{lists_of}
+use Rattle.dj_resolution.proofs.Chained.{next_within}
+use Rattle.dj_resolution.proofs.Ranking.{first_above, next_above, row_is_at, some_in}
+use Rattle.dj_resolution.proofs.ranked.row_above.Goals as goal
 
 pub returns-in_default : goal.returns-in_default
 returns-in_default c =

@@ -1,6 +1,6 @@
-use Rattle.dj_linking.specs.Numbers.{lists_of}
-use Rattle.dj_linking.specs.Ranked.{AreRanked}
-use Rattle.dj_linking.proofs.ranked.rows_of.Given as goal
+use Rattle.dj_resolution.specs.Numbers.{lists_of}
+use Rattle.dj_resolution.specs.Ranked.{AreRanked}
+use Rattle.dj_resolution.proofs.ranked.rows_of.Given as goal
 
 -- those so far
 abbrev pub invariant-loop-rank : goal.invariant-loop-rank

@@ -1,13 +1,13 @@
 use Rattle.std.proofs.Common.{◌<◌, ◌≤◌, ℕ, Option, IfSome, length, sym, ◌∙◌, ap, subst}
 use Rattle.std.specs.Option.{option_map}
 use Rattle.dj_model.specs.trusted.Linking.{is_plain, most_classes}
-use Rattle.dj_declared.specs.trusted.Files.{desc_in}
-use Rattle.dj_classes.specs.Tables.{method_there}
-use Rattle.dj_linking.specs.Numbers.{method_found}
-use Rattle.dj_linking.proofs.Climbs.{IsClimbed, climbed_here, climbed_more, climbed_off, climbed_out}
-use Rattle.dj_linking.proofs.Levels.{most_is}
-use Rattle.dj_linking.proofs.Selections.{climb_from}
-use Rattle.dj_linking.proofs.select.plain_method_from.Goals as goal
+use Rattle.dj_declarations.specs.trusted.Files.{desc_in}
+use Rattle.dj_class_table.specs.Tables.{method_there}
+use Rattle.dj_resolution.specs.Numbers.{method_found}
+use Rattle.dj_resolution.proofs.Climbs.{IsClimbed, climbed_here, climbed_more, climbed_off, climbed_out}
+use Rattle.dj_resolution.proofs.Levels.{most_is}
+use Rattle.dj_resolution.proofs.Selections.{climb_from}
+use Rattle.dj_resolution.proofs.select.plain_method_from.Goals as goal
 
 pub loop-init : goal.loop-init
 loop-init c = climb_from (method_found c.args.table.now is_plain c.args.name.now (desc_in c.args.desc.now)) c.args.table.now most_classes c.args.class c.requires.there

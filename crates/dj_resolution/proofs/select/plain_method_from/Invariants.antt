@@ -1,8 +1,8 @@
 use Rattle.dj_model.specs.trusted.Linking.{is_plain, most_classes}
-use Rattle.dj_declared.specs.trusted.Files.{desc_in}
-use Rattle.dj_linking.specs.Numbers.{method_found}
-use Rattle.dj_linking.proofs.Climbs.{IsClimbed}
-use Rattle.dj_linking.proofs.select.plain_method_from.Given as goal
+use Rattle.dj_declarations.specs.trusted.Files.{desc_in}
+use Rattle.dj_resolution.specs.Numbers.{method_found}
+use Rattle.dj_resolution.proofs.Climbs.{IsClimbed}
+use Rattle.dj_resolution.proofs.select.plain_method_from.Given as goal
 
 -- nothing so far
 abbrev pub invariant-loop : goal.invariant-loop

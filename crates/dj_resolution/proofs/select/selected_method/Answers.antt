@@ -1,7 +1,7 @@
 use Rattle.std.proofs.Common.{◌≡◌, Some, ap, sym, subst, ◌∙◌}
-use Rattle.dj_classes.specs.Tables.{method_there}
-use Rattle.dj_linking.proofs.Selections.{Is, found_there, there_within, reported_there, taken_numbers}
-use Rattle.dj_linking.proofs.select.selected_method.Goals as goal
+use Rattle.dj_class_table.specs.Tables.{method_there}
+use Rattle.dj_resolution.proofs.Selections.{Is, found_there, there_within, reported_there, taken_numbers}
+use Rattle.dj_resolution.proofs.select.selected_method.Goals as goal
 
 pub method_has_body-requires-clause-there : goal.method_has_body-requires-clause-there
 method_has_body-requires-clause-there c =

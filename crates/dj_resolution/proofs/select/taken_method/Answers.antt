@@ -1,10 +1,10 @@
 use Rattle.std.proofs.Common.{Some}
 use Rattle.std.specs.Option.{option_map}
 use Rattle.dj_model.specs.trusted.Linking.{most_classes}
-use Rattle.dj_classes.specs.Tables.{methods_at, method_there}
-use Rattle.dj_linking.specs.Numbers.{numbers_up}
-use Rattle.dj_linking.proofs.Selections.{descriptor_there, is_private_there, not_private_there, named_there, taken_private, taken_above}
-use Rattle.dj_linking.proofs.select.taken_method.Goals as goal
+use Rattle.dj_class_table.specs.Tables.{methods_at, method_there}
+use Rattle.dj_resolution.specs.Numbers.{numbers_up}
+use Rattle.dj_resolution.proofs.Selections.{descriptor_there, is_private_there, not_private_there, named_there, taken_private, taken_above}
+use Rattle.dj_resolution.proofs.select.taken_method.Goals as goal
 
 pub plain_method_from-requires-clause-described : goal.plain_method_from-requires-clause-described
 plain_method_from-requires-clause-described c =

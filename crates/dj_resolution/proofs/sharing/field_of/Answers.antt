@@ -1,11 +1,11 @@
 use Rattle.std.proofs.Common.{List, ℕ, [], length, true, ◌∙◌, ap, subst, sym, arith}
 use Rattle.std.specs.Vec.{with_items}
 use Rattle.std.proofs.lemmas.List.{with_items_is}
-use Rattle.dj_declared.specs.trusted.Files.{desc_in}
-use Rattle.dj_linking.specs.Bits.{AreBits}
-use Rattle.dj_linking.proofs.Covering.{field_marked}
-use Rattle.dj_linking.proofs.Marking.{fields_marked}
-use Rattle.dj_linking.proofs.sharing.field_of.Goals as goal
+use Rattle.dj_declarations.specs.trusted.Files.{desc_in}
+use Rattle.dj_resolution.specs.Bits.{AreBits}
+use Rattle.dj_resolution.proofs.Covering.{field_marked}
+use Rattle.dj_resolution.proofs.Marking.{fields_marked}
+use Rattle.dj_resolution.proofs.sharing.field_of.Goals as goal
 
 pub mark_all-requires : goal.mark_all-requires
 mark_all-requires c row there =

@@ -1,5 +1,5 @@
-use Rattle.dj_linking.specs.Shared.{HaveFieldMarks}
-use Rattle.dj_linking.proofs.sharing.fields_of.Given as goal
+use Rattle.dj_resolution.specs.Shared.{HaveFieldMarks}
+use Rattle.dj_resolution.proofs.sharing.fields_of.Given as goal
 
 -- those so far
 abbrev pub invariant-loop-at : goal.invariant-loop-at

@@ -1,12 +1,12 @@
 use Rattle.std.proofs.Common.{ℕ, ◌*◌, List, [], length, ltb, ◌∙◌, ap, subst, sym, arith}
 use Rattle.std.specs.Vec.{with_items}
 use Rattle.std.proofs.lemmas.List.{with_items_is}
-use Rattle.dj_declared.specs.trusted.Files.{desc_in}
-use Rattle.dj_linking.specs.Bits.{AreBits}
-use Rattle.dj_linking.specs.Marked.{AddsMarks}
-use Rattle.dj_linking.specs.Ranked.{rank_in}
-use Rattle.dj_linking.proofs.Covering.{rank_marked, ranks_marked}
-use Rattle.dj_linking.proofs.sharing.method_of.Goals as goal
+use Rattle.dj_declarations.specs.trusted.Files.{desc_in}
+use Rattle.dj_resolution.specs.Bits.{AreBits}
+use Rattle.dj_resolution.specs.Marked.{AddsMarks}
+use Rattle.dj_resolution.specs.Ranked.{rank_in}
+use Rattle.dj_resolution.proofs.Covering.{rank_marked, ranks_marked}
+use Rattle.dj_resolution.proofs.sharing.method_of.Goals as goal
 
 pub returns : goal.returns
 returns c =

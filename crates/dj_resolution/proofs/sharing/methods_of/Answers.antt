@@ -1,8 +1,8 @@
 use Rattle.std.proofs.Common.{Contains, get_or}
 use Rattle.std.proofs.lemmas.List.{get_or_default}
-use Rattle.dj_directory.specs.declared.rows.MemberRow.{MemberRow}
-use Rattle.dj_linking.proofs.Covering.{method_of_row}
-use Rattle.dj_linking.proofs.sharing.methods_of.Goals as goal
+use Rattle.dj_member_index.specs.declared.rows.MemberRow.{MemberRow}
+use Rattle.dj_resolution.proofs.Covering.{method_of_row}
+use Rattle.dj_resolution.proofs.sharing.methods_of.Goals as goal
 
 abbrev none : MemberRow
 none = record { name = 0; desc = 0; class = 0; place = 0 }

@@ -1,11 +1,11 @@
 use Rattle.std.proofs.Common.{[], ◌∙◌, subst, sym}
 use Rattle.std.specs.Vec.{with_items}
 use Rattle.std.proofs.lemmas.List.{with_items_is}
-use Rattle.dj_declared.specs.trusted.Files.{desc_in}
-use Rattle.dj_linking.specs.Bits.{AreBits}
-use Rattle.dj_linking.proofs.Covering.{plain_marked}
-use Rattle.dj_linking.proofs.Marking.{methods_marked}
-use Rattle.dj_linking.proofs.sharing.plain_method_of.Goals as goal
+use Rattle.dj_declarations.specs.trusted.Files.{desc_in}
+use Rattle.dj_resolution.specs.Bits.{AreBits}
+use Rattle.dj_resolution.proofs.Covering.{plain_marked}
+use Rattle.dj_resolution.proofs.Marking.{methods_marked}
+use Rattle.dj_resolution.proofs.sharing.plain_method_of.Goals as goal
 
 pub returns : goal.returns
 returns c =

@@ -1,5 +1,5 @@
-use Rattle.dj_linking.specs.Shared.{HavePlainMarks}
-use Rattle.dj_linking.proofs.sharing.plain_methods_of.Given as goal
+use Rattle.dj_resolution.specs.Shared.{HavePlainMarks}
+use Rattle.dj_resolution.proofs.sharing.plain_methods_of.Given as goal
 
 -- those so far
 abbrev pub invariant-loop-at : goal.invariant-loop-at

@@ -1,11 +1,11 @@
 use Rattle.std.proofs.Common.{◌<◌, ◌≤◌, ℕ, Option, IfSome, length, sym, ◌∙◌, ap, subst}
 use Rattle.std.specs.Option.{option_map}
 use Rattle.dj_model.specs.trusted.Linking.{is_not_static}
-use Rattle.dj_declared.specs.trusted.Files.{desc_in}
-use Rattle.dj_classes.specs.Tables.{method_there, super_number}
-use Rattle.dj_linking.specs.Numbers.{method_found, most_above}
-use Rattle.dj_linking.proofs.Climbs.{IsClimbed, climb_begun, climbed_here, climbed_more, climbed_off, climbed_out, most_above_is}
-use Rattle.dj_linking.proofs.special.instance_method_above.Goals as goal
+use Rattle.dj_declarations.specs.trusted.Files.{desc_in}
+use Rattle.dj_class_table.specs.Tables.{method_there, super_number}
+use Rattle.dj_resolution.specs.Numbers.{method_found, most_above}
+use Rattle.dj_resolution.proofs.Climbs.{IsClimbed, climb_begun, climbed_here, climbed_more, climbed_off, climbed_out, most_above_is}
+use Rattle.dj_resolution.proofs.special.instance_method_above.Goals as goal
 
 pub loop-init : goal.loop-init
 loop-init c = climb_begun (method_found c.args.table.now is_not_static c.args.name.now (desc_in c.args.desc.now)) c.args.table.now most_above c.args.class c.super_of-next.result c.super_of-next.ensures

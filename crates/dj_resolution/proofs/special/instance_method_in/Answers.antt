@@ -1,6 +1,6 @@
-use Rattle.dj_declared.specs.trusted.Files.{desc_in}
-use Rattle.dj_linking.proofs.Climbs.{instance_there, static_there}
-use Rattle.dj_linking.proofs.special.instance_method_in.Goals as goal
+use Rattle.dj_declarations.specs.trusted.Files.{desc_in}
+use Rattle.dj_resolution.proofs.Climbs.{instance_there, static_there}
+use Rattle.dj_resolution.proofs.special.instance_method_in.Goals as goal
 
 pub returns-then-flags-eq0 : goal.returns-then-flags-eq0
 returns-then-flags-eq0 c =

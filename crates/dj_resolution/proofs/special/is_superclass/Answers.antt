@@ -1,7 +1,7 @@
 use Rattle.std.proofs.Common.{sym}
-use Rattle.dj_linking.proofs.Chained.{next_within}
-use Rattle.dj_linking.proofs.Listed.{nothing_above}
-use Rattle.dj_linking.proofs.special.is_superclass.Goals as goal
+use Rattle.dj_resolution.proofs.Chained.{next_within}
+use Rattle.dj_resolution.proofs.Listed.{nothing_above}
+use Rattle.dj_resolution.proofs.special.is_superclass.Goals as goal
 
 pub returns-in_default : goal.returns-in_default
 returns-in_default c = nothing_above c.args.table.now c.args.class c.args.other (sym c.in_default.ensures)

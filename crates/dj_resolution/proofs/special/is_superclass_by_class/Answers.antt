@@ -1,9 +1,9 @@
 use Rattle.std.proofs.Common.{◌<◌, ◌≤◌, ℕ, Option, Some, nat_eq, sym, subst, eq-eqb, ne_eqb}
-use Rattle.dj_classes.specs.Tables.{super_number}
-use Rattle.dj_linking.specs.Numbers.{most_above, numbers_up}
-use Rattle.dj_linking.proofs.Climbs.{IsClimbed, climb_begun, climbed_here, climbed_more, climbed_off, climbed_out, most_above_is}
-use Rattle.dj_linking.proofs.Subclasses.{where_so, so_reported, not_so_reported, is_among_these, not_among_these}
-use Rattle.dj_linking.proofs.special.is_superclass_by_class.Goals as goal
+use Rattle.dj_class_table.specs.Tables.{super_number}
+use Rattle.dj_resolution.specs.Numbers.{most_above, numbers_up}
+use Rattle.dj_resolution.proofs.Climbs.{IsClimbed, climb_begun, climbed_here, climbed_more, climbed_off, climbed_out, most_above_is}
+use Rattle.dj_resolution.proofs.Subclasses.{where_so, so_reported, not_so_reported, is_among_these, not_among_these}
+use Rattle.dj_resolution.proofs.special.is_superclass_by_class.Goals as goal
 
 pub loop-init : goal.loop-init
 loop-init c = climb_begun (λ k. where_so c.args.other (nat_eq k c.args.other)) c.args.table.now most_above c.args.class c.super_of-next.result c.super_of-next.ensures

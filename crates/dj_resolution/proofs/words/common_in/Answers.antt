@@ -1,6 +1,6 @@
 use Rattle.std.proofs.Common.{sym, ◌∙◌, arith}
-use Rattle.dj_linking.proofs.Tops.{none_common, none_higher, none_in, past_others, top_here}
-use Rattle.dj_linking.proofs.words.common_in.Goals as goal
+use Rattle.dj_resolution.proofs.Tops.{none_common, none_higher, none_in, past_others, top_here}
+use Rattle.dj_resolution.proofs.words.common_in.Goals as goal
 
 pub returns-then-at-others : goal.returns-then-at-others
 returns-then-at-others c = past_others c.args.words.now c.args.others.now c.args.at c.if-at-others.true

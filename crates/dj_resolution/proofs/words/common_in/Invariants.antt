@@ -1,5 +1,5 @@
-use Rattle.dj_linking.proofs.Tops.{NoneAbove}
-use Rattle.dj_linking.proofs.words.common_in.Given as goal
+use Rattle.dj_resolution.proofs.Tops.{NoneAbove}
+use Rattle.dj_resolution.proofs.words.common_in.Given as goal
 
 -- none of the higher ones so far
 abbrev pub invariant-loop-back : goal.invariant-loop-back

@@ -1,5 +1,5 @@
 use Rattle.std.proofs.Common.{◌≡◌, ◌<◌, ℕ, get_or, bit_and}
-use Rattle.dj_linking.proofs.words.has_bits.Given as goal
+use Rattle.dj_resolution.proofs.words.has_bits.Given as goal
 
 -- those so far are among the others
 abbrev pub invariant-loop-at : goal.invariant-loop-at

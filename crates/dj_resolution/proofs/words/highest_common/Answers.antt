@@ -1,6 +1,6 @@
 use Rattle.std.proofs.Common.{◌-◌, length, refl}
-use Rattle.dj_linking.proofs.Tops.{past_all, past_more, past_none, past_top}
-use Rattle.dj_linking.proofs.words.highest_common.Goals as goal
+use Rattle.dj_resolution.proofs.Tops.{past_all, past_more, past_none, past_top}
+use Rattle.dj_resolution.proofs.words.highest_common.Goals as goal
 
 pub loop-back-init : goal.loop-back-init
 loop-back-init c = past_none c.args.words.now c.args.others.now

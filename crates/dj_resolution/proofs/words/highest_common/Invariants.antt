@@ -1,5 +1,5 @@
-use Rattle.dj_linking.proofs.Tops.{NonePast}
-use Rattle.dj_linking.proofs.words.highest_common.Given as goal
+use Rattle.dj_resolution.proofs.Tops.{NonePast}
+use Rattle.dj_resolution.proofs.words.highest_common.Given as goal
 
 -- none of those in the last words so far
 abbrev pub invariant-loop-back : goal.invariant-loop-back

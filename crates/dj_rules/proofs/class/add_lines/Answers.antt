@@ -2,8 +2,8 @@ use Rattle.std.proofs.Common.{arith}
 use Rattle.dj_pool.proofs.ShortTexts.{class_name_short}
 use Rattle.dj_class.specs.Views.{class_of}
 use Rattle.dj_report.proofs.Adding.{on_ok}
-use Rattle.dj_judge.proofs.FileLaws.{all_mark_lines, own_lines}
-use Rattle.dj_judge.proofs.class.add_lines.Goals as goal
+use Rattle.dj_rules.proofs.FileLaws.{all_mark_lines, own_lines}
+use Rattle.dj_rules.proofs.class.add_lines.Goals as goal
 
 pub add_class_lines-requires : goal.add_class_lines-requires
 add_class_lines-requires c =

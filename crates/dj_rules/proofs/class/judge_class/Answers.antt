@@ -1,14 +1,14 @@
 use Rattle.std.proofs.Common.{List, [], ◌∙◌, sym, subst}
 use Rattle.dj_class.specs.Views.{class_of}
 use Rattle.dj_report.specs.Lines.{Gains}
-use Rattle.dj_check.specs.declared.judged.JudgedText.{JudgedText}
-use Rattle.dj_check.specs.Judged.{AreTexts}
-use Rattle.dj_check.specs.Marks.{AreMarksOf}
-use Rattle.dj_check.specs.trusted.Methods.{MethodViolates}
-use Rattle.dj_judge.specs.Late.{HasLent}
-use Rattle.dj_judge.specs.Reported.{AreJudgedMethods}
-use Rattle.dj_judge.proofs.ClassLaws.{not_faulty, own_lines_by}
-use Rattle.dj_judge.proofs.class.judge_class.Goals as goal
+use Rattle.dj_early_rules.specs.declared.judged.JudgedText.{JudgedText}
+use Rattle.dj_early_rules.specs.Judged.{AreTexts}
+use Rattle.dj_early_rules.specs.Marks.{AreMarksOf}
+use Rattle.dj_early_rules.specs.trusted.Methods.{MethodViolates}
+use Rattle.dj_rules.specs.Late.{HasLent}
+use Rattle.dj_rules.specs.Reported.{AreJudgedMethods}
+use Rattle.dj_rules.proofs.ClassLaws.{not_faulty, own_lines_by}
+use Rattle.dj_rules.proofs.class.judge_class.Goals as goal
 
 pub add_lines-requires-clause-marks : goal.add_lines-requires-clause-marks
 add_lines-requires-clause-marks c =

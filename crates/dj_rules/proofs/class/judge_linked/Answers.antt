@@ -1,9 +1,9 @@
 use Rattle.std.proofs.Common.{◌∙◌, Some}
 use Rattle.dj_edge.proofs.Lists.{ok_so}
 use Rattle.dj_class.specs.Views.{class_of}
-use Rattle.dj_judge.specs.Late.{HasLent}
-use Rattle.dj_judge.proofs.ClassLaws.{methods_by}
-use Rattle.dj_judge.proofs.class.judge_linked.Goals as goal
+use Rattle.dj_rules.specs.Late.{HasLent}
+use Rattle.dj_rules.proofs.ClassLaws.{methods_by}
+use Rattle.dj_rules.proofs.class.judge_linked.Goals as goal
 
 pub returns : goal.returns
 returns c =

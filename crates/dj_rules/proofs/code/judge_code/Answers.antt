@@ -2,8 +2,8 @@ use Rattle.std.proofs.Common.{inl, sym, ◌∙◌}
 use Rattle.dj_class.specs.Members.{member_of}
 use Rattle.dj_class.specs.Views.{class_of}
 use Rattle.dj_report.proofs.Adding.{not_both}
-use Rattle.dj_judge.proofs.MethodLaws.{reported_nothing, reported_some, reported_shaped, unreported_where_none, plain_desc, from_none}
-use Rattle.dj_judge.proofs.code.judge_code.Goals as goal
+use Rattle.dj_rules.proofs.MethodLaws.{reported_nothing, reported_some, reported_shaped, unreported_where_none, plain_desc, from_none}
+use Rattle.dj_rules.proofs.code.judge_code.Goals as goal
 
 pub returns-in_default-clause-marks : goal.returns-in_default-clause-marks
 returns-in_default-clause-marks c =

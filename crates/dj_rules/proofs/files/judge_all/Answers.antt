@@ -1,8 +1,8 @@
 use Rattle.std.proofs.Common.{arith}
 use Rattle.dj_report.proofs.Adding.{adds_none_yet, adds_one_more}
-use Rattle.dj_judge.proofs.FileLaws.{IsOwnFileLine, IsOwnLateLine, all_lone_lines, all_late_lines}
-use Rattle.dj_judge.proofs.KeptLaws.{none_kept, one_more_kept, all_kept}
-use Rattle.dj_judge.proofs.files.judge_all.Goals as goal
+use Rattle.dj_rules.proofs.FileLaws.{IsOwnFileLine, IsOwnLateLine, all_lone_lines, all_late_lines}
+use Rattle.dj_rules.proofs.KeptLaws.{none_kept, one_more_kept, all_kept}
+use Rattle.dj_rules.proofs.files.judge_all.Goals as goal
 
 pub loop-file-init : goal.loop-file-init
 loop-file-init c = record {

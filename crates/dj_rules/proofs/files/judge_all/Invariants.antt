@@ -1,10 +1,10 @@
 use Rattle.std.proofs.Common.{◌≤◌, length, take}
 use Rattle.dj_model.specs.trusted.Program.{Program}
 use Rattle.dj_report.specs.Lines.{Adds, IsLineAmong}
-use Rattle.dj_judge.specs.Late.{HasLent}
-use Rattle.dj_judge.proofs.FileLaws.{IsOwnFileLine, IsOwnLateLine}
-use Rattle.dj_judge.proofs.KeptLaws.{AreFirstKept}
-use Rattle.dj_judge.proofs.files.judge_all.Given as goal
+use Rattle.dj_rules.specs.Late.{HasLent}
+use Rattle.dj_rules.proofs.FileLaws.{IsOwnFileLine, IsOwnLateLine}
+use Rattle.dj_rules.proofs.KeptLaws.{AreFirstKept}
+use Rattle.dj_rules.proofs.files.judge_all.Given as goal
 
 -- the lines of the files so far, and what is kept of them
 abbrev pub invariant-loop-file : goal.invariant-loop-file

@@ -1,11 +1,11 @@
 use Rattle.std.proofs.Common.{◌≡◌, Option, Bor, [], map, refl, sym, subst}
 use Rattle.dj_edge.proofs.Lists.{ok_so}
 use Rattle.dj_report.specs.Lines.{Adds}
-use Rattle.dj_rules.specs.Views.{path_file_view}
-use Rattle.dj_linking.specs.Linked.{Linked}
-use Rattle.dj_judge.specs.Judged.{HasLinker}
-use Rattle.dj_judge.specs.trusted.Lines.{IsLinkedLine}
-use Rattle.dj_judge.proofs.files.judge_files.Goals as goal
+use Rattle.dj_file_rules.specs.Views.{path_file_view}
+use Rattle.dj_resolution.specs.Linked.{Linked}
+use Rattle.dj_rules.specs.Judged.{HasLinker}
+use Rattle.dj_rules.specs.trusted.Lines.{IsLinkedLine}
+use Rattle.dj_rules.proofs.files.judge_files.Goals as goal
 
 pub judge_linked-requires-clause-plain : goal.judge_linked-requires-clause-plain
 judge_linked-requires-clause-plain c = c.requires.plain c.in-Some.linker.now (subst (λ (linker : Option (Bor Linked)). HasLinker linker c.in-Some.linker.now) (sym c.in-Some.is) refl)

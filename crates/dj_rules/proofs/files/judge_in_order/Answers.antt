@@ -1,6 +1,6 @@
-use Rattle.dj_judge.specs.Late.{HasLent}
-use Rattle.dj_judge.proofs.FileLaws.{reported_file}
-use Rattle.dj_judge.proofs.files.judge_in_order.Goals as goal
+use Rattle.dj_rules.specs.Late.{HasLent}
+use Rattle.dj_rules.proofs.FileLaws.{reported_file}
+use Rattle.dj_rules.proofs.files.judge_in_order.Goals as goal
 
 pub returns : goal.returns
 returns c =

@@ -1,16 +1,16 @@
 use Rattle.std.proofs.Common.{List, map, subst}
 use Rattle.dj_report.specs.declared.report.Violation.{Violation}
 use Rattle.dj_report.specs.Lines.{Adds, IsLineAmong}
-use Rattle.dj_rules.specs.Views.{path_file_view}
-use Rattle.dj_hierarchy.specs.declared.head.ClassHead.{ClassHead}
-use Rattle.dj_hierarchy.specs.Views.{head_view}
-use Rattle.dj_check.specs.declared.doubles.NamedFile.{NamedFile}
-use Rattle.dj_check.specs.declared.hierarchy.Owner.{Owner}
-use Rattle.dj_check.specs.Doubles.{IsRepeatedLine}
-use Rattle.dj_check.specs.Kept.{IsOwnersLine}
-use Rattle.dj_judge.specs.trusted.Lines.{IsLinkedLine}
-use Rattle.dj_judge.proofs.FileLaws.{all_early_lines}
-use Rattle.dj_judge.proofs.files.judge_lent.Goals as goal
+use Rattle.dj_file_rules.specs.Views.{path_file_view}
+use Rattle.dj_hierarchy_rule.specs.declared.head.ClassHead.{ClassHead}
+use Rattle.dj_hierarchy_rule.specs.Views.{head_view}
+use Rattle.dj_early_rules.specs.declared.doubles.NamedFile.{NamedFile}
+use Rattle.dj_early_rules.specs.declared.hierarchy.Owner.{Owner}
+use Rattle.dj_early_rules.specs.Doubles.{IsRepeatedLine}
+use Rattle.dj_early_rules.specs.Kept.{IsOwnersLine}
+use Rattle.dj_rules.specs.trusted.Lines.{IsLinkedLine}
+use Rattle.dj_rules.proofs.FileLaws.{all_early_lines}
+use Rattle.dj_rules.proofs.files.judge_lent.Goals as goal
 
 pub returns-clause-early : goal.returns-clause-early
 returns-clause-early c =

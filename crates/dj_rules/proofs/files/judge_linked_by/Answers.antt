@@ -1,8 +1,8 @@
 use Rattle.std.proofs.Common.{List, Bool, refl, sym, subst}
 use Rattle.dj_edge.proofs.Lists.{ok_so}
 use Rattle.dj_model.specs.trusted.Program.{Program}
-use Rattle.dj_link.specs.Known.{AreUnmakeable}
-use Rattle.dj_judge.proofs.files.judge_linked_by.Goals as goal
+use Rattle.dj_link_rules.specs.Known.{AreUnmakeable}
+use Rattle.dj_rules.proofs.files.judge_linked_by.Goals as goal
 
 pub judge_lent-requires-clause-lent : goal.judge_lent-requires-clause-lent
 judge_lent-requires-clause-lent c = record {

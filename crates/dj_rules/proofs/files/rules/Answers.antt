@@ -1,8 +1,8 @@
 use Rattle.std.proofs.Common.{map}
 use Rattle.dj_report.proofs.Adding.{exactly_found}
-use Rattle.dj_rules.specs.Views.{path_file_view}
-use Rattle.dj_check.specs.trusted.Rules.{IsEarlyLine}
-use Rattle.dj_judge.proofs.files.rules.Goals as goal
+use Rattle.dj_file_rules.specs.Views.{path_file_view}
+use Rattle.dj_early_rules.specs.trusted.Rules.{IsEarlyLine}
+use Rattle.dj_rules.proofs.files.rules.Goals as goal
 
 pub returns : goal.returns
 returns c =

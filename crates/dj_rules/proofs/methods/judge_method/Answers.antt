@@ -1,11 +1,11 @@
 use Rattle.std.proofs.Common.{subst}
 use Rattle.dj_class.specs.Members.{member_of}
 use Rattle.dj_class.specs.Views.{class_of}
-use Rattle.dj_check.specs.declared.code.MethodBody.{MethodBody}
-use Rattle.dj_check.specs.Passes.{IsMethodView}
-use Rattle.dj_judge.specs.Late.{HasKnown}
-use Rattle.dj_judge.proofs.MethodLaws.{whole_method}
-use Rattle.dj_judge.proofs.methods.judge_method.Goals as goal
+use Rattle.dj_early_rules.specs.declared.code.MethodBody.{MethodBody}
+use Rattle.dj_early_rules.specs.Passes.{IsMethodView}
+use Rattle.dj_rules.specs.Late.{HasKnown}
+use Rattle.dj_rules.proofs.MethodLaws.{whole_method}
+use Rattle.dj_rules.proofs.methods.judge_method.Goals as goal
 
 pub returns-in_ok-add_marks-in-Whole-clause-marks : goal.returns-in_ok-add_marks-in-Whole-clause-marks
 returns-in_ok-add_marks-in-Whole-clause-marks c =

@@ -1,11 +1,11 @@
 use Rattle.std.proofs.Common.{subst}
 use Rattle.dj_class.specs.Members.{member_of}
 use Rattle.dj_class.specs.Views.{class_of}
-use Rattle.dj_check.proofs.MarkLaws.{method_valid}
-use Rattle.dj_judge.specs.Late.{HasKnown}
-use Rattle.dj_judge.specs.Reported.{IsJudgedMethod}
-use Rattle.dj_judge.proofs.ClassLaws.{none_reported, one_more_reported, one_faulty, all_reported}
-use Rattle.dj_judge.proofs.methods.judge_methods.Goals as goal
+use Rattle.dj_early_rules.proofs.MarkLaws.{method_valid}
+use Rattle.dj_rules.specs.Late.{HasKnown}
+use Rattle.dj_rules.specs.Reported.{IsJudgedMethod}
+use Rattle.dj_rules.proofs.ClassLaws.{none_reported, one_more_reported, one_faulty, all_reported}
+use Rattle.dj_rules.proofs.methods.judge_methods.Goals as goal
 
 pub loop-method-init : goal.loop-method-init
 loop-method-init c = record {

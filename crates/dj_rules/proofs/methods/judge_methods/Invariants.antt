@@ -1,9 +1,9 @@
 use Rattle.std.proofs.Common.{IfSome}
 use Rattle.dj_class.specs.Views.{class_of}
-use Rattle.dj_shape.specs.Pools.{ArePoolKinds}
-use Rattle.dj_judge.specs.Late.{HasKnown}
-use Rattle.dj_judge.proofs.ClassLaws.{AreFirstReported}
-use Rattle.dj_judge.proofs.methods.judge_methods.Given as goal
+use Rattle.dj_shape_rule.specs.Pools.{ArePoolKinds}
+use Rattle.dj_rules.specs.Late.{HasKnown}
+use Rattle.dj_rules.proofs.ClassLaws.{AreFirstReported}
+use Rattle.dj_rules.proofs.methods.judge_methods.Given as goal
 
 -- the methods so far
 abbrev pub invariant-loop-method : goal.invariant-loop-method

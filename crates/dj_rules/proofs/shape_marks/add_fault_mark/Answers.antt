@@ -1,11 +1,11 @@
 use Rattle.std.proofs.Common.{Option, sym, subst}
 use Rattle.dj_report.specs.Lines.{Gains}
 use Rattle.dj_report.proofs.Adding.{on_ok}
-use Rattle.dj_check.specs.Marks.{MarksOf}
-use Rattle.dj_shape.specs.declared.judge.ShapeFault.{ShapeFault}
-use Rattle.dj_judge.specs.Late.{FaultViolates}
-use Rattle.dj_judge.proofs.ShapeLaws.{fault_mark}
-use Rattle.dj_judge.proofs.shape_marks.add_fault_mark.Goals as goal
+use Rattle.dj_early_rules.specs.Marks.{MarksOf}
+use Rattle.dj_shape_rule.specs.declared.judge.ShapeFault.{ShapeFault}
+use Rattle.dj_rules.specs.Late.{FaultViolates}
+use Rattle.dj_rules.proofs.ShapeLaws.{fault_mark}
+use Rattle.dj_rules.proofs.shape_marks.add_fault_mark.Goals as goal
 
 pub returns : goal.returns
 returns c =

@@ -1,7 +1,7 @@
 use Rattle.dj_class.specs.Members.{member_of}
 use Rattle.dj_report.proofs.Adding.{on_ok}
-use Rattle.dj_judge.proofs.ShapeLaws.{shape_marks}
-use Rattle.dj_judge.proofs.shape_marks.add_shape_mark.Goals as goal
+use Rattle.dj_rules.proofs.ShapeLaws.{shape_marks}
+use Rattle.dj_rules.proofs.shape_marks.add_shape_mark.Goals as goal
 
 pub returns-clause-marks : goal.returns-clause-marks
 returns-clause-marks c =

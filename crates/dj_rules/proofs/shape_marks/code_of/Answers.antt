@@ -1,7 +1,7 @@
 use Rattle.dj_class.specs.Members.{member_of}
 use Rattle.dj_program.specs.Views.{parts_of}
-use Rattle.dj_judge.proofs.ShapeLaws.{few_read}
-use Rattle.dj_judge.proofs.shape_marks.code_of.Goals as goal
+use Rattle.dj_rules.proofs.ShapeLaws.{few_read}
+use Rattle.dj_rules.proofs.shape_marks.code_of.Goals as goal
 
 pub returns-clause-few : goal.returns-clause-few
 returns-clause-few c =

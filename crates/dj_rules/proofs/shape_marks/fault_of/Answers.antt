@@ -2,9 +2,9 @@ use Rattle.std.proofs.Common.{◌≡◌, Bool, Some, sym, subst}
 use Rattle.dj_class.specs.Members.{member_of}
 use Rattle.dj_model.specs.trusted.Program.{is_static}
 use Rattle.dj_program.specs.Views.{parts_of}
-use Rattle.dj_shape.specs.trusted.Rule.{signature_at}
-use Rattle.dj_judge.proofs.ShapeLaws.{described, signed, fault_is}
-use Rattle.dj_judge.proofs.shape_marks.fault_of.Goals as goal
+use Rattle.dj_shape_rule.specs.trusted.Rule.{signature_at}
+use Rattle.dj_rules.proofs.ShapeLaws.{described, signed, fault_is}
+use Rattle.dj_rules.proofs.shape_marks.fault_of.Goals as goal
 
 pub returns : goal.returns
 returns c =

@@ -2,12 +2,12 @@ use Rattle.std.proofs.Common.{◌≡◌, Option, ap, subst}
 use Rattle.dj_class.specs.Views.{class_of}
 use Rattle.dj_report.specs.trusted.Lines.{file_line}
 use Rattle.dj_report.specs.Lines.{Adds}
-use Rattle.dj_check.specs.declared.good.GoodFile.{GoodFile}
-use Rattle.dj_judge.specs.declared.files.JudgedFiles.{JudgedFiles}
-use Rattle.dj_judge.specs.Late.{HasLent}
-use Rattle.dj_judge.specs.Reported.{IsJudgedClass}
-use Rattle.dj_judge.proofs.FileLaws.{faulty_class}
-use Rattle.dj_judge.proofs.views.judge_class_file.Goals as goal
+use Rattle.dj_early_rules.specs.declared.good.GoodFile.{GoodFile}
+use Rattle.dj_rules.specs.declared.files.JudgedFiles.{JudgedFiles}
+use Rattle.dj_rules.specs.Late.{HasLent}
+use Rattle.dj_rules.specs.Reported.{IsJudgedClass}
+use Rattle.dj_rules.proofs.FileLaws.{faulty_class}
+use Rattle.dj_rules.proofs.views.judge_class_file.Goals as goal
 
 pub returns-in_ok-add_file_line-in-None : goal.returns-in_ok-add_file_line-in-None
 returns-in_ok-add_file_line-in-None c =

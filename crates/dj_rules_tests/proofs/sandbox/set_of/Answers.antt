@@ -1,8 +1,8 @@
 use Rattle.std.proofs.Common.{◌∷◌, ◌++◌, [], ℕ, List, length, ap, ◌∙◌, arith}
 use Rattle.std.specs.Global.{Vec}
 use Rattle.dj_edge.specs.InMemory.{String}
-use Rattle.dj_run_tests.proofs.Alone.{alone_few, alone_within, alone_differs}
-use Rattle.dj_run_tests.proofs.sandbox.set_of.Goals as goal
+use Rattle.dj_rules_tests.proofs.Alone.{alone_few, alone_within, alone_differs}
+use Rattle.dj_rules_tests.proofs.sandbox.set_of.Goals as goal
 
 pub new-requires-clause-few : goal.new-requires-clause-few
 new-requires-clause-few c =

@@ -1,8 +1,8 @@
 use Rattle.std.proofs.Common.{sym, subst, ◌∙◌}
 use Rattle.dj_image.specs.Imaged.{typed_of}
-use Rattle.dj_sandbox.proofs.RawLaws.{entry_described}
-use Rattle.dj_running.proofs.EntryLaws.{number_of_type, has_class, entry_reported, IsEntryOrNone}
-use Rattle.dj_running.proofs.entry.entry_in.Goals as goal
+use Rattle.dj_class_set.proofs.RawLaws.{entry_described}
+use Rattle.dj_sandbox.proofs.EntryLaws.{number_of_type, has_class, entry_reported, IsEntryOrNone}
+use Rattle.dj_sandbox.proofs.entry.entry_in.Goals as goal
 
 pub unreachable-requires : goal.unreachable-requires
 unreachable-requires c = has_class c.args.image.now c.args.entry.now c.requires (sym c.class_named.ensures ∙ c.in_default.is)

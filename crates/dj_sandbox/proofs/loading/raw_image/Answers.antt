@@ -1,13 +1,13 @@
 use Rattle.std.proofs.Common.{◌≡◌, map, subst, sym, ◌∙◌, arith}
 use Rattle.dj_names.specs.trusted.Library.{Library, raw_library}
-use Rattle.dj_natives.specs.Views.{library_view}
+use Rattle.dj_library_types.specs.Views.{library_view}
 use Rattle.dj_class.specs.Views.{class_of}
 use Rattle.dj_program.specs.trusted.Programs.{IsProgramIn}
 use Rattle.dj_image.specs.Imaged.{program_of}
 use Rattle.dj_loader.specs.declared.error.LoadError.TheVariants as errors
-use Rattle.dj_sandbox.proofs.LateLaws.{ok_mapped}
-use Rattle.dj_running.proofs.LoadingLaws.{string_there, rows_described, few_rows, few_members, refused_memory}
-use Rattle.dj_running.proofs.loading.raw_image.Goals as goal
+use Rattle.dj_class_set.proofs.LateLaws.{ok_mapped}
+use Rattle.dj_sandbox.proofs.LoadingLaws.{string_there, rows_described, few_rows, few_members, refused_memory}
+use Rattle.dj_sandbox.proofs.loading.raw_image.Goals as goal
 
 pub load-requires-clause-described : goal.load-requires-clause-described
 load-requires-clause-described c =

@@ -1,10 +1,10 @@
 use Rattle.std.proofs.Common.{◌+◌, List, map, take, sym, subst}
 use Rattle.dj_class.specs.declared.class.ClassView.{ClassView}
 use Rattle.dj_class.specs.Views.{class_of}
-use Rattle.dj_rules.specs.Views.{path_file_view}
-use Rattle.dj_sandbox.specs.Late.{AreReadFiles}
-use Rattle.dj_running.proofs.LoadingLaws.{one_more_read, all_read}
-use Rattle.dj_running.proofs.loading.views_of.Goals as goal
+use Rattle.dj_file_rules.specs.Views.{path_file_view}
+use Rattle.dj_class_set.specs.Late.{AreReadFiles}
+use Rattle.dj_sandbox.proofs.LoadingLaws.{one_more_read, all_read}
+use Rattle.dj_sandbox.proofs.loading.views_of.Goals as goal
 
 pub loop-file-preserved : goal.loop-file-preserved
 loop-file-preserved c =

@@ -4,9 +4,9 @@ use Rattle.dj_model.specs.Standing.{IsEntry}
 use Rattle.dj_image.specs.Imaged.{program_of}
 use Rattle.dj_host.specs.trusted.Hosted.{given_since}
 use Rattle.dj_machine.specs.Engines.{RunsPlainly}
-use Rattle.dj_sandbox.specs.trusted.Limits.{most_heap_bytes}
-use Rattle.dj_running.specs.Runs.{no_limits}
-use Rattle.dj_running.proofs.raw_run.run_image.Goals as goal
+use Rattle.dj_class_set.specs.trusted.Limits.{most_heap_bytes}
+use Rattle.dj_sandbox.specs.Runs.{no_limits}
+use Rattle.dj_sandbox.proofs.raw_run.run_image.Goals as goal
 
 pub plain-requires-clause-method : goal.plain-requires-clause-method
 plain-requires-clause-method g c = c.entry_in.ensures.there

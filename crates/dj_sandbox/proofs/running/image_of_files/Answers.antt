@@ -1,11 +1,11 @@
 use Rattle.std.proofs.Common.{◌≤◌, List, map, length, sym, subst}
 use Rattle.dj_class.specs.declared.class.ClassView.{ClassView}
 use Rattle.dj_class.specs.Views.{class_of}
-use Rattle.dj_rules.specs.Views.{path_file_view}
-use Rattle.dj_sandbox.specs.trusted.Checked.{AreGoodFiles}
-use Rattle.dj_running.proofs.LoadingLaws.{good_of, whole_files, valid_views, whole_views, few_views, loadable_views}
-use Rattle.dj_running.proofs.RunLaws.{image_is}
-use Rattle.dj_running.proofs.running.image_of_files.Goals as goal
+use Rattle.dj_file_rules.specs.Views.{path_file_view}
+use Rattle.dj_class_set.specs.trusted.Checked.{AreGoodFiles}
+use Rattle.dj_sandbox.proofs.LoadingLaws.{good_of, whole_files, valid_views, whole_views, few_views, loadable_views}
+use Rattle.dj_sandbox.proofs.RunLaws.{image_is}
+use Rattle.dj_sandbox.proofs.running.image_of_files.Goals as goal
 
 pub views_of-requires-clause-whole : goal.views_of-requires-clause-whole
 views_of-requires-clause-whole c = whole_files c.args.files.now c.requires.silent

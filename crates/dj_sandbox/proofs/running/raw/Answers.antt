@@ -2,16 +2,16 @@ use Rattle.std.proofs.Common.{◌≡◌, List, [], map, Ok, refl, subst}
 use Rattle.std.proofs.lemmas.Result.{err_from_is_err_and}
 use Rattle.dj_edge.specs.trusted.Held.{File}
 use Rattle.dj_report.specs.trusted.Stages.{IsDecided}
-use Rattle.dj_rules.specs.Views.{path_file_view}
+use Rattle.dj_file_rules.specs.Views.{path_file_view}
 use Rattle.dj_host.specs.trusted.Hosted.{given_since}
-use Rattle.dj_running.proofs.GivenNothing.{gave_nothing}
-use Rattle.dj_sandbox.specs.declared.error.SandboxError.{SandboxError}
-use Rattle.dj_sandbox.specs.trusted.Judging.{raw_stages}
-use Rattle.dj_sandbox.specs.trusted.RawRules.{AreRawViolations}
-use Rattle.dj_sandbox.proofs.Lending.{lent_view, lent_few, lent_short}
-use Rattle.dj_running.specs.Runs.{AddsRawRuns}
-use Rattle.dj_running.proofs.RunLaws.{adds_nothing, errs_alike}
-use Rattle.dj_running.proofs.running.raw.Goals as goal
+use Rattle.dj_sandbox.proofs.GivenNothing.{gave_nothing}
+use Rattle.dj_class_set.specs.declared.error.SandboxError.{SandboxError}
+use Rattle.dj_class_set.specs.trusted.Judging.{raw_stages}
+use Rattle.dj_class_set.specs.trusted.RawRules.{AreRawViolations}
+use Rattle.dj_class_set.proofs.Lending.{lent_view, lent_few, lent_short}
+use Rattle.dj_sandbox.specs.Runs.{AddsRawRuns}
+use Rattle.dj_sandbox.proofs.RunLaws.{adds_nothing, errs_alike}
+use Rattle.dj_sandbox.proofs.running.raw.Goals as goal
 
 pub returns-in_err-files-clause-runs : goal.returns-in_err-files-clause-runs
 returns-in_err-files-clause-runs g c =

@@ -2,13 +2,13 @@ use Rattle.std.proofs.Common.{◌≡◌, ◌≢◌, ◌∙◌, [], Some, map, re
 use Rattle.std.proofs.lemmas.Result.{err_from_is_err_and}
 use Rattle.dj_edge.proofs.Lists.{nil_of_empty, ok_so}
 use Rattle.dj_report.specs.trusted.Stages.{IsDecided}
-use Rattle.dj_rules.specs.Views.{path_file_view}
+use Rattle.dj_file_rules.specs.Views.{path_file_view}
 use Rattle.dj_host.specs.trusted.Hosted.{given_since}
-use Rattle.dj_running.proofs.GivenNothing.{gave_nothing}
-use Rattle.dj_sandbox.specs.trusted.Judging.{RunsRaw, raw_stages}
-use Rattle.dj_sandbox.specs.trusted.RawRules.{AreRawViolations}
-use Rattle.dj_running.proofs.RunLaws.{some_of_full, not_silent, adds_none, adds_nothing}
-use Rattle.dj_running.proofs.running.raw_files.Goals as goal
+use Rattle.dj_sandbox.proofs.GivenNothing.{gave_nothing}
+use Rattle.dj_class_set.specs.trusted.Judging.{RunsRaw, raw_stages}
+use Rattle.dj_class_set.specs.trusted.RawRules.{AreRawViolations}
+use Rattle.dj_sandbox.proofs.RunLaws.{some_of_full, not_silent, adds_none, adds_nothing}
+use Rattle.dj_sandbox.proofs.running.raw_files.Goals as goal
 
 pub returns-in_err-violations-clause-runs : goal.returns-in_err-violations-clause-runs
 returns-in_err-violations-clause-runs g c =

@@ -1,11 +1,11 @@
 use Rattle.std.proofs.Common.{map, sym, subst}
 use Rattle.std.proofs.lemmas.Result.{err_from_is_err_and}
-use Rattle.dj_rules.specs.Views.{path_file_view}
+use Rattle.dj_file_rules.specs.Views.{path_file_view}
 use Rattle.dj_host.specs.trusted.Hosted.{given_since}
-use Rattle.dj_running.specs.Runs.{AddsRawRuns}
-use Rattle.dj_running.proofs.GivenNothing.{gave_nothing}
-use Rattle.dj_running.proofs.RunLaws.{image_sound, image_entry, runs_unstopped, runs_raw, adds_reported, adds_nothing}
-use Rattle.dj_running.proofs.running.run_files.Goals as goal
+use Rattle.dj_sandbox.specs.Runs.{AddsRawRuns}
+use Rattle.dj_sandbox.proofs.GivenNothing.{gave_nothing}
+use Rattle.dj_sandbox.proofs.RunLaws.{image_sound, image_entry, runs_unstopped, runs_raw, adds_reported, adds_nothing}
+use Rattle.dj_sandbox.proofs.running.run_files.Goals as goal
 
 pub image_of_files-requires-clause-silent : goal.image_of_files-requires-clause-silent
 image_of_files-requires-clause-silent g c = (c.args.entry.now, c.requires.silent)

@@ -2,8 +2,8 @@ use Rattle.std.proofs.Common.{◌≡◌, Some, subst, sym}
 use Rattle.std.specs.Prelude.{Ok, IfOk}
 use Rattle.dj_names.specs.declared.run.Outcome.TheVariants as outcomes
 use Rattle.dj_model.specs.trusted.State.{Goes, Next, End}
-use Rattle.dj_calls.specs.Calls.{flow_reported, given}
-use Rattle.dj_calls.specs.declared.answer.NativeAnswer.{NativeAnswer}
+use Rattle.dj_natives.specs.Calls.{flow_reported, given}
+use Rattle.dj_natives.specs.declared.answer.NativeAnswer.{NativeAnswer}
 use Rattle.dj_image.specs.Imaged.{program_of}
 use Rattle.dj_settling.specs.declared.settled.Settled.TheVariants as settles
 use Rattle.dj_settling.specs.Settling.{Settles, native_settled}

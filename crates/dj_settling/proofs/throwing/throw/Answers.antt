@@ -1,5 +1,5 @@
 use Rattle.std.proofs.Common.{subst}
-use Rattle.dj_types.specs.Typed.{type_at}
+use Rattle.dj_numbering.specs.Typed.{type_at}
 use Rattle.dj_image.specs.Imaged.{typed_of}
 use Rattle.dj_unwinding.specs.Unwinding.{IsUnwound}
 use Rattle.dj_settling.proofs.ThrowLaws.{plain_class, threw_last, threw_out}

@@ -2,8 +2,8 @@ use Rattle.std.proofs.Common.{ℕ, List, ◌++◌, codes, ap, ◌∙◌}
 use Rattle.std.specs.Char.Utf16.{utf16_lossy_chars}
 use Rattle.std.specs.Str.{encode_utf8_all}
 use Rattle.std.proofs.lemmas.Result.{IfOk-weaker}
-use Rattle.dj_rules.proofs.Naming.{broken_spells_none}
-use Rattle.dj_image_rules.proofs.paths.class_path.Goals as goal
+use Rattle.dj_file_rules.proofs.Naming.{broken_spells_none}
+use Rattle.dj_shape.proofs.paths.class_path.Goals as goal
 
 pub unreachable-requires : goal.unreachable-requires
 unreachable-requires c =

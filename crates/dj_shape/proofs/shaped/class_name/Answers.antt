@@ -1,5 +1,5 @@
-use Rattle.dj_image_rules.proofs.ShapeLaws.{type_within, named_there}
-use Rattle.dj_image_rules.proofs.shaped.class_name.Goals as goal
+use Rattle.dj_shape.proofs.ShapeLaws.{type_within, named_there}
+use Rattle.dj_shape.proofs.shaped.class_name.Goals as goal
 
 pub name_of-requires : goal.name_of-requires
 name_of-requires c = type_within c.args.image.now c.args.class c.requires

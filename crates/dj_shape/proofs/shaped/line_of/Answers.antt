@@ -1,5 +1,5 @@
 use Rattle.std.proofs.lemmas.Result.{IfOk-weaker}
-use Rattle.dj_image_rules.proofs.shaped.line_of.Goals as goal
+use Rattle.dj_shape.proofs.shaped.line_of.Goals as goal
 
 pub returns : goal.returns
 returns c =

@@ -1,7 +1,7 @@
 use Rattle.std.proofs.Common.{Option, subst}
-use Rattle.dj_shape.specs.declared.judge.ShapeFault.{ShapeFault}
-use Rattle.dj_image_rules.proofs.ShapeLaws.{IsAnswer, class_there, spelled_class, shaped, line}
-use Rattle.dj_image_rules.proofs.shaped.shape_of.Goals as goal
+use Rattle.dj_shape_rule.specs.declared.judge.ShapeFault.{ShapeFault}
+use Rattle.dj_shape.proofs.ShapeLaws.{IsAnswer, class_there, spelled_class, shaped, line}
+use Rattle.dj_shape.proofs.shaped.shape_of.Goals as goal
 
 pub returns-in-None : goal.returns-in-None
 returns-in-None c =

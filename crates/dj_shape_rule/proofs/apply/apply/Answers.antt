@@ -1,6 +1,6 @@
-use Rattle.dj_shape.specs.Works.{work_view}
-use Rattle.dj_shape.proofs.Works.{done, ok_more}
-use Rattle.dj_shape.proofs.apply.apply.Goals as goal
+use Rattle.dj_shape_rule.specs.Works.{work_view}
+use Rattle.dj_shape_rule.proofs.Works.{done, ok_more}
+use Rattle.dj_shape_rule.proofs.apply.apply.Goals as goal
 
 pub returns-clause-after : goal.returns-clause-after
 returns-clause-after c =

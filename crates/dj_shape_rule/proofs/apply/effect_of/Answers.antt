@@ -1,8 +1,8 @@
 use Rattle.std.proofs.Common.{ap, sym, ◌∙◌}
 use Rattle.dj_program.specs.trusted.Naming.{instruction_in}
-use Rattle.dj_shape.specs.Works.{work_of}
-use Rattle.dj_shape.proofs.Reported.{member_done}
-use Rattle.dj_shape.proofs.apply.effect_of.Goals as goal
+use Rattle.dj_shape_rule.specs.Works.{work_of}
+use Rattle.dj_shape_rule.proofs.Reported.{member_done}
+use Rattle.dj_shape_rule.proofs.apply.effect_of.Goals as goal
 
 pub returns-in-Member : goal.returns-in-Member
 returns-in-Member c = λ pool are.

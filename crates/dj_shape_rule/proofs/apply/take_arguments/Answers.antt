@@ -1,5 +1,5 @@
-use Rattle.dj_shape.proofs.Works.{receiver_taken}
-use Rattle.dj_shape.proofs.apply.take_arguments.Goals as goal
+use Rattle.dj_shape_rule.proofs.Works.{receiver_taken}
+use Rattle.dj_shape_rule.proofs.apply.take_arguments.Goals as goal
 
 pub returns-else-is_static-clause-taken : goal.returns-else-is_static-clause-taken
 returns-else-is_static-clause-taken c =

@@ -1,7 +1,7 @@
 use Rattle.std.proofs.Common.{◌≡◌, ◌+◌, length, sym, subst, arith}
-use Rattle.dj_shape.specs.Arena.{AreLinked}
-use Rattle.dj_shape.proofs.Links.{few_slots, linked_more, one_more}
-use Rattle.dj_shape.proofs.arena.add_slot.Goals as goal
+use Rattle.dj_shape_rule.specs.Arena.{AreLinked}
+use Rattle.dj_shape_rule.proofs.Links.{few_slots, linked_more, one_more}
+use Rattle.dj_shape_rule.proofs.arena.add_slot.Goals as goal
 
 pub overflow_add-result : goal.overflow_add-result
 overflow_add-result c =

@@ -1,6 +1,6 @@
 use Rattle.std.proofs.Common.{◌∙◌, ap, sym, refl, reverse}
-use Rattle.dj_shape.proofs.Slots.{flow_from_all, flow_to_all, reverse_injects}
-use Rattle.dj_shape.proofs.flows.flows.Goals as goal
+use Rattle.dj_shape_rule.proofs.Slots.{flow_from_all, flow_to_all, reverse_injects}
+use Rattle.dj_shape_rule.proofs.flows.flows.Goals as goal
 
 pub returns-then-not-locals_flow : goal.returns-then-not-locals_flow
 returns-then-not-locals_flow c =

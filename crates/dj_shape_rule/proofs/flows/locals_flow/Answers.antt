@@ -1,7 +1,7 @@
 use Rattle.std.proofs.Common.{◌≡◌, ◌∙◌, ◌∷◌, [], ℕ, Some, refl, ap, subst}
 use Rattle.dj_model.specs.trusted.Values.{local_at}
-use Rattle.dj_shape.proofs.Slots.{at_last, split_less, split_none, flow_none, flow_down, from_all_above}
-use Rattle.dj_shape.proofs.flows.locals_flow.Goals as goal
+use Rattle.dj_shape_rule.proofs.Slots.{at_last, split_less, split_none, flow_none, flow_down, from_all_above}
+use Rattle.dj_shape_rule.proofs.flows.locals_flow.Goals as goal
 
 pub loop-slot-init : goal.loop-slot-init
 loop-slot-init c = record {

@@ -1,7 +1,7 @@
 use Rattle.std.proofs.Common.{◌≡◌, ℕ, ◌≤◌, List, ◌++◌, Option, Some, length}
 use Rattle.dj_names.specs.declared.descriptor.Kind.{Kind}
 use Rattle.dj_model.specs.trusted.Values.{local_at}
-use Rattle.dj_shape.proofs.flows.locals_flow.Given as goal
+use Rattle.dj_shape_rule.proofs.flows.locals_flow.Given as goal
 
 -- those so far, from the last on, have the kinds that are known
 abbrev pub invariant-loop-slot : goal.invariant-loop-slot

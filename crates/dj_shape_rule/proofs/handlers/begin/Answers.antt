@@ -1,6 +1,6 @@
 use Rattle.std.proofs.Common.{◌∙◌, ℕ, ap, sym, inr}
-use Rattle.dj_shape.specs.Reported.{reported_at, reported_by}
-use Rattle.dj_shape.proofs.handlers.begin.Goals as goal
+use Rattle.dj_shape_rule.specs.Reported.{reported_at, reported_by}
+use Rattle.dj_shape_rule.proofs.handlers.begin.Goals as goal
 
 pub returns-then-not-locals_flow : goal.returns-then-not-locals_flow
 returns-then-not-locals_flow c = record {

@@ -1,8 +1,8 @@
 use Rattle.std.proofs.Common.{List, sym, subst, rules, Contains}
 use Rattle.std.proofs.lemmas.List.Sorted.{Contains-permutation, IsNonDecreasingBy-from_sort_by_key, IsPermutation-sym}
 use Rattle.dj_labels.specs.declared.labelled.Protected.{Protected}
-use Rattle.dj_shape.proofs.Handling.{rising_from}
-use Rattle.dj_shape.proofs.handlers.in_order.Goals as goal
+use Rattle.dj_shape_rule.proofs.Handling.{rising_from}
+use Rattle.dj_shape_rule.proofs.handlers.in_order.Goals as goal
 
 pub returns-clause-rising : goal.returns-clause-rising
 returns-clause-rising c =

@@ -1,6 +1,6 @@
 use Rattle.std.proofs.Common.{All, take}
-use Rattle.dj_shape.specs.Forms.{FlowsAt}
-use Rattle.dj_shape.proofs.instrs.all_flow.Given as goal
+use Rattle.dj_shape_rule.specs.Forms.{FlowsAt}
+use Rattle.dj_shape_rule.proofs.instrs.all_flow.Given as goal
 
 abbrev pub invariant-loop-target : goal.invariant-loop-target
 invariant-loop-target l = All (FlowsAt l.state.kinds l.frames) (take l.target-index l.targets)

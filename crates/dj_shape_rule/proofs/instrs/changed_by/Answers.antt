@@ -1,9 +1,9 @@
 use Rattle.std.proofs.Common.{sym, subst}
-use Rattle.dj_shape.specs.declared.needs.Changed.{Changed}
-use Rattle.dj_shape.specs.Forms.{StoresAt}
-use Rattle.dj_shape.specs.Passing.{ChangesOnly}
-use Rattle.dj_shape.proofs.Stores.{changes_only}
-use Rattle.dj_shape.proofs.instrs.changed_by.Goals as goal
+use Rattle.dj_shape_rule.specs.declared.needs.Changed.{Changed}
+use Rattle.dj_shape_rule.specs.Forms.{StoresAt}
+use Rattle.dj_shape_rule.specs.Passing.{ChangesOnly}
+use Rattle.dj_shape_rule.proofs.Stores.{changes_only}
+use Rattle.dj_shape_rule.proofs.instrs.changed_by.Goals as goal
 
 pub returns : goal.returns
 returns c calls i does =

@@ -1,8 +1,8 @@
 use Rattle.std.proofs.Common.{rules, ℤ, List, All, Decides, w64, SFits, sym, subst}
 use Rattle.std.proofs.lemmas.Int.{to_z-of_z}
 use Rattle.dj_ops.specs.declared.instruction.Instr.{Instr}
-use Rattle.dj_shape.specs.Forms.{FlowsAt, FormFlows}
-use Rattle.dj_shape.proofs.instrs.form_flows.Goals as goal
+use Rattle.dj_shape_rule.specs.Forms.{FlowsAt, FormFlows}
+use Rattle.dj_shape_rule.proofs.instrs.form_flows.Goals as goal
 
 pub returns-then-flows_at : goal.returns-then-flows_at
 returns-then-flows_at c =

@@ -2,8 +2,8 @@ use Rattle.std.proofs.Common.{rules, ℤ, List, All, get_or, pos, w64, SFits, sy
 use Rattle.std.proofs.lemmas.List.{take_all}
 use Rattle.std.proofs.lemmas.List.Elements.{All-more}
 use Rattle.std.proofs.lemmas.Int.{to_z-of_z}
-use Rattle.dj_shape.specs.Forms.{FlowsAt}
-use Rattle.dj_shape.proofs.instrs.pairs_flow.Goals as goal
+use Rattle.dj_shape_rule.specs.Forms.{FlowsAt}
+use Rattle.dj_shape_rule.proofs.instrs.pairs_flow.Goals as goal
 
 pub returns-then-not-flows_at : goal.returns-then-not-flows_at
 returns-then-not-flows_at c =

@@ -6,10 +6,10 @@ use Rattle.dj_program.specs.trusted.Codes.{code_in}
 use Rattle.dj_model.specs.trusted.Instructions.{makes_uninitialised}
 use Rattle.dj_program.specs.Views.{parts_of}
 use Rattle.dj_model.specs.trusted.Kinds.{entry_slots}
-use Rattle.dj_shape.specs.Reading.{signature_with}
-use Rattle.dj_shape.proofs.Works.{ok_more}
-use Rattle.dj_shape.proofs.Judging.{unfit, unfit_fault, fit_and_first, slots_same, in_code, err_fault, ok_fault}
-use Rattle.dj_shape.proofs.judge.fault_with_frames.Goals as goal
+use Rattle.dj_shape_rule.specs.Reading.{signature_with}
+use Rattle.dj_shape_rule.proofs.Works.{ok_more}
+use Rattle.dj_shape_rule.proofs.Judging.{unfit, unfit_fault, fit_and_first, slots_same, in_code, err_fault, ok_fault}
+use Rattle.dj_shape_rule.proofs.judge.fault_with_frames.Goals as goal
 
 pub returns-then-not-branch : goal.returns-then-not-branch
 returns-then-not-branch c = λ pool are has.

@@ -3,8 +3,8 @@ use Rattle.dj_ops.specs.declared.instruction.Instr.{Instr}
 use Rattle.dj_labels.specs.declared.labelled.Protected.{Protected}
 use Rattle.dj_program.specs.trusted.Naming.{instruction_in}
 use Rattle.dj_program.specs.trusted.Codes.{range_in}
-use Rattle.dj_shape.proofs.Works.{ok_more}
-use Rattle.dj_shape.proofs.judge.judge.Goals as goal
+use Rattle.dj_shape_rule.proofs.Works.{ok_more}
+use Rattle.dj_shape_rule.proofs.judge.judge.Goals as goal
 
 pub returns : goal.returns
 returns c = ok_more c.first_fault.result _ _ (λ fault first case j. first case (record {

@@ -1,12 +1,12 @@
 use Rattle.std.proofs.Common.{◌∙◌, Option, sym, subst}
 use Rattle.dj_model.specs.trusted.Kinds.{call_signature}
-use Rattle.dj_declared.specs.trusted.Files.{desc_in, name_in}
+use Rattle.dj_declarations.specs.trusted.Files.{desc_in, name_in}
 use Rattle.dj_program.specs.trusted.Codes.{code_in}
 use Rattle.dj_program.specs.Views.{parts_of}
-use Rattle.dj_shape.specs.declared.judge.ShapeFault.{ShapeFault}
-use Rattle.dj_shape.specs.Rule.{IsShapeAnswer}
-use Rattle.dj_shape.proofs.Judging.{answer_for, in_code, no_call, none_so}
-use Rattle.dj_shape.proofs.judge.shape.Goals as goal
+use Rattle.dj_shape_rule.specs.declared.judge.ShapeFault.{ShapeFault}
+use Rattle.dj_shape_rule.specs.Rule.{IsShapeAnswer}
+use Rattle.dj_shape_rule.proofs.Judging.{answer_for, in_code, no_call, none_so}
+use Rattle.dj_shape_rule.proofs.judge.shape.Goals as goal
 
 pub returns-in_default : goal.returns-in_default
 returns-in_default c = λ pool signature are is has. none_so (code_in pool (parts_of c.args.code.now)).frames ((in_code pool c.args.code.now).4 ∙ c.in_default.is)

@@ -1,6 +1,6 @@
 use Rattle.std.proofs.Common.{◌≡◌, ◌≤◌, ◌+◌, drop}
 use Rattle.dj_model.specs.trusted.Kinds.{depth}
-use Rattle.dj_shape.proofs.kinds.depth_within.Given as goal
+use Rattle.dj_shape_rule.proofs.kinds.depth_within.Given as goal
 
 abbrev pub invariant-loop-kind : goal.invariant-loop-kind
 invariant-loop-kind l = record {

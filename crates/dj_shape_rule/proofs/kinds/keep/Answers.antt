@@ -1,6 +1,6 @@
 use Rattle.std.proofs.Common.{arith}
-use Rattle.dj_shape.proofs.States.{filled}
-use Rattle.dj_shape.proofs.kinds.keep.Goals as goal
+use Rattle.dj_shape_rule.proofs.States.{filled}
+use Rattle.dj_shape_rule.proofs.kinds.keep.Goals as goal
 
 pub returns-in_ok-resize-clause-same : goal.returns-in_ok-resize-clause-same
 returns-in_ok-resize-clause-same c = λ most within less.

@@ -4,8 +4,8 @@ use Rattle.dj_names.specs.declared.descriptor.Kind.TheVariants as kinds
 use Rattle.dj_model.specs.trusted.Kinds.{kind_slots}
 use Rattle.dj_model.specs.trusted.Numbers.{is_wide}
 use Rattle.dj_model.specs.trusted.Values.{last_slot, stored}
-use Rattle.dj_shape.proofs.States.{seam, stored_kept}
-use Rattle.dj_shape.proofs.kinds.store_in.Goals as goal
+use Rattle.dj_shape_rule.proofs.States.{seam, stored_kept}
+use Rattle.dj_shape_rule.proofs.kinds.store_in.Goals as goal
 
 slots : (kind : Kind) (slot : ℕ) → last_slot (is_wide kind) slot + 1 ≡ slot + kind_slots kind
 slots kinds.Int slot = omega arith

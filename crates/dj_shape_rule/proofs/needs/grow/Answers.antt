@@ -1,8 +1,8 @@
 use Rattle.std.proofs.Common.{◌∙◌, length, ap, sym, subst, arith, List}
-use Rattle.dj_shape.specs.declared.needs.Need.{Need}
-use Rattle.dj_shape.specs.Needs.{no_need, AreSame}
-use Rattle.dj_shape.proofs.Needing.{same_push, length_more}
-use Rattle.dj_shape.proofs.needs.grow.Goals as goal
+use Rattle.dj_shape_rule.specs.declared.needs.Need.{Need}
+use Rattle.dj_shape_rule.specs.Needs.{no_need, AreSame}
+use Rattle.dj_shape_rule.proofs.Needing.{same_push, length_more}
+use Rattle.dj_shape_rule.proofs.needs.grow.Goals as goal
 
 pub loop-preserved : goal.loop-preserved
 loop-preserved c =

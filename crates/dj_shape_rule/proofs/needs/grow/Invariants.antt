@@ -1,6 +1,6 @@
 use Rattle.std.proofs.Common.{◌≤◌, length}
-use Rattle.dj_shape.specs.Needs.{AreSame}
-use Rattle.dj_shape.proofs.needs.grow.Given as goal
+use Rattle.dj_shape_rule.specs.Needs.{AreSame}
+use Rattle.dj_shape_rule.proofs.needs.grow.Given as goal
 
 abbrev pub invariant-loop : goal.invariant-loop
 invariant-loop l = record {

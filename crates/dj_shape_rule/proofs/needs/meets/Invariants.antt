@@ -1,6 +1,6 @@
 use Rattle.std.proofs.Common.{ℕ, ◌<◌, ◌≤◌}
-use Rattle.dj_shape.specs.Needs.{Meets}
-use Rattle.dj_shape.proofs.needs.meets.Given as goal
+use Rattle.dj_shape_rule.specs.Needs.{Meets}
+use Rattle.dj_shape_rule.proofs.needs.meets.Given as goal
 
 -- those so far have what is needed
 abbrev pub invariant-loop-slot : goal.invariant-loop-slot

@@ -1,8 +1,8 @@
 use Rattle.std.proofs.Common.{◌≡◌, ◌∙◌, ◌∷◌, [], ℕ, refl, ap, subst, arith, length}
-use Rattle.dj_shape.specs.Needs.{need_at, raised}
-use Rattle.dj_shape.proofs.Slots.{split_less, split_none, split_few, one_shorter}
-use Rattle.dj_shape.proofs.Needing.{raised_above, same_below, none_above, raised_all}
-use Rattle.dj_shape.proofs.needs.note_all.Goals as goal
+use Rattle.dj_shape_rule.specs.Needs.{need_at, raised}
+use Rattle.dj_shape_rule.proofs.Slots.{split_less, split_none, split_few, one_shorter}
+use Rattle.dj_shape_rule.proofs.Needing.{raised_above, same_below, none_above, raised_all}
+use Rattle.dj_shape_rule.proofs.needs.note_all.Goals as goal
 
 pub loop-slot-init : goal.loop-slot-init
 loop-slot-init c =

@@ -1,8 +1,8 @@
 use Rattle.std.proofs.Common.{◌≡◌, ℕ, ◌<◌, ◌≤◌, List, ◌++◌, Option, length}
 use Rattle.dj_names.specs.declared.descriptor.Kind.{Kind}
 use Rattle.dj_model.specs.trusted.Values.{local_at}
-use Rattle.dj_shape.specs.Needs.{need_at, raised}
-use Rattle.dj_shape.proofs.needs.note_all.Given as goal
+use Rattle.dj_shape_rule.specs.Needs.{need_at, raised}
+use Rattle.dj_shape_rule.proofs.needs.note_all.Given as goal
 
 -- those so far, from the last on, are needed
 abbrev pub invariant-loop-slot : goal.invariant-loop-slot

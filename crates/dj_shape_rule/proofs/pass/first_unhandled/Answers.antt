@@ -1,8 +1,8 @@
 use Rattle.std.proofs.Common.{List, take, sym, subst}
 use Rattle.std.proofs.lemmas.List.{take_more}
 use Rattle.dj_labels.specs.declared.labelled.Protected.{Protected}
-use Rattle.dj_shape.specs.Passing.{IsFirstUnhandled}
-use Rattle.dj_shape.proofs.pass.first_unhandled.Goals as goal
+use Rattle.dj_shape_rule.specs.Passing.{IsFirstUnhandled}
+use Rattle.dj_shape_rule.proofs.pass.first_unhandled.Goals as goal
 
 pub loop-row-preserved : goal.loop-row-preserved
 loop-row-preserved c =

@@ -1,6 +1,6 @@
 use Rattle.std.proofs.Common.{◌≡◌, ◌∙◌, ℕ, ap, sym, Some}
-use Rattle.dj_shape.specs.Reported.{Reported, reported_at, reported_by}
-use Rattle.dj_shape.proofs.pass.has_handler_frame.Goals as goal
+use Rattle.dj_shape_rule.specs.Reported.{Reported, reported_at, reported_by}
+use Rattle.dj_shape_rule.proofs.pass.has_handler_frame.Goals as goal
 
 pub returns-in-Some : goal.returns-in-Some
 returns-in-Some c =

@@ -1,8 +1,8 @@
 use Rattle.std.proofs.Common.{None}
 use Rattle.dj_pool.specs.Views.{constant_of}
-use Rattle.dj_shape.specs.Keeping.{call_by}
-use Rattle.dj_shape.proofs.Keeping.{all_kept}
-use Rattle.dj_shape.proofs.pool.calls.Goals as goal
+use Rattle.dj_shape_rule.specs.Keeping.{call_by}
+use Rattle.dj_shape_rule.proofs.Keeping.{all_kept}
+use Rattle.dj_shape_rule.proofs.pool.calls.Goals as goal
 
 pub returns : goal.returns
 returns c =

@@ -1,8 +1,8 @@
 use Rattle.dj_pool.specs.Views.{constant_of}
-use Rattle.dj_shape.specs.Keeping.{kind_by}
-use Rattle.dj_shape.specs.declared.pool.ConstantKind.TheVariants as constants
-use Rattle.dj_shape.proofs.Keeping.{all_kept}
-use Rattle.dj_shape.proofs.pool.constant_kinds.Goals as goal
+use Rattle.dj_shape_rule.specs.Keeping.{kind_by}
+use Rattle.dj_shape_rule.specs.declared.pool.ConstantKind.TheVariants as constants
+use Rattle.dj_shape_rule.proofs.Keeping.{all_kept}
+use Rattle.dj_shape_rule.proofs.pool.constant_kinds.Goals as goal
 
 pub returns : goal.returns
 returns c =

@@ -1,7 +1,7 @@
 use Rattle.std.proofs.Common.{◌≡◌, ◌∷◌, map, take}
-use Rattle.dj_shape.specs.declared.pool.ConstantKind.TheVariants as constants
-use Rattle.dj_shape.proofs.Keeping.{entry_kind}
-use Rattle.dj_shape.proofs.pool.constant_kinds.Given as goal
+use Rattle.dj_shape_rule.specs.declared.pool.ConstantKind.TheVariants as constants
+use Rattle.dj_shape_rule.proofs.Keeping.{entry_kind}
+use Rattle.dj_shape_rule.proofs.pool.constant_kinds.Given as goal
 
 -- what is kept so far
 abbrev pub invariant-loop-entry : goal.invariant-loop-entry

@@ -1,7 +1,7 @@
 use Rattle.std.proofs.Common.{◌≡◌, drop}
 use Rattle.dj_model.specs.trusted.Members.{kinds_of}
-use Rattle.dj_shape.proofs.Keeping.{prefixed}
-use Rattle.dj_shape.proofs.pool.kinds_of.Given as goal
+use Rattle.dj_shape_rule.proofs.Keeping.{prefixed}
+use Rattle.dj_shape_rule.proofs.pool.kinds_of.Given as goal
 
 -- the kinds so far
 abbrev pub invariant-loop-ty : goal.invariant-loop-ty

@@ -1,9 +1,9 @@
 use Rattle.std.proofs.Common.{ap, sym, ◌∙◌, option_and_then}
 use Rattle.dj_names.proofs.DescLaws.{desc_again}
 use Rattle.dj_model.specs.trusted.Kinds.{call_signature}
-use Rattle.dj_shape.proofs.Keeping.{not_opened}
-use Rattle.dj_shape.proofs.Works.{ok_more}
-use Rattle.dj_shape.proofs.pool.text_call.Goals as goal
+use Rattle.dj_shape_rule.proofs.Keeping.{not_opened}
+use Rattle.dj_shape_rule.proofs.Works.{ok_more}
+use Rattle.dj_shape_rule.proofs.pool.text_call.Goals as goal
 
 pub returns-in-Ok : goal.returns-in-Ok
 returns-in-Ok c =

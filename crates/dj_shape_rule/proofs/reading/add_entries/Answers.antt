@@ -4,9 +4,9 @@ use Rattle.dj_names.specs.declared.descriptor.Kind.{Kind}
 use Rattle.dj_ops.specs.declared.frames.VType.{VType}
 use Rattle.dj_ops.specs.declared.frames.VType.TheVariants as types
 use Rattle.dj_model.specs.trusted.Kinds.{entries_of}
-use Rattle.dj_shape.specs.Reading.{Gains, frame_code, entry_view}
-use Rattle.dj_shape.proofs.Entries.{entries_more, entries_none}
-use Rattle.dj_shape.proofs.reading.add_entries.Goals as goal
+use Rattle.dj_shape_rule.specs.Reading.{Gains, frame_code, entry_view}
+use Rattle.dj_shape_rule.proofs.Entries.{entries_more, entries_none}
+use Rattle.dj_shape_rule.proofs.reading.add_entries.Goals as goal
 
 pub loop-ty-preserved : goal.loop-ty-preserved
 loop-ty-preserved c = λ max_stack max_locals.

@@ -4,10 +4,10 @@ use Rattle.dj_ops.specs.declared.frames.VType.{VType}
 use Rattle.dj_ops.specs.declared.frames.Form.{Form}
 use Rattle.dj_ops.specs.declared.frames.Form.TheVariants as forms
 use Rattle.dj_model.specs.trusted.Kinds.{entries_of, form_entries, stack_of}
-use Rattle.dj_shape.specs.Reading.{ChangesTo, frame_code}
-use Rattle.dj_shape.proofs.Entries.{appended, full}
-use Rattle.dj_shape.proofs.Works.{ok_more}
-use Rattle.dj_shape.proofs.reading.change.Goals as goal
+use Rattle.dj_shape_rule.specs.Reading.{ChangesTo, frame_code}
+use Rattle.dj_shape_rule.proofs.Entries.{appended, full}
+use Rattle.dj_shape_rule.proofs.Works.{ok_more}
+use Rattle.dj_shape_rule.proofs.reading.change.Goals as goal
 
 pub returns-in-Same : goal.returns-in-Same
 returns-in-Same c = λ max_stack max_locals.

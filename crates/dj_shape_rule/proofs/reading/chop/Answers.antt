@@ -1,6 +1,6 @@
 use Rattle.std.proofs.Common.{◌≡◌, ◌∙◌, ◌-◌, ◌≤◌, ℕ, take, length, ap, arith}
-use Rattle.dj_shape.proofs.Entries.{chopped}
-use Rattle.dj_shape.proofs.reading.chop.Goals as goal
+use Rattle.dj_shape_rule.proofs.Entries.{chopped}
+use Rattle.dj_shape_rule.proofs.reading.chop.Goals as goal
 
 pub returns : goal.returns
 returns c = λ code.

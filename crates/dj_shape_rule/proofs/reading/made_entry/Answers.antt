@@ -1,8 +1,8 @@
 use Rattle.std.proofs.Common.{◌∙◌, Bool, Some, if◌then◌else◌, ap, sym}
 use Rattle.dj_names.specs.declared.descriptor.Kind.TheVariants as kinds
 use Rattle.dj_model.specs.trusted.Kinds.{Of, NoEntry}
-use Rattle.dj_shape.proofs.Entries.{made_at}
-use Rattle.dj_shape.proofs.reading.made_entry.Goals as goal
+use Rattle.dj_shape_rule.proofs.Entries.{made_at}
+use Rattle.dj_shape_rule.proofs.reading.made_entry.Goals as goal
 
 pub returns-then-is_made : goal.returns-then-is_made
 returns-then-is_made c =

@@ -1,10 +1,10 @@
 use Rattle.std.proofs.Common.{◌∙◌, List, Option, ◌++◌, ap}
 use Rattle.dj_names.specs.declared.descriptor.Kind.{Kind}
 use Rattle.dj_model.specs.trusted.Kinds.{entries_of, stack_of}
-use Rattle.dj_shape.specs.Reading.{frame_code}
-use Rattle.dj_shape.proofs.Works.{ok_more}
-use Rattle.dj_shape.proofs.Entries.{some_operands}
-use Rattle.dj_shape.proofs.reading.operands.Goals as goal
+use Rattle.dj_shape_rule.specs.Reading.{frame_code}
+use Rattle.dj_shape_rule.proofs.Works.{ok_more}
+use Rattle.dj_shape_rule.proofs.Entries.{some_operands}
+use Rattle.dj_shape_rule.proofs.reading.operands.Goals as goal
 
 pub returns : goal.returns
 returns c =

@@ -2,11 +2,11 @@ use Rattle.std.proofs.Common.{◌∙◌, ℕ, ◌+◌, List, [], None, Option, r
 use Rattle.std.proofs.lemmas.List.{drop_all}
 use Rattle.dj_ops.specs.declared.frames.Frame.{Frame}
 use Rattle.dj_model.specs.trusted.Kinds.{frames_after}
-use Rattle.dj_shape.specs.Reported.{Reported, IsKept, IsReportedAs, reported_in}
-use Rattle.dj_shape.specs.Reading.{frame_code, with_all}
-use Rattle.dj_shape.proofs.FrameLaws.{read_more, after_none, after_end, all_faulty, all_read, drop_at}
-use Rattle.dj_shape.proofs.Places.{kept_after, reading_still}
-use Rattle.dj_shape.proofs.reading.read_frames.Goals as goal
+use Rattle.dj_shape_rule.specs.Reported.{Reported, IsKept, IsReportedAs, reported_in}
+use Rattle.dj_shape_rule.specs.Reading.{frame_code, with_all}
+use Rattle.dj_shape_rule.proofs.FrameLaws.{read_more, after_none, after_end, all_faulty, all_read, drop_at}
+use Rattle.dj_shape_rule.proofs.Places.{kept_after, reading_still}
+use Rattle.dj_shape_rule.proofs.reading.read_frames.Goals as goal
 
 pub loop-frame-init : goal.loop-frame-init
 loop-frame-init c = record {

@@ -1,8 +1,8 @@
 use Rattle.std.proofs.Common.{◌≡◌, List, drop}
 use Rattle.dj_model.specs.trusted.Kinds.{Placed, frames_after}
-use Rattle.dj_shape.specs.Reported.{AreReported}
-use Rattle.dj_shape.specs.Reading.{IsReading, frame_code, with_all}
-use Rattle.dj_shape.proofs.reading.read_frames.Given as goal
+use Rattle.dj_shape_rule.specs.Reported.{AreReported}
+use Rattle.dj_shape_rule.specs.Reading.{IsReading, frame_code, with_all}
+use Rattle.dj_shape_rule.proofs.reading.read_frames.Given as goal
 
 -- those so far were read, and those after them come after the local variables of the last
 abbrev pub invariant-loop-frame : goal.invariant-loop-frame

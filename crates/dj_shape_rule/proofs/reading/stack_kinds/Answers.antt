@@ -2,8 +2,8 @@ use Rattle.std.proofs.Common.{◌∙◌, List, Option, [], ◌∷◌, ◌++◌, 
 use Rattle.std.proofs.lemmas.List.{take_more}
 use Rattle.dj_names.specs.declared.descriptor.Kind.{Kind}
 use Rattle.dj_model.specs.trusted.Kinds.{stack_of}
-use Rattle.dj_shape.proofs.Entries.{stack_more, stack_none}
-use Rattle.dj_shape.proofs.reading.stack_kinds.Goals as goal
+use Rattle.dj_shape_rule.proofs.Entries.{stack_more, stack_none}
+use Rattle.dj_shape_rule.proofs.reading.stack_kinds.Goals as goal
 
 pub loop-entry-preserved : goal.loop-entry-preserved
 loop-entry-preserved c =

@@ -1,5 +1,5 @@
 use Rattle.std.proofs.Common.{◌≡◌, ◌++◌, length, reverse}
-use Rattle.dj_shape.proofs.state.fill.Given as goal
+use Rattle.dj_shape_rule.proofs.state.fill.Given as goal
 
 abbrev pub invariant-loop-kind : goal.invariant-loop-kind
 invariant-loop-kind l = l.locals ≡ l.rest ++ reverse l.kept.items

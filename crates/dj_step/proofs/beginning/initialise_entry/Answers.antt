@@ -1,12 +1,12 @@
 use Rattle.std.proofs.Common.{sym, ap, subst}
 use Rattle.std.specs.Prelude.{IfOk}
-use Rattle.dj_calls.specs.Known.{AreKnown}
-use Rattle.dj_types.specs.Typed.{types_of}
+use Rattle.dj_natives.specs.Known.{AreKnown}
+use Rattle.dj_numbering.specs.Typed.{types_of}
 use Rattle.dj_image.specs.Imaged.{program_of, typed_of}
-use Rattle.dj_initialising.specs.Flags.{AreFlags}
-use Rattle.dj_initialising.specs.Store.{IsStore, store}
-use Rattle.dj_initialising.specs.Preparing.{Parts, parts}
-use Rattle.dj_turning.specs.Running.{Running}
+use Rattle.dj_initialisation.specs.Flags.{AreFlags}
+use Rattle.dj_initialisation.specs.Store.{IsStore, store}
+use Rattle.dj_initialisation.specs.Preparing.{Parts, parts}
+use Rattle.dj_image_step.specs.Running.{Running}
 use Rattle.dj_step.specs.Running.{PreparesEntry}
 use Rattle.dj_step.proofs.FirstLaws.{entry_prepared, known_after}
 use Rattle.dj_step.proofs.beginning.initialise_entry.Goals as goal

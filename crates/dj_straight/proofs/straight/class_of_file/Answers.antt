@@ -1,7 +1,7 @@
 use Rattle.std.proofs.Common.{subst}
 use Rattle.dj_class.specs.Views.{class_of}
 use Rattle.dj_class.specs.trusted.ClassFile.{IsClassFile, IsMalformed}
-use Rattle.dj_rules.specs.Reads.{IsViewOf}
+use Rattle.dj_file_rules.specs.Reads.{IsViewOf}
 use Rattle.dj_straight.specs.Methods.{class_view}
 use Rattle.dj_straight.specs.trusted.Straight.{IsStraightClass, IsStraightFile}
 use Rattle.dj_straight.proofs.StraightCode.{ok_finds}

@@ -2,7 +2,7 @@ use Rattle.std.proofs.Common.{◌≡◌, List, Some, length, get_or, sym, ap, �
 use Rattle.std.specs.Prelude.{slice_get}
 use Rattle.std.proofs.lemmas.Option.{slice_get-get_or}
 use Rattle.dj_labels.specs.declared.labelled.Protected.{Protected}
-use Rattle.dj_types.specs.Typed.{type_at}
+use Rattle.dj_numbering.specs.Typed.{type_at}
 use Rattle.dj_image.specs.Imaged.{typed_of}
 use Rattle.dj_unwinding.specs.HandlerRows.{IsRowOf}
 use Rattle.dj_unwinding.proofs.Catching.{found_here, passed_here, found_nowhere}

@@ -1,4 +1,4 @@
-use Rattle.dj_types.specs.Typed.{type_at}
+use Rattle.dj_numbering.specs.Typed.{type_at}
 use Rattle.dj_image.specs.Imaged.{typed_of}
 use Rattle.dj_unwinding.proofs.Catching.{IsPast}
 use Rattle.dj_unwinding.proofs.rows.handler_in.Given as goal

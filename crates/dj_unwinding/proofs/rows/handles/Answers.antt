@@ -1,6 +1,6 @@
 use Rattle.std.proofs.Common.{◌≡◌, ◌<◌, ◌^◌, ℕ, Some, sym, subst, arith}
 use Rattle.std.specs.Prelude.{slice_get}
-use Rattle.dj_types.specs.Typed.{type_at}
+use Rattle.dj_numbering.specs.Typed.{type_at}
 use Rattle.dj_image.specs.Imaged.{typed_of}
 use Rattle.dj_unwinding.specs.Unwinding.{ranges_at}
 use Rattle.dj_unwinding.proofs.Catching.{before_row, after_row, any_row, row_by_type, names_type}

@@ -1,5 +1,5 @@
 use Rattle.std.proofs.Common.{arith}
-use Rattle.dj_types.specs.Typed.{type_at}
+use Rattle.dj_numbering.specs.Typed.{type_at}
 use Rattle.dj_image.specs.Imaged.{typed_of}
 use Rattle.dj_unwinding.specs.declared.unwinding.Unwound.TheVariants as unwinds
 use Rattle.dj_unwinding.proofs.Frames.{unwound_then, left_last}

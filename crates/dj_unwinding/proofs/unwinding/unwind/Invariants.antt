@@ -1,7 +1,7 @@
 use Rattle.std.proofs.Common.{length}
-use Rattle.dj_types.specs.Typed.{type_at}
+use Rattle.dj_numbering.specs.Typed.{type_at}
 use Rattle.dj_image.specs.Imaged.{typed_of}
-use Rattle.dj_activations.specs.Activations.{AreActivations}
+use Rattle.dj_current_method.specs.Activations.{AreActivations}
 use Rattle.dj_unwinding.specs.Unwinding.{GoesOn}
 use Rattle.dj_unwinding.proofs.unwinding.unwind.Given as goal
 

@@ -1,6 +1,6 @@
 use Rattle.std.proofs.Common.{Ok, Err, map, string_bytes}
 use Rattle.dj_host.specs.trusted.Hosted.{given_since}
-use Rattle.dj_words.specs.trusted.DoneJobs.{done_job_of}
+use Rattle.dj_command_line.specs.trusted.DoneJobs.{done_job_of}
 use Rattle.djvm_cli.proofs.Leaving.{all_added, prefix_added}
 use Rattle.djvm_cli.proofs.djvm.djvm.Goals as goal
 

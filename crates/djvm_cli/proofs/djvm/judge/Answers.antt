@@ -1,15 +1,15 @@
 use Rattle.std.proofs.Common.{◌≡◌, List, ℕ, Some, IfOk, sym, subst, ◌∙◌}
 use Rattle.dj_report.specs.trusted.Stages.{IsDecided}
 use Rattle.dj_host.specs.trusted.Hosted.{given_since}
-use Rattle.dj_sandbox.specs.trusted.Entry.{entry_name}
-use Rattle.dj_sandbox.specs.trusted.Judging.{run_stages}
-use Rattle.dj_words.specs.declared.command.FolderCommand.{FolderCommand}
-use Rattle.dj_words.specs.trusted.DoneJobs.{OnFolder}
+use Rattle.dj_class_set.specs.trusted.Entry.{entry_name}
+use Rattle.dj_class_set.specs.trusted.Judging.{run_stages}
+use Rattle.dj_command_line.specs.declared.command.FolderCommand.{FolderCommand}
+use Rattle.dj_command_line.specs.trusted.DoneJobs.{OnFolder}
 use Rattle.djvm_cli.specs.Engine.{LeavesJudged}
 use Rattle.djvm_cli.specs.trusted.Jobs.{IsRawJob}
 use Rattle.djvm_cli.specs.trusted.Report.{judging}
 use Rattle.djvm_cli.proofs.Leaving.{judged_quietly}
-use Rattle.dj_words.specs.Views.{folder_job_view}
+use Rattle.dj_command_line.specs.Views.{folder_job_view}
 use Rattle.djvm_cli.proofs.djvm.judge.Goals as goal
 
 pub returns-in_ok-verify-in-Verify-clause-decided : goal.returns-in_ok-verify-in-Verify-clause-decided

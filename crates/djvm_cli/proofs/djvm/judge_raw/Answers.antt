@@ -3,8 +3,8 @@ use Rattle.std.proofs.lemmas.Result.{err_from_is_err_and}
 use Rattle.dj_names.specs.trusted.Types.{Name}
 use Rattle.dj_report.specs.trusted.Stages.{IsDecided}
 use Rattle.dj_host.specs.trusted.Hosted.{given_since}
-use Rattle.dj_sandbox.specs.trusted.Entry.{entry_name}
-use Rattle.dj_sandbox.specs.trusted.Judging.{raw_stages}
+use Rattle.dj_class_set.specs.trusted.Entry.{entry_name}
+use Rattle.dj_class_set.specs.trusted.Judging.{raw_stages}
 use Rattle.djvm_cli.proofs.Leaving.{raw_unmade, raw_reported, raw_stopped}
 use Rattle.djvm_cli.proofs.djvm.judge_raw.Goals as goal
 

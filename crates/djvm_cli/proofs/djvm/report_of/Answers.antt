@@ -1,7 +1,7 @@
 use Rattle.std.proofs.Common.{◌≡◌, ◌∙◌, sym, ap, subst, Option, Some, None, map, option_map, string_bytes}
 use Rattle.std.proofs.lemmas.Result.{err_from_is_err_and}
-use Rattle.dj_words.specs.trusted.DoneJobs.{DoneJob, done_job_of}
-use Rattle.dj_words.specs.Views.{job_view}
+use Rattle.dj_command_line.specs.trusted.DoneJobs.{DoneJob, done_job_of}
+use Rattle.dj_command_line.specs.Views.{job_view}
 use Rattle.djvm_cli.specs.Engine.{LeavesJob}
 use Rattle.djvm_cli.proofs.Allowed.{done_job_allowed}
 use Rattle.djvm_cli.proofs.Leaving.{no_job, no_words}

@@ -6,7 +6,7 @@ use Rattle.dj_report.specs.trusted.Stages.{IsDecided}
 use Rattle.dj_host.specs.trusted.Hosted.{given_since}
 use Rattle.djvm_cli.specs.declared.load.SourceFile.{SourceFile}
 use Rattle.djvm_cli.specs.trusted.Report.{FindsInput, judging, within_folder, input_of}
-use Rattle.dj_words.specs.Views.{folder_job_view}
+use Rattle.dj_command_line.specs.Views.{folder_job_view}
 use Rattle.djvm_cli.specs.Views.{source_view}
 use Rattle.djvm_cli.proofs.Leaving.{IsReached, stopped, unreached, reached}
 use Rattle.djvm_cli.proofs.Reporting.{too_many_unreached, absent_unreached, too_long_unreached, passed_unreached, read_whole, paths_listed, few_listed, class_paths_listed, paths_rise, paths_held, sources_class_paths, sources_few, sources_within, sources_rise, asks_input, asks_files, counted, found, passed, judged, Decides}

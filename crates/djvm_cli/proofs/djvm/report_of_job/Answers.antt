@@ -1,6 +1,6 @@
 use Rattle.std.proofs.Common.{Some, sym, subst}
-use Rattle.dj_words.specs.declared.command.Command.{Command}
-use Rattle.dj_words.specs.Views.{job_view}
+use Rattle.dj_command_line.specs.declared.command.Command.{Command}
+use Rattle.dj_command_line.specs.Views.{job_view}
 use Rattle.djvm_cli.specs.Engine.{LeavesJob}
 use Rattle.djvm_cli.proofs.Leaving.{assembled}
 use Rattle.djvm_cli.proofs.djvm.report_of_job.Goals as goal

@@ -1,4 +1,4 @@
-use Rattle.dj_running.proofs.RawRuns.{has_raw_run}
+use Rattle.dj_sandbox.proofs.RawRuns.{has_raw_run}
 use Rattle.djvm_cli.proofs.SomeReport.{some_report}
 use Rattle.djvm_cli.proofs.laws.some_report.Goals as goal
 

@@ -1,5 +1,5 @@
 use Rattle.std.proofs.Common.{◌≡◌, ◌≤◌, ◌++◌, take, map, IfSome, string_bytes}
-use Rattle.dj_sandbox.specs.trusted.Limits.{AreWithin, total_bytes}
+use Rattle.dj_class_set.specs.trusted.Limits.{AreWithin, total_bytes}
 use Rattle.djvm_cli.specs.Steps.{files_at}
 use Rattle.djvm_cli.specs.Views.{source_view}
 use Rattle.djvm_cli.proofs.load.read_files.Given as goal

@@ -1,9 +1,9 @@
 use Rattle.std.proofs.Common.{◌≡◌, ◌+◌, ◌∷◌, ◌++◌, ℕ, ◌≤◌, None, [], sym, ◌∙◌, subst, arith}
 use Rattle.std.specs.Map.{keys_of}
-use Rattle.dj_entries.specs.Keys.{most_next, IsNumbered, IsPlaced}
+use Rattle.dj_asm_pool.specs.Keys.{most_next, IsNumbered, IsPlaced}
 use Rattle.indexmap.proofs.CallerLemmas.{insert_entry-new}
-use Rattle.dj_entries.proofs.KeyLaws.{same_key, there, full, still_numbered, put_last}
-use Rattle.dj_entries.proofs.places.Places.add.Goals as goal
+use Rattle.dj_asm_pool.proofs.KeyLaws.{same_key, there, full, still_numbered, put_last}
+use Rattle.dj_asm_pool.proofs.places.Places.add.Goals as goal
 
 pub returns-in-Some : goal.returns-in-Some
 returns-in-Some c =

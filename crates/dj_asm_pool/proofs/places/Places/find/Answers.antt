@@ -1,7 +1,7 @@
 use Rattle.std.proofs.Common.{None, sym, subst}
-use Rattle.dj_entries.specs.Keys.{FindsKey}
-use Rattle.dj_entries.proofs.FoundEntries.{found_key, no_key}
-use Rattle.dj_entries.proofs.places.Places.find.Goals as goal
+use Rattle.dj_asm_pool.specs.Keys.{FindsKey}
+use Rattle.dj_asm_pool.proofs.FoundEntries.{found_key, no_key}
+use Rattle.dj_asm_pool.proofs.places.Places.find.Goals as goal
 
 pub returns-in-Some : goal.returns-in-Some
 returns-in-Some c =

@@ -1,8 +1,8 @@
 use Rattle.std.proofs.Common.{IfOk, sym, subst}
-use Rattle.dj_entries.specs.trusted.Entries.{Entry}
-use Rattle.dj_entries.specs.Pooling.{keyed_entries, PutsOne, IsKeyOf}
-use Rattle.dj_entries.proofs.PoolChains.{add_fields, add_puts}
-use Rattle.dj_entries.proofs.pool.PoolBuilder.add.Goals as goal
+use Rattle.dj_asm_pool.specs.trusted.Entries.{Entry}
+use Rattle.dj_asm_pool.specs.Pooling.{keyed_entries, PutsOne, IsKeyOf}
+use Rattle.dj_asm_pool.proofs.PoolChains.{add_fields, add_puts}
+use Rattle.dj_asm_pool.proofs.pool.PoolBuilder.add.Goals as goal
 
 pub invariant_of-self : goal.invariant_of-self
 invariant_of-self c =

@@ -1,8 +1,8 @@
 use Rattle.std.proofs.Common.{subst}
-use Rattle.dj_entries.specs.trusted.Entries.{NameAndType, Dynamic}
-use Rattle.dj_entries.specs.Pooling.{Puts}
-use Rattle.dj_entries.proofs.PoolChains.{dynamic_key}
-use Rattle.dj_entries.proofs.pool.PoolBuilder.dynamic.Goals as goal
+use Rattle.dj_asm_pool.specs.trusted.Entries.{NameAndType, Dynamic}
+use Rattle.dj_asm_pool.specs.Pooling.{Puts}
+use Rattle.dj_asm_pool.proofs.PoolChains.{dynamic_key}
+use Rattle.dj_asm_pool.proofs.pool.PoolBuilder.dynamic.Goals as goal
 
 pub add-requires : goal.add-requires
 add-requires c = (

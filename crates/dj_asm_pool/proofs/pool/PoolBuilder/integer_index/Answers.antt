@@ -1,9 +1,9 @@
 use Rattle.std.proofs.Common.{ℤ, ap, ◌∙◌, w32, to_z, of_z, SFits, rules}
 use Rattle.std.proofs.lemmas.Int.{to_z-of_z}
-use Rattle.dj_entries.specs.trusted.Entries.{Integer}
-use Rattle.dj_entries.specs.Pooling.{found_index}
-use Rattle.dj_entries.proofs.FoundEntries.{integer_sought}
-use Rattle.dj_entries.proofs.pool.PoolBuilder.integer_index.Goals as goal
+use Rattle.dj_asm_pool.specs.trusted.Entries.{Integer}
+use Rattle.dj_asm_pool.specs.Pooling.{found_index}
+use Rattle.dj_asm_pool.proofs.FoundEntries.{integer_sought}
+use Rattle.dj_asm_pool.proofs.pool.PoolBuilder.integer_index.Goals as goal
 
 pub returns : goal.returns
 returns c =

@@ -1,9 +1,9 @@
 use Rattle.std.proofs.Common.{Some, refl, subst}
-use Rattle.dj_entries.specs.declared.key.Key.TheVariants as keys
-use Rattle.dj_entries.specs.trusted.Entries.{InterfaceMethod}
-use Rattle.dj_entries.specs.Pooling.{member_parts}
-use Rattle.dj_entries.proofs.PoolChains.{PutsMember, interface_key, last_ends}
-use Rattle.dj_entries.proofs.pool.PoolBuilder.interface_method.Goals as goal
+use Rattle.dj_asm_pool.specs.declared.key.Key.TheVariants as keys
+use Rattle.dj_asm_pool.specs.trusted.Entries.{InterfaceMethod}
+use Rattle.dj_asm_pool.specs.Pooling.{member_parts}
+use Rattle.dj_asm_pool.proofs.PoolChains.{PutsMember, interface_key, last_ends}
+use Rattle.dj_asm_pool.proofs.pool.PoolBuilder.interface_method.Goals as goal
 
 pub returns : goal.returns
 returns c =

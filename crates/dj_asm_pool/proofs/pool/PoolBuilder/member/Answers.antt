@@ -1,8 +1,8 @@
 use Rattle.std.proofs.Common.{subst}
-use Rattle.dj_entries.specs.trusted.Entries.{Class, NameAndType}
-use Rattle.dj_entries.specs.Pooling.{Puts}
-use Rattle.dj_entries.proofs.PoolChains.{member_put, member_stop_last}
-use Rattle.dj_entries.proofs.pool.PoolBuilder.member.Goals as goal
+use Rattle.dj_asm_pool.specs.trusted.Entries.{Class, NameAndType}
+use Rattle.dj_asm_pool.specs.Pooling.{Puts}
+use Rattle.dj_asm_pool.proofs.PoolChains.{member_put, member_stop_last}
+use Rattle.dj_asm_pool.proofs.pool.PoolBuilder.member.Goals as goal
 
 pub returns-in_default-2 : goal.returns-in_default-2
 returns-in_default-2 c =

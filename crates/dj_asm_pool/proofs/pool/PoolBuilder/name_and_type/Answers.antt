@@ -1,7 +1,7 @@
 use Rattle.std.proofs.Common.{subst}
-use Rattle.dj_entries.specs.trusted.Entries.{NameAndType}
-use Rattle.dj_entries.proofs.PoolChains.{PutsTexts, names_key}
-use Rattle.dj_entries.proofs.pool.PoolBuilder.name_and_type.Goals as goal
+use Rattle.dj_asm_pool.specs.trusted.Entries.{NameAndType}
+use Rattle.dj_asm_pool.proofs.PoolChains.{PutsTexts, names_key}
+use Rattle.dj_asm_pool.proofs.pool.PoolBuilder.name_and_type.Goals as goal
 
 pub add-requires : goal.add-requires
 add-requires c = (

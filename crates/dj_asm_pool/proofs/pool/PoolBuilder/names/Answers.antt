@@ -1,8 +1,8 @@
 use Rattle.std.proofs.Common.{subst}
-use Rattle.dj_entries.specs.trusted.Entries.{Utf8}
-use Rattle.dj_entries.specs.Pooling.{PutsOne}
-use Rattle.dj_entries.proofs.PoolChains.{texts_put}
-use Rattle.dj_entries.proofs.pool.PoolBuilder.names.Goals as goal
+use Rattle.dj_asm_pool.specs.trusted.Entries.{Utf8}
+use Rattle.dj_asm_pool.specs.Pooling.{PutsOne}
+use Rattle.dj_asm_pool.proofs.PoolChains.{texts_put}
+use Rattle.dj_asm_pool.proofs.pool.PoolBuilder.names.Goals as goal
 
 pub returns : goal.returns
 returns c =

@@ -1,8 +1,8 @@
 use Rattle.std.proofs.Common.{◌≡◌, ◌∙◌, subst}
-use Rattle.dj_entries.specs.trusted.Entries.{Entry}
-use Rattle.dj_entries.specs.Pooling.{found_index, IsSought}
-use Rattle.dj_entries.proofs.FoundEntries.{sought_found}
-use Rattle.dj_entries.proofs.pool.PoolBuilder.sought.Goals as goal
+use Rattle.dj_asm_pool.specs.trusted.Entries.{Entry}
+use Rattle.dj_asm_pool.specs.Pooling.{found_index, IsSought}
+use Rattle.dj_asm_pool.proofs.FoundEntries.{sought_found}
+use Rattle.dj_asm_pool.proofs.pool.PoolBuilder.sought.Goals as goal
 
 pub returns : goal.returns
 returns c =

@@ -1,9 +1,9 @@
 use Rattle.std.proofs.Common.{IfOk, None, sym, ◌∙◌, subst}
-use Rattle.dj_entries.specs.trusted.Entries.{Utf8}
-use Rattle.dj_entries.specs.Pooling.{AreKeysOf, keyed_entries, PutsOne}
-use Rattle.dj_entries.proofs.PoolChains.{text_fields, text_puts, new_fields, new_puts}
-use Rattle.dj_entries.proofs.PoolEntries.{full_test}
-use Rattle.dj_entries.proofs.pool.PoolBuilder.utf8.Goals as goal
+use Rattle.dj_asm_pool.specs.trusted.Entries.{Utf8}
+use Rattle.dj_asm_pool.specs.Pooling.{AreKeysOf, keyed_entries, PutsOne}
+use Rattle.dj_asm_pool.proofs.PoolChains.{text_fields, text_puts, new_fields, new_puts}
+use Rattle.dj_asm_pool.proofs.PoolEntries.{full_test}
+use Rattle.dj_asm_pool.proofs.pool.PoolBuilder.utf8.Goals as goal
 
 pub invariant_of-self : goal.invariant_of-self
 invariant_of-self c =

@@ -1,8 +1,8 @@
 use Rattle.std.proofs.Common.{◌≡◌, ◌∙◌, subst}
-use Rattle.dj_entries.specs.trusted.Entries.{Utf8}
-use Rattle.dj_entries.specs.Pooling.{found_index}
-use Rattle.dj_entries.proofs.FoundEntries.{text_found, no_text_found}
-use Rattle.dj_entries.proofs.pool.PoolBuilder.utf8_index.Goals as goal
+use Rattle.dj_asm_pool.specs.trusted.Entries.{Utf8}
+use Rattle.dj_asm_pool.specs.Pooling.{found_index}
+use Rattle.dj_asm_pool.proofs.FoundEntries.{text_found, no_text_found}
+use Rattle.dj_asm_pool.proofs.pool.PoolBuilder.utf8_index.Goals as goal
 
 pub returns-in-Some : goal.returns-in-Some
 returns-in-Some c =

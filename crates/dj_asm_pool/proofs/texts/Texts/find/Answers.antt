@@ -1,7 +1,7 @@
 use Rattle.std.proofs.Common.{subst}
-use Rattle.dj_entries.specs.Pooling.{IsFound}
-use Rattle.dj_entries.proofs.TextNumbers.{found}
-use Rattle.dj_entries.proofs.texts.Texts.find.Goals as goal
+use Rattle.dj_asm_pool.specs.Pooling.{IsFound}
+use Rattle.dj_asm_pool.proofs.TextNumbers.{found}
+use Rattle.dj_asm_pool.proofs.texts.Texts.find.Goals as goal
 
 pub returns : goal.returns
 returns c = subst (λ l. IsFound l c.args.text.now c.get_index_of.result) c.self.view_is (found c.self.inside.texts.keys (λ text. text.items) c.args.text.now c.get_index_of.result c.get_index_of.ensures.index)

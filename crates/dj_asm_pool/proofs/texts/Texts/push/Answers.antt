@@ -1,6 +1,6 @@
 use Rattle.std.proofs.Common.{◌++◌, ◌∷◌, [], Contains, length, map, sym, ap, ◌∙◌, subst}
-use Rattle.dj_entries.proofs.TextNumbers.{same_length, put_text}
-use Rattle.dj_entries.proofs.texts.Texts.push.Goals as goal
+use Rattle.dj_asm_pool.proofs.TextNumbers.{same_length, put_text}
+use Rattle.dj_asm_pool.proofs.texts.Texts.push.Goals as goal
 
 pub returns : goal.returns
 returns c =

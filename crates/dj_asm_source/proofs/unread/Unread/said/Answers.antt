@@ -1,12 +1,12 @@
 use Rattle.std.proofs.Common.{◌≡◌, ◌∷◌, Err, sym, subst}
-use Rattle.dj_source.specs.Reading.{Got}
-use Rattle.dj_source.specs.LineReading.{line}
-use Rattle.dj_source.specs.LineViews.{line_view}
-use Rattle.dj_tokens.specs.Views.{placed_view, left_of}
-use Rattle.dj_source.specs.Stops.{Stops}
-use Rattle.dj_source.specs.Unread.{UnreadLines, read_after, GivesLine}
-use Rattle.dj_source.proofs.UnreadLaws.{stopped_line}
-use Rattle.dj_source.proofs.unread.Unread.said.Goals as goal
+use Rattle.dj_asm_source.specs.Reading.{Got}
+use Rattle.dj_asm_source.specs.LineReading.{line}
+use Rattle.dj_asm_source.specs.LineViews.{line_view}
+use Rattle.dj_asm_tokens.specs.Views.{placed_view, left_of}
+use Rattle.dj_asm_source.specs.Stops.{Stops}
+use Rattle.dj_asm_source.specs.Unread.{UnreadLines, read_after, GivesLine}
+use Rattle.dj_asm_source.proofs.UnreadLaws.{stopped_line}
+use Rattle.dj_asm_source.proofs.unread.Unread.said.Goals as goal
 
 pub returns-in-Ok-clause-line : goal.returns-in-Ok-clause-line
 returns-in-Ok-clause-line c =

@@ -1,12 +1,12 @@
 use Rattle.std.proofs.Common.{◌≡◌, Err, None, sym, ap, ◌∙◌, subst}
 use Rattle.std.specs.Option.{option_map}
-use Rattle.dj_source.specs.Order.{after}
-use Rattle.dj_source.specs.Reading.{Got}
-use Rattle.dj_source.specs.LineViews.{line_view}
-use Rattle.dj_source.specs.StateViews.{state_view}
-use Rattle.dj_source.specs.Unread.{UnreadLines, read_after, GivesLine}
-use Rattle.dj_source.proofs.UnreadLaws.{got_last}
-use Rattle.dj_source.proofs.unread.Unread.went_on.Goals as goal
+use Rattle.dj_asm_source.specs.Order.{after}
+use Rattle.dj_asm_source.specs.Reading.{Got}
+use Rattle.dj_asm_source.specs.LineViews.{line_view}
+use Rattle.dj_asm_source.specs.StateViews.{state_view}
+use Rattle.dj_asm_source.specs.Unread.{UnreadLines, read_after, GivesLine}
+use Rattle.dj_asm_source.proofs.UnreadLaws.{got_last}
+use Rattle.dj_asm_source.proofs.unread.Unread.went_on.Goals as goal
 
 pub returns-clause-line : goal.returns-clause-line
 returns-clause-line c = λ rest.

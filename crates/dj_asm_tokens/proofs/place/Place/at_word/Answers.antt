@@ -1,7 +1,7 @@
 use Rattle.std.proofs.Common.{rules, ◌∙◌}
 use Rattle.std.proofs.lemmas.List.{take_rest}
-use Rattle.dj_tokens.proofs.LineLaws.{step_blank}
-use Rattle.dj_tokens.proofs.place.Place.at_word.Goals as goal
+use Rattle.dj_asm_tokens.proofs.LineLaws.{step_blank}
+use Rattle.dj_asm_tokens.proofs.place.Place.at_word.Goals as goal
 
 pub loop-rest-preserved : goal.loop-rest-preserved
 loop-rest-preserved c = record {

@@ -1,6 +1,6 @@
 use Rattle.std.proofs.Common.{◌≡◌, ◌+◌, length}
-use Rattle.dj_tokens.specs.trusted.Words.{tokens_after}
-use Rattle.dj_tokens.proofs.place.Place.at_word.Given as goal
+use Rattle.dj_asm_tokens.specs.trusted.Words.{tokens_after}
+use Rattle.dj_asm_tokens.proofs.place.Place.at_word.Given as goal
 
 -- the rest has the tokens
 abbrev pub invariant-loop-rest : goal.invariant-loop-rest

@@ -1,9 +1,9 @@
 use Rattle.std.proofs.Common.{rules, sym, ◌∙◌}
 use Rattle.std.proofs.lemmas.List.{take_rest}
-use Rattle.dj_tokens.specs.Views.{token_view}
-use Rattle.dj_tokens.specs.Views.{piece_view}
-use Rattle.dj_tokens.proofs.LineLaws.{no_rest, step_token}
-use Rattle.dj_tokens.proofs.place.Place.next.Goals as goal
+use Rattle.dj_asm_tokens.specs.Views.{token_view}
+use Rattle.dj_asm_tokens.specs.Views.{piece_view}
+use Rattle.dj_asm_tokens.proofs.LineLaws.{no_rest, step_token}
+use Rattle.dj_asm_tokens.proofs.place.Place.next.Goals as goal
 
 pub returns-then-is_empty-clause-token : goal.returns-then-is_empty-clause-token
 returns-then-is_empty-clause-token c =

@@ -2,9 +2,9 @@ use Rattle.std.proofs.Common.{◌∙◌, ℕ, List, IsPermutation, sym, subst}
 use Rattle.std.specs.Global.{Vec}
 use Rattle.std.proofs.lemmas.List.{with_items_is}
 use Rattle.dj_edge.specs.InMemory.{String, files_in}
-use Rattle.dj_sandbox.specs.ClassSets.{IsClassSet, AreByPath}
-use Rattle.dj_sandbox.proofs.ByPath.{sorted_set, sorted_by_path}
-use Rattle.dj_sandbox.proofs.class_set.ClassSet.new.Goals as goal
+use Rattle.dj_class_set.specs.ClassSets.{IsClassSet, AreByPath}
+use Rattle.dj_class_set.proofs.ByPath.{sorted_set, sorted_by_path}
+use Rattle.dj_class_set.proofs.class_set.ClassSet.new.Goals as goal
 
 pub invariant_of-result : goal.invariant_of-result
 invariant_of-result c =

@@ -2,9 +2,9 @@ use Rattle.std.proofs.Common.{◌≡◌, ℕ, ◌<◌, List, Some, length, ap, �
 use Rattle.std.specs.Prelude.{◌||◌, slice_get, nat_lt}
 use Rattle.std.specs.Option.{option_map}
 use Rattle.dj_model.specs.trusted.Program.{Program}
-use Rattle.dj_classes.specs.Tables.{lacks_above}
-use Rattle.dj_classes.proofs.Lacking.{lacks_there, both_reported}
-use Rattle.dj_classes.proofs.table.ClassTable.lacks_above.Goals as goal
+use Rattle.dj_class_table.specs.Tables.{lacks_above}
+use Rattle.dj_class_table.proofs.Lacking.{lacks_there, both_reported}
+use Rattle.dj_class_table.proofs.table.ClassTable.lacks_above.Goals as goal
 
 pub returns-else-lacks_super : goal.returns-else-lacks_super
 returns-else-lacks_super c =

@@ -1,9 +1,9 @@
 use Rattle.std.proofs.Common.{◌≡◌, ℕ, Some, subst}
 use Rattle.dj_names.specs.trusted.Types.{Name}
 use Rattle.dj_model.specs.trusted.Program.{Program}
-use Rattle.dj_classes.specs.Tables.{class_number, name_at}
-use Rattle.dj_classes.proofs.Numbered.{class_number-rise}
-use Rattle.dj_classes.proofs.table.ClassTable.names_differ.Goals as goal
+use Rattle.dj_class_table.specs.Tables.{class_number, name_at}
+use Rattle.dj_class_table.proofs.Numbered.{class_number-rise}
+use Rattle.dj_class_table.proofs.table.ClassTable.names_differ.Goals as goal
 
 pub returns : goal.returns
 returns c =

@@ -1,12 +1,12 @@
 use Rattle.std.proofs.Common.{◌≡◌, map, arith, sym, ◌∙◌, subst}
 use Rattle.dj_names.specs.trusted.Types.{Name}
 use Rattle.dj_model.specs.trusted.Program.{Program}
-use Rattle.dj_declared.specs.Files.{bare_class}
-use Rattle.dj_classes.specs.Tables.{IsLeastShared}
-use Rattle.dj_classes.specs.ClassRows.{RiseStrictly, super_in, interfaces_in}
-use Rattle.dj_classes.proofs.Rising.{rows_are_joined, differ_from_none_shared}
-use Rattle.dj_classes.proofs.Shared.{duplicate_name, shared_moved, least_shared_moved, none_shared}
-use Rattle.dj_classes.proofs.table.ClassTable.of.Goals as goal
+use Rattle.dj_declarations.specs.Files.{bare_class}
+use Rattle.dj_class_table.specs.Tables.{IsLeastShared}
+use Rattle.dj_class_table.specs.ClassRows.{RiseStrictly, super_in, interfaces_in}
+use Rattle.dj_class_table.proofs.Rising.{rows_are_joined, differ_from_none_shared}
+use Rattle.dj_class_table.proofs.Shared.{duplicate_name, shared_moved, least_shared_moved, none_shared}
+use Rattle.dj_class_table.proofs.table.ClassTable.of.Goals as goal
 
 pub returns-in-Some-clause-refused : goal.returns-in-Some-clause-refused
 returns-in-Some-clause-refused c name e =

@@ -1,8 +1,8 @@
 use Rattle.std.proofs.Common.{◌≡◌, ◌∙◌, codes}
 use Rattle.clap.specs.Words.{found_of, rows_of, first_of}
 use Rattle.clap.proofs.WalkLemmas.{first_value-rows}
-use Rattle.dj_words.specs.Views.{text_given}
-use Rattle.dj_words.proofs.options.Options.of.Goals as goal
+use Rattle.dj_command_line.specs.Views.{text_given}
+use Rattle.dj_command_line.proofs.options.Options.of.Goals as goal
 
 pub returns : goal.returns
 returns c =

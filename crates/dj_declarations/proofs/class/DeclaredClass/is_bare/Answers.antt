@@ -1,8 +1,8 @@
 use Rattle.std.proofs.Common.{◌≡◌, refl, subst}
 use Rattle.dj_model.specs.trusted.Program.{Class}
-use Rattle.dj_declared.specs.Files.{bare_class}
-use Rattle.dj_declared.proofs.BareLaws.{bare_members}
-use Rattle.dj_declared.proofs.class.DeclaredClass.is_bare.Goals as goal
+use Rattle.dj_declarations.specs.Files.{bare_class}
+use Rattle.dj_declarations.proofs.BareLaws.{bare_members}
+use Rattle.dj_declarations.proofs.class.DeclaredClass.is_bare.Goals as goal
 
 pub returns : goal.returns
 returns c =

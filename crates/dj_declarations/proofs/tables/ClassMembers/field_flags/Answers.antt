@@ -1,5 +1,5 @@
-use Rattle.dj_declared.proofs.LookupLaws.{flags_of_field}
-use Rattle.dj_declared.proofs.tables.ClassMembers.field_flags.Goals as goal
+use Rattle.dj_declarations.proofs.LookupLaws.{flags_of_field}
+use Rattle.dj_declarations.proofs.tables.ClassMembers.field_flags.Goals as goal
 
 pub returns : goal.returns
 returns c =

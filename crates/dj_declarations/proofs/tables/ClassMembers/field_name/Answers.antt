@@ -1,7 +1,7 @@
-use Rattle.dj_declared.specs.MemberRows.{row_field}
-use Rattle.dj_declared.specs.Members.{field_name}
-use Rattle.dj_declared.proofs.CountLaws.{sound_at, reported_at}
-use Rattle.dj_declared.proofs.tables.ClassMembers.field_name.Goals as goal
+use Rattle.dj_declarations.specs.MemberRows.{row_field}
+use Rattle.dj_declarations.specs.Members.{field_name}
+use Rattle.dj_declarations.proofs.CountLaws.{sound_at, reported_at}
+use Rattle.dj_declarations.proofs.tables.ClassMembers.field_name.Goals as goal
 
 pub text-requires : goal.text-requires
 text-requires c =

@@ -1,6 +1,6 @@
-use Rattle.dj_declared.proofs.LookupLaws.{fields_found, field_placed}
-use Rattle.dj_declared.proofs.TextLaws.{leads_back}
-use Rattle.dj_declared.proofs.tables.ClassMembers.field_named.Goals as goal
+use Rattle.dj_declarations.proofs.LookupLaws.{fields_found, field_placed}
+use Rattle.dj_declarations.proofs.TextLaws.{leads_back}
+use Rattle.dj_declarations.proofs.tables.ClassMembers.field_named.Goals as goal
 
 pub returns-clause-found : goal.returns-clause-found
 returns-clause-found c =

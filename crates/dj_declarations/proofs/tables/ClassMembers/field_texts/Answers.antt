@@ -1,8 +1,8 @@
-use Rattle.dj_declared.specs.Named.{IsNamedBy}
-use Rattle.dj_declared.specs.MemberRows.{row_field}
-use Rattle.dj_declared.proofs.CountLaws.{sound_at, holds_at}
-use Rattle.dj_declared.proofs.LookupLaws.{named_by}
-use Rattle.dj_declared.proofs.tables.ClassMembers.field_texts.Goals as goal
+use Rattle.dj_declarations.specs.Named.{IsNamedBy}
+use Rattle.dj_declarations.specs.MemberRows.{row_field}
+use Rattle.dj_declarations.proofs.CountLaws.{sound_at, holds_at}
+use Rattle.dj_declarations.proofs.LookupLaws.{named_by}
+use Rattle.dj_declarations.proofs.tables.ClassMembers.field_texts.Goals as goal
 
 pub returns : goal.returns
 returns c =

@@ -1,7 +1,7 @@
 use Rattle.std.proofs.Common.{sym}
-use Rattle.dj_declared.proofs.LookupLaws.{any_named, none_named}
-use Rattle.dj_declared.proofs.TextLaws.{leads_back}
-use Rattle.dj_declared.proofs.tables.ClassMembers.has_method.Goals as goal
+use Rattle.dj_declarations.proofs.LookupLaws.{any_named, none_named}
+use Rattle.dj_declarations.proofs.TextLaws.{leads_back}
+use Rattle.dj_declarations.proofs.tables.ClassMembers.has_method.Goals as goal
 
 pub returns-in-Some : goal.returns-in-Some
 returns-in-Some c =

@@ -1,7 +1,7 @@
 use Rattle.std.proofs.Common.{ℕ, get_or, ap, ◌∙◌, arith}
 use Rattle.std.proofs.lemmas.List.{get_or_read}
-use Rattle.dj_declared.proofs.CountLaws.{all_counted}
-use Rattle.dj_declared.proofs.tables.ClassMembers.instance_fields.Goals as goal
+use Rattle.dj_declarations.proofs.CountLaws.{all_counted}
+use Rattle.dj_declarations.proofs.tables.ClassMembers.instance_fields.Goals as goal
 
 pub returns : goal.returns
 returns c =

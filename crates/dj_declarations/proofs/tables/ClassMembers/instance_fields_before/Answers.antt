@@ -2,10 +2,10 @@ use Rattle.std.proofs.Common.{◌≡◌, ℕ, ◌<◌, false, length, get_or, So
 use Rattle.std.specs.Prelude.{slice_get}
 use Rattle.std.proofs.lemmas.List.{get_or_read}
 use Rattle.dj_model.specs.trusted.Linking.{fields_before}
-use Rattle.dj_declared.specs.Tables.{fields_of}
-use Rattle.dj_declared.proofs.CountLaws.{first_within, first_there, fields_before_first}
-use Rattle.dj_declared.proofs.TextLaws.{leads_back}
-use Rattle.dj_declared.proofs.tables.ClassMembers.instance_fields_before.Goals as goal
+use Rattle.dj_declarations.specs.Tables.{fields_of}
+use Rattle.dj_declarations.proofs.CountLaws.{first_within, first_there, fields_before_first}
+use Rattle.dj_declarations.proofs.TextLaws.{leads_back}
+use Rattle.dj_declarations.proofs.tables.ClassMembers.instance_fields_before.Goals as goal
 
 pub index-requires : goal.index-requires
 index-requires c =

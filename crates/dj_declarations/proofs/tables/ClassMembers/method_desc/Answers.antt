@@ -1,7 +1,7 @@
 use Rattle.dj_names.specs.trusted.Descriptors.{Describes}
-use Rattle.dj_declared.specs.MemberRows.{row_method}
-use Rattle.dj_declared.proofs.CountLaws.{sound_at, holds_at, described}
-use Rattle.dj_declared.proofs.tables.ClassMembers.method_desc.Goals as goal
+use Rattle.dj_declarations.specs.MemberRows.{row_method}
+use Rattle.dj_declarations.proofs.CountLaws.{sound_at, holds_at, described}
+use Rattle.dj_declarations.proofs.tables.ClassMembers.method_desc.Goals as goal
 
 pub text-requires : goal.text-requires
 text-requires c =

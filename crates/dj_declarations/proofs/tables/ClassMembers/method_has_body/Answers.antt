@@ -1,10 +1,10 @@
 use Rattle.std.proofs.Common.{true, false, sym, ap, inl, inr}
 use Rattle.dj_model.specs.trusted.Linking.{has_body}
-use Rattle.dj_declared.specs.declared.members.MemberBody.{MemberBody}
-use Rattle.dj_declared.specs.MemberRows.{row_method, body_of}
-use Rattle.dj_declared.specs.Members.{method_has_body}
-use Rattle.dj_declared.proofs.CountLaws.{reported_at}
-use Rattle.dj_declared.proofs.tables.ClassMembers.method_has_body.Goals as goal
+use Rattle.dj_declarations.specs.declared.members.MemberBody.{MemberBody}
+use Rattle.dj_declarations.specs.MemberRows.{row_method, body_of}
+use Rattle.dj_declarations.specs.Members.{method_has_body}
+use Rattle.dj_declarations.proofs.CountLaws.{reported_at}
+use Rattle.dj_declarations.proofs.tables.ClassMembers.method_has_body.Goals as goal
 
 pub returns-in-Empty : goal.returns-in-Empty
 returns-in-Empty c =

@@ -1,9 +1,9 @@
 use Rattle.std.proofs.Common.{Some, None, sym, ap, inl, inr}
-use Rattle.dj_declared.specs.declared.members.MemberBody.{MemberBody}
-use Rattle.dj_declared.specs.MemberRows.{row_method, body_of}
-use Rattle.dj_declared.specs.Members.{native_in, method_native}
-use Rattle.dj_declared.proofs.CountLaws.{reported_at}
-use Rattle.dj_declared.proofs.tables.ClassMembers.method_native.Goals as goal
+use Rattle.dj_declarations.specs.declared.members.MemberBody.{MemberBody}
+use Rattle.dj_declarations.specs.MemberRows.{row_method, body_of}
+use Rattle.dj_declarations.specs.Members.{native_in, method_native}
+use Rattle.dj_declarations.proofs.CountLaws.{reported_at}
+use Rattle.dj_declarations.proofs.tables.ClassMembers.method_native.Goals as goal
 
 pub returns-in-Native : goal.returns-in-Native
 returns-in-Native c =

@@ -1,7 +1,7 @@
 use Rattle.std.proofs.Common.{◌≡◌, ◌<◌, List, ℕ, Some, length, sym, subst, arith}
-use Rattle.dj_declared.specs.Texts.{number_in, texts_from, AreBefore}
-use Rattle.dj_declared.proofs.TextLaws.{Holds, holds_same, holds_more, keep_more, reported_more, on_both}
-use Rattle.dj_declared.proofs.texts.TextTable.append.Goals as goal
+use Rattle.dj_declarations.specs.Texts.{number_in, texts_from, AreBefore}
+use Rattle.dj_declarations.proofs.TextLaws.{Holds, holds_same, holds_more, keep_more, reported_more, on_both}
+use Rattle.dj_declarations.proofs.texts.TextTable.append.Goals as goal
 
 pub invariant_of-self-inside : goal.invariant_of-self-inside
 invariant_of-self-inside c =

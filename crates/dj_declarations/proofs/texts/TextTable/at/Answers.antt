@@ -1,7 +1,7 @@
 use Rattle.std.proofs.Common.{◌<◌, List, ℕ, length, sym, ap, subst, arith}
-use Rattle.dj_declared.specs.Texts.{texts_from}
-use Rattle.dj_declared.proofs.TextLaws.{texts_long}
-use Rattle.dj_declared.proofs.texts.TextTable.at.Goals as goal
+use Rattle.dj_declarations.specs.Texts.{texts_from}
+use Rattle.dj_declarations.proofs.TextLaws.{texts_long}
+use Rattle.dj_declarations.proofs.texts.TextTable.at.Goals as goal
 
 pub text_at-requires-clause-within : goal.text_at-requires-clause-within
 text_at-requires-clause-within c =

@@ -1,7 +1,7 @@
 use Rattle.std.proofs.Common.{◌≡◌, List, ℕ, length, subst, arith}
-use Rattle.dj_declared.specs.Texts.{texts_from}
-use Rattle.dj_declared.proofs.TextLaws.{texts_long}
-use Rattle.dj_declared.proofs.texts.TextTable.count.Goals as goal
+use Rattle.dj_declarations.specs.Texts.{texts_from}
+use Rattle.dj_declarations.proofs.TextLaws.{texts_long}
+use Rattle.dj_declarations.proofs.texts.TextTable.count.Goals as goal
 
 pub returns : goal.returns
 returns c =

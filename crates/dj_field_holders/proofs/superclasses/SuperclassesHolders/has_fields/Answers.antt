@@ -1,7 +1,7 @@
 use Rattle.std.proofs.Common.{◌∙◌, length, ap, arith, inl, inr}
 use Rattle.dj_model.specs.trusted.Program.{Class}
-use Rattle.dj_standing.proofs.Holding.{array_reported, class_reported, counted}
-use Rattle.dj_standing.proofs.superclasses.SuperclassesHolders.has_fields.Goals as goal
+use Rattle.dj_field_holders.proofs.Holding.{array_reported, class_reported, counted}
+use Rattle.dj_field_holders.proofs.superclasses.SuperclassesHolders.has_fields.Goals as goal
 
 pub is_own_or_superclass-requires-clause-there : goal.is_own_or_superclass-requires-clause-there
 is_own_or_superclass-requires-clause-there c =

@@ -1,6 +1,6 @@
 use Rattle.std.proofs.Common.{◌≡◌, ap, ◌∙◌, subst}
-use Rattle.dj_types.specs.Links.{Linked}
-use Rattle.dj_types.proofs.Links.{DoNamesDiffer}
+use Rattle.dj_numbering.specs.Links.{Linked}
+use Rattle.dj_numbering.proofs.Links.{DoNamesDiffer}
 use Rattle.dj_image.proofs.Settled.{settled_like}
 use Rattle.dj_image.proofs.Standing.{stands}
 use Rattle.dj_image.proofs.image.Image.are_settled.Goals as goal

@@ -1,7 +1,7 @@
 use Rattle.std.proofs.Common.{◌≡◌, List, Option, Some, None, refl, sym, ap, ◌∙◌, subst}
 use Rattle.dj_names.specs.declared.native.NativeId.{NativeId}
 use Rattle.dj_program.specs.declared.code.MethodCode.{MethodCode}
-use Rattle.dj_types.specs.Members.{native_at}
+use Rattle.dj_numbering.specs.Members.{native_at}
 use Rattle.dj_image.specs.declared.image.Body as bodies
 use Rattle.dj_image.specs.declared.image.Body.TheVariants as variants
 use Rattle.dj_image.specs.declared.parts.ClassParts.{ClassParts}

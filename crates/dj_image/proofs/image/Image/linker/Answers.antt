@@ -1,7 +1,7 @@
 use Rattle.std.proofs.Common.{◌≡◌, map, ap, ◌∙◌, subst}
 use Rattle.dj_model.specs.trusted.Program.{Program}
-use Rattle.dj_declared.specs.Files.{bare_class}
-use Rattle.dj_types.specs.Links.{Linked}
+use Rattle.dj_declarations.specs.Files.{bare_class}
+use Rattle.dj_numbering.specs.Links.{Linked}
 use Rattle.dj_image.proofs.Standing.{stands, bare_linked}
 use Rattle.dj_image.proofs.image.Image.linker.Goals as goal
 

@@ -1,6 +1,6 @@
 use Rattle.std.proofs.Common.{◌≡◌, ℕ, List, Option, Some, None, sym, ap, ◌∙◌, subst}
 use Rattle.std.specs.Global.{Vec}
-use Rattle.dj_check.specs.trusted.Instructions.{index_of}
+use Rattle.dj_early_rules.specs.trusted.Instructions.{index_of}
 use Rattle.dj_image.specs.Codes.{IsNamedAt}
 use Rattle.dj_image.specs.Taken.{named_kept}
 use Rattle.dj_image.proofs.KeptPlaces.{instr_within, named_now}

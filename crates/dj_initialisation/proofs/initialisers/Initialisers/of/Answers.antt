@@ -1,8 +1,8 @@
 use Rattle.std.proofs.Common.{◌≤◌, length, arith, ap}
 use Rattle.dj_image.specs.Imaged.{program_of, typed_of}
-use Rattle.dj_initialising.proofs.Members.{types_longer}
-use Rattle.dj_initialising.proofs.InitialiserLaws.{so_far_more, so_far_all}
-use Rattle.dj_initialising.proofs.initialisers.Initialisers.of.Goals as goal
+use Rattle.dj_initialisation.proofs.Members.{types_longer}
+use Rattle.dj_initialisation.proofs.InitialiserLaws.{so_far_more, so_far_all}
+use Rattle.dj_initialisation.proofs.initialisers.Initialisers.of.Goals as goal
 
 pub loop-class-init : goal.loop-class-init
 loop-class-init c = record { count = ap length c.new-each.ensures.items; each_is = λ k below within. absurd (omega (arith, below)) }

@@ -1,8 +1,8 @@
 use Rattle.std.proofs.Common.{◌≤◌, length, arith}
 use Rattle.dj_image.specs.Imaged.{program_of, typed_of}
-use Rattle.dj_initialising.proofs.Members.{types_longer}
-use Rattle.dj_initialising.proofs.PlaceLaws.{classes_more, classes_all}
-use Rattle.dj_initialising.proofs.places.StaticPlaces.of.Goals as goal
+use Rattle.dj_initialisation.proofs.Members.{types_longer}
+use Rattle.dj_initialisation.proofs.PlaceLaws.{classes_more, classes_all}
+use Rattle.dj_initialisation.proofs.places.StaticPlaces.of.Goals as goal
 
 pub loop-class-preserved : goal.loop-class-preserved
 loop-class-preserved c =

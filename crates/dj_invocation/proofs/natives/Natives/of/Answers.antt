@@ -1,9 +1,9 @@
 use Rattle.std.proofs.Common.{arith}
 use Rattle.std.proofs.lemmas.Option.{slice_get_within}
-use Rattle.dj_types.specs.Members.{all_methods}
+use Rattle.dj_numbering.specs.Members.{all_methods}
 use Rattle.dj_image.specs.Imaged.{program_of}
-use Rattle.dj_invoking.proofs.NativeFacts.{rows_more, rows_long}
-use Rattle.dj_invoking.proofs.natives.Natives.of.Goals as goal
+use Rattle.dj_invocation.proofs.NativeFacts.{rows_more, rows_long}
+use Rattle.dj_invocation.proofs.natives.Natives.of.Goals as goal
 
 pub loop-number-preserved : goal.loop-number-preserved
 loop-number-preserved c = record {

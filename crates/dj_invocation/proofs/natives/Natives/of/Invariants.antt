@@ -3,10 +3,10 @@ use Rattle.dj_names.specs.declared.native.NativeId.{NativeId}
 use Rattle.dj_names.specs.trusted.Types.{parameters_of}
 use Rattle.dj_model.specs.trusted.Program.{Native}
 use Rattle.dj_model.specs.trusted.Linking.{FoundMethod}
-use Rattle.dj_types.specs.Members.{all_methods}
+use Rattle.dj_numbering.specs.Members.{all_methods}
 use Rattle.dj_image.specs.Imaged.{program_of, typed_of}
-use Rattle.dj_invoking.specs.Natives.{AreClasses, row_at}
-use Rattle.dj_invoking.proofs.natives.Natives.of.Given as goal
+use Rattle.dj_invocation.specs.Natives.{AreClasses, row_at}
+use Rattle.dj_invocation.proofs.natives.Natives.of.Given as goal
 
 -- those of the methods so far
 abbrev pub invariant-loop-number : goal.invariant-loop-number

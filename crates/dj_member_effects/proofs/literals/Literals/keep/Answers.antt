@@ -1,7 +1,7 @@
 use Rattle.std.proofs.Common.{◌≡◌, ◌<◌, ℕ, List, None, set, get_or, sym, subst}
-use Rattle.dj_members.specs.Literals.{LiteralTable, object_of, object_reported}
-use Rattle.dj_members.proofs.LiteralFacts.{keeps_reported}
-use Rattle.dj_members.proofs.literals.Literals.keep.Goals as goal
+use Rattle.dj_member_effects.specs.Literals.{LiteralTable, object_of, object_reported}
+use Rattle.dj_member_effects.proofs.LiteralFacts.{keeps_reported}
+use Rattle.dj_member_effects.proofs.literals.Literals.keep.Goals as goal
 
 pub invariant_of-self-inside-2 : goal.invariant_of-self-inside-2
 invariant_of-self-inside-2 c =

@@ -1,7 +1,7 @@
 use Rattle.std.proofs.Common.{◌≡◌, ℕ, List, get_or, sym, subst, None}
-use Rattle.dj_members.specs.Literals.{object_of, object_reported}
-use Rattle.dj_members.proofs.LiteralFacts.{none_made}
-use Rattle.dj_members.proofs.literals.Literals.new.Goals as goal
+use Rattle.dj_member_effects.specs.Literals.{object_of, object_reported}
+use Rattle.dj_member_effects.proofs.LiteralFacts.{none_made}
+use Rattle.dj_member_effects.proofs.literals.Literals.new.Goals as goal
 
 pub invariant_of-result : goal.invariant_of-result
 invariant_of-result c = (

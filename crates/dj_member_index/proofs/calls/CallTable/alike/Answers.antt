@@ -1,5 +1,5 @@
-use Rattle.dj_directory.proofs.CallLaws.{alike_reported}
-use Rattle.dj_directory.proofs.calls.CallTable.alike.Goals as goal
+use Rattle.dj_member_index.proofs.CallLaws.{alike_reported}
+use Rattle.dj_member_index.proofs.calls.CallTable.alike.Goals as goal
 
 pub returns : goal.returns
 returns c =

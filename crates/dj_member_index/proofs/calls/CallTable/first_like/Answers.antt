@@ -1,8 +1,8 @@
 use Rattle.std.proofs.Common.{ℕ, ◌<◌, length, ◌∙◌, subst, sym, arith}
 use Rattle.std.proofs.lemmas.List.{get_or_default}
-use Rattle.dj_directory.specs.Calls.{IsFirstLike}
-use Rattle.dj_directory.proofs.CallLaws.{all_placed, first_at}
-use Rattle.dj_directory.proofs.calls.CallTable.first_like.Goals as goal
+use Rattle.dj_member_index.specs.Calls.{IsFirstLike}
+use Rattle.dj_member_index.proofs.CallLaws.{all_placed, first_at}
+use Rattle.dj_member_index.proofs.calls.CallTable.first_like.Goals as goal
 
 pub unreachable-requires : goal.unreachable-requires
 unreachable-requires c = all_placed c.args.table.now c.args.self.now c.requires.table c.args.class c.args.member c.requires.there c.requires.within (c.index_of.ensures.none c.in-None.is)

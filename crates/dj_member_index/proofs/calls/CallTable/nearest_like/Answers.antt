@@ -1,5 +1,5 @@
-use Rattle.dj_directory.proofs.CallLaws.{marked_is, nearest_instance, nearest_plain}
-use Rattle.dj_directory.proofs.calls.CallTable.nearest_like.Goals as goal
+use Rattle.dj_member_index.proofs.CallLaws.{marked_is, nearest_instance, nearest_plain}
+use Rattle.dj_member_index.proofs.calls.CallTable.nearest_like.Goals as goal
 
 pub nearest-requires : goal.nearest-requires
 nearest-requires c = (marked_is c.args.table.now c.args.self.now c.requires c.in-Some.marked c.in-Some.is).instance_are.marks_are.order

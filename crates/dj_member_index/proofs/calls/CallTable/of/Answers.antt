@@ -3,11 +3,11 @@ use Rattle.std.specs.List.Sorted.{IsPermutation}
 use Rattle.std.proofs.lemmas.List.Sorted.{Contains-permutation}
 use Rattle.dj_model.specs.trusted.Program.{Program}
 use Rattle.dj_model.specs.trusted.Linking.{is_plain, is_not_static}
-use Rattle.dj_directory.specs.declared.rows.MemberRow.{MemberRow}
-use Rattle.dj_directory.specs.DirectoryRows.{AreInOrder}
-use Rattle.dj_directory.specs.Calls.{AreFirsts, AreMethods, AreTakable}
-use Rattle.dj_directory.proofs.CallLaws.{copied_places, in_copied, marked_items, places_fit}
-use Rattle.dj_directory.proofs.calls.CallTable.of.Goals as goal
+use Rattle.dj_member_index.specs.declared.rows.MemberRow.{MemberRow}
+use Rattle.dj_member_index.specs.DirectoryRows.{AreInOrder}
+use Rattle.dj_member_index.specs.Calls.{AreFirsts, AreMethods, AreTakable}
+use Rattle.dj_member_index.proofs.CallLaws.{copied_places, in_copied, marked_items, places_fit}
+use Rattle.dj_member_index.proofs.calls.CallTable.of.Goals as goal
 
 pub firsts_of-requires-clause-order : goal.firsts_of-requires-clause-order
 firsts_of-requires-clause-order c = subst AreInOrder (sym c.deref-6.ensures.value) c.into_methods-rows.ensures.are.methods_are.order

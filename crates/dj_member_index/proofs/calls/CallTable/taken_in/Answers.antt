@@ -1,5 +1,5 @@
-use Rattle.dj_directory.proofs.CallLaws.{taken_reported}
-use Rattle.dj_directory.proofs.calls.CallTable.taken_in.Goals as goal
+use Rattle.dj_member_index.proofs.CallLaws.{taken_reported}
+use Rattle.dj_member_index.proofs.calls.CallTable.taken_in.Goals as goal
 
 pub returns : goal.returns
 returns c =

@@ -1,10 +1,10 @@
 use Rattle.std.proofs.Common.{◌<◌, IfSome, List, length, sym, subst}
-use Rattle.dj_classes.specs.Tables.{fields_at}
-use Rattle.dj_directory.specs.declared.rows.MemberRow.{MemberRow}
-use Rattle.dj_directory.specs.Numberings.{Numbering}
-use Rattle.dj_directory.specs.DirectoryRows.{IsLeastOrNone}
-use Rattle.dj_directory.proofs.PlaceLaws.{IsFirstField, first_field, field_within}
-use Rattle.dj_directory.proofs.directory.Directory.field_in.Goals as goal
+use Rattle.dj_class_table.specs.Tables.{fields_at}
+use Rattle.dj_member_index.specs.declared.rows.MemberRow.{MemberRow}
+use Rattle.dj_member_index.specs.Numberings.{Numbering}
+use Rattle.dj_member_index.specs.DirectoryRows.{IsLeastOrNone}
+use Rattle.dj_member_index.proofs.PlaceLaws.{IsFirstField, first_field, field_within}
+use Rattle.dj_member_index.proofs.directory.Directory.field_in.Goals as goal
 
 pub returns-clause-first : goal.returns-clause-first
 returns-clause-first c =

@@ -1,13 +1,13 @@
 use Rattle.std.proofs.Common.{◌≡◌, ℕ, ◌<◌, List, Contains, Some, length, subst, sym}
 use Rattle.dj_names.specs.declared.descriptor.Desc.{Desc}
 use Rattle.dj_names.specs.trusted.Types.{Name}
-use Rattle.dj_declared.specs.Members.{field_place}
-use Rattle.dj_classes.specs.Tables.{fields_at}
-use Rattle.dj_directory.specs.declared.rows.MemberRow.{MemberRow}
-use Rattle.dj_directory.specs.Numberings.{Numbering, number_of}
-use Rattle.dj_directory.specs.DirectoryRows.{AreInOrder, IsRow, IsThere, RowsDiffer, fields_named}
-use Rattle.dj_directory.proofs.PlaceLaws.{first_field_there, field_row, field_there}
-use Rattle.dj_directory.proofs.directory.Directory.field_rows.Goals as goal
+use Rattle.dj_declarations.specs.Members.{field_place}
+use Rattle.dj_class_table.specs.Tables.{fields_at}
+use Rattle.dj_member_index.specs.declared.rows.MemberRow.{MemberRow}
+use Rattle.dj_member_index.specs.Numberings.{Numbering, number_of}
+use Rattle.dj_member_index.specs.DirectoryRows.{AreInOrder, IsRow, IsThere, RowsDiffer, fields_named}
+use Rattle.dj_member_index.proofs.PlaceLaws.{first_field_there, field_row, field_there}
+use Rattle.dj_member_index.proofs.directory.Directory.field_rows.Goals as goal
 
 pub returns-clause-there : goal.returns-clause-there
 returns-clause-there c =

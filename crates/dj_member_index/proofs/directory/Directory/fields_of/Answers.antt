@@ -1,12 +1,12 @@
 use Rattle.std.proofs.Common.{◌≡◌, ◌<◌, ℕ, List, Contains, Some, length, subst}
-use Rattle.dj_declared.specs.trusted.Files.{desc_in}
-use Rattle.dj_declared.specs.Members.{IsDescriptor}
-use Rattle.dj_directory.specs.declared.rows.MemberRow.{MemberRow}
-use Rattle.dj_directory.specs.Numberings.{DeclareFields, Numbering, number_of}
-use Rattle.dj_directory.specs.DirectoryRows.{AreRowsWith}
-use Rattle.dj_directory.proofs.FirstLaws.{classes_differ}
-use Rattle.dj_directory.proofs.PlaceLaws.{field_there, fields_declared}
-use Rattle.dj_directory.proofs.directory.Directory.fields_of.Goals as goal
+use Rattle.dj_declarations.specs.trusted.Files.{desc_in}
+use Rattle.dj_declarations.specs.Members.{IsDescriptor}
+use Rattle.dj_member_index.specs.declared.rows.MemberRow.{MemberRow}
+use Rattle.dj_member_index.specs.Numberings.{DeclareFields, Numbering, number_of}
+use Rattle.dj_member_index.specs.DirectoryRows.{AreRowsWith}
+use Rattle.dj_member_index.proofs.FirstLaws.{classes_differ}
+use Rattle.dj_member_index.proofs.PlaceLaws.{field_there, fields_declared}
+use Rattle.dj_member_index.proofs.directory.Directory.fields_of.Goals as goal
 
 pub returns-clause-there : goal.returns-clause-there
 returns-clause-there c =

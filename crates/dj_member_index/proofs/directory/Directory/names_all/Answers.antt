@@ -1,6 +1,6 @@
 use Rattle.std.proofs.Common.{subst}
-use Rattle.dj_directory.proofs.PlaceLaws.{NamesMethods, NamesFields, names_methods, names_fields}
-use Rattle.dj_directory.proofs.directory.Directory.names_all.Goals as goal
+use Rattle.dj_member_index.proofs.PlaceLaws.{NamesMethods, NamesFields, names_methods, names_fields}
+use Rattle.dj_member_index.proofs.directory.Directory.names_all.Goals as goal
 
 pub returns-clause-methods : goal.returns-clause-methods
 returns-clause-methods c =

@@ -1,7 +1,7 @@
 use Rattle.std.proofs.Common.{◌≡◌, sym, ◌∙◌, subst}
-use Rattle.dj_directory.specs.Numberings.{Numbering, number_of}
-use Rattle.dj_directory.proofs.NumberLaws.{number_is}
-use Rattle.dj_directory.proofs.directory.Directory.number.Goals as goal
+use Rattle.dj_member_index.specs.Numberings.{Numbering, number_of}
+use Rattle.dj_member_index.proofs.NumberLaws.{number_is}
+use Rattle.dj_member_index.proofs.directory.Directory.number.Goals as goal
 
 pub returns : goal.returns
 returns c =

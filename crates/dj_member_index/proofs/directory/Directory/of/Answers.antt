@@ -1,9 +1,9 @@
 use Rattle.std.proofs.Common.{◌≡◌, List, length, refl, sym, subst, arith}
-use Rattle.dj_directory.specs.declared.rows.MemberRow.{MemberRow}
-use Rattle.dj_directory.specs.DirectoryRows.{methods_named, fields_named, number_in, AreFirst, AreInOrder, AreSoFar}
-use Rattle.dj_directory.proofs.NumberLaws.{none_different}
-use Rattle.dj_directory.proofs.GatherLaws.{none_so_far, all_gathered}
-use Rattle.dj_directory.proofs.directory.Directory.of.Goals as goal
+use Rattle.dj_member_index.specs.declared.rows.MemberRow.{MemberRow}
+use Rattle.dj_member_index.specs.DirectoryRows.{methods_named, fields_named, number_in, AreFirst, AreInOrder, AreSoFar}
+use Rattle.dj_member_index.proofs.NumberLaws.{none_different}
+use Rattle.dj_member_index.proofs.GatherLaws.{none_so_far, all_gathered}
+use Rattle.dj_member_index.proofs.directory.Directory.of.Goals as goal
 
 pub loop-class-init : goal.loop-class-init
 loop-class-init c =

@@ -1,5 +1,5 @@
-use Rattle.dj_directory.specs.DirectoryRows.{IsGathering}
-use Rattle.dj_directory.proofs.directory.Directory.of.Given as goal
+use Rattle.dj_member_index.specs.DirectoryRows.{IsGathering}
+use Rattle.dj_member_index.proofs.directory.Directory.of.Given as goal
 
 -- what is gathered so far
 abbrev pub invariant-loop-class : goal.invariant-loop-class

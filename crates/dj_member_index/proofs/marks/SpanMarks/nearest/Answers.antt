@@ -1,7 +1,7 @@
 use Rattle.std.proofs.Common.{ℕ, List, Option, IfSome, sym, subst}
-use Rattle.dj_directory.specs.declared.rows.MemberRow.{MemberRow}
-use Rattle.dj_directory.specs.Spans.{AreNearest, IsNearestIn}
-use Rattle.dj_directory.proofs.marks.SpanMarks.nearest.Goals as goal
+use Rattle.dj_member_index.specs.declared.rows.MemberRow.{MemberRow}
+use Rattle.dj_member_index.specs.Spans.{AreNearest, IsNearestIn}
+use Rattle.dj_member_index.proofs.marks.SpanMarks.nearest.Goals as goal
 
 pub returns : goal.returns
 returns c spans each =

@@ -1,8 +1,8 @@
 use Rattle.std.proofs.Common.{ℕ, List, Option, IfSome, subst}
 use Rattle.std.specs.Global.{Vec}
-use Rattle.dj_directory.specs.declared.rows.MemberRow.{MemberRow}
-use Rattle.dj_directory.specs.Spans.{AreNearest}
-use Rattle.dj_directory.proofs.marks.SpanMarks.of.Goals as goal
+use Rattle.dj_member_index.specs.declared.rows.MemberRow.{MemberRow}
+use Rattle.dj_member_index.specs.Spans.{AreNearest}
+use Rattle.dj_member_index.proofs.marks.SpanMarks.of.Goals as goal
 
 pub returns : goal.returns
 returns c = record {

@@ -1,6 +1,6 @@
 use Rattle.std.proofs.Common.{ℕ, ◌<◌}
-use Rattle.dj_directory.specs.Spans.{IsNested}
-use Rattle.dj_directory.proofs.spans.Spans.are_nested.Given as goal
+use Rattle.dj_member_index.specs.Spans.{IsNested}
+use Rattle.dj_member_index.proofs.spans.Spans.are_nested.Given as goal
 
 -- those so far
 abbrev pub invariant-loop-class : goal.invariant-loop-class

@@ -1,8 +1,8 @@
 use Rattle.std.proofs.Common.{Some, sym, subst}
-use Rattle.dj_calls.specs.declared.accounter.Charged.TheVariants as charged
-use Rattle.dj_calls.specs.Counting.{Adds}
-use Rattle.dj_calls.proofs.Charges.{counter, adds_nothing, adds_fine, adds_over}
-use Rattle.dj_calls.proofs.accounter.Accounter.add.Goals as goal
+use Rattle.dj_natives.specs.declared.accounter.Charged.TheVariants as charged
+use Rattle.dj_natives.specs.Counting.{Adds}
+use Rattle.dj_natives.proofs.Charges.{counter, adds_nothing, adds_fine, adds_over}
+use Rattle.dj_natives.proofs.accounter.Accounter.add.Goals as goal
 
 pub returns-in_default : goal.returns-in_default
 returns-in_default c =

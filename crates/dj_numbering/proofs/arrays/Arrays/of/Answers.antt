@@ -1,10 +1,10 @@
 use Rattle.std.proofs.Common.{List, map, ap, ◌∙◌}
 use Rattle.dj_names.specs.trusted.Types.{Name}
-use Rattle.dj_types.specs.declared.shapes.Shape.{Shape}
-use Rattle.dj_types.specs.Shapes.{shape_type}
-use Rattle.dj_types.specs.Kept.{component_in, text_in}
-use Rattle.dj_types.proofs.Wholes.{kept_all}
-use Rattle.dj_types.proofs.arrays.Arrays.of.Goals as goal
+use Rattle.dj_numbering.specs.declared.shapes.Shape.{Shape}
+use Rattle.dj_numbering.specs.Shapes.{shape_type}
+use Rattle.dj_numbering.specs.Kept.{component_in, text_in}
+use Rattle.dj_numbering.proofs.Wholes.{kept_all}
+use Rattle.dj_numbering.proofs.arrays.Arrays.of.Goals as goal
 
 pub returns-clause-kept : goal.returns-clause-kept
 returns-clause-kept c =

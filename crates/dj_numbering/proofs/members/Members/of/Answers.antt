@@ -1,9 +1,9 @@
 use Rattle.std.proofs.Common.{ℕ, List, sym, subst, ◌∙◌}
-use Rattle.dj_types.specs.Members.{methods_in, fields_in}
-use Rattle.dj_types.specs.Numbered.{counts_of, AreMemberClasses, IsBegun}
-use Rattle.dj_types.proofs.Starts.{counted_begun}
-use Rattle.dj_types.proofs.Placed.{methods_counted, fields_counted}
-use Rattle.dj_types.proofs.members.Members.of.Goals as goal
+use Rattle.dj_numbering.specs.Members.{methods_in, fields_in}
+use Rattle.dj_numbering.specs.Numbered.{counts_of, AreMemberClasses, IsBegun}
+use Rattle.dj_numbering.proofs.Starts.{counted_begun}
+use Rattle.dj_numbering.proofs.Placed.{methods_counted, fields_counted}
+use Rattle.dj_numbering.proofs.members.Members.of.Goals as goal
 
 pub member_classes-requires-clause-begun : goal.member_classes-requires-clause-begun
 member_classes-requires-clause-begun c some =

@@ -1,8 +1,8 @@
 use Rattle.std.proofs.Common.{◌≡◌, ◌<◌, None, length, sym, ◌∙◌, ap, subst}
-use Rattle.dj_types.specs.Typed.{Typed, types_of, component_at}
-use Rattle.dj_types.specs.Kept.{types_kept}
-use Rattle.dj_types.proofs.Reported.{component_of_array, component_of_class}
-use Rattle.dj_types.proofs.types.Types.component.Goals as goal
+use Rattle.dj_numbering.specs.Typed.{Typed, types_of, component_at}
+use Rattle.dj_numbering.specs.Kept.{types_kept}
+use Rattle.dj_numbering.proofs.Reported.{component_of_array, component_of_class}
+use Rattle.dj_numbering.proofs.types.Types.component.Goals as goal
 
 pub returns-in_err-array : goal.returns-in_err-array
 returns-in_err-array c =

@@ -1,10 +1,10 @@
 use Rattle.std.proofs.Common.{ℕ, List, get_or, ap, subst, ◌∙◌}
 use Rattle.dj_model.specs.trusted.Program.{Program}
-use Rattle.dj_linking.proofs.Resolution.{DoNamesDiffer}
-use Rattle.dj_types.specs.Typed.{Typed}
-use Rattle.dj_types.specs.Numbered.{AreMembers}
-use Rattle.dj_types.proofs.Sums.{field_count_reported}
-use Rattle.dj_types.proofs.types.Types.field_count.Goals as goal
+use Rattle.dj_resolution.proofs.Resolution.{DoNamesDiffer}
+use Rattle.dj_numbering.specs.Typed.{Typed}
+use Rattle.dj_numbering.specs.Numbered.{AreMembers}
+use Rattle.dj_numbering.proofs.Sums.{field_count_reported}
+use Rattle.dj_numbering.proofs.types.Types.field_count.Goals as goal
 
 pub returns : goal.returns
 returns c =

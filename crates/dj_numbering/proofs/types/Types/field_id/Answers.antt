@@ -1,8 +1,8 @@
 use Rattle.std.proofs.Common.{subst, arith}
-use Rattle.dj_types.specs.Typed.{Typed}
-use Rattle.dj_types.specs.Numbered.{AreMembers}
-use Rattle.dj_types.proofs.Placed.{field_id_reported, field_starts_within}
-use Rattle.dj_types.proofs.types.Types.field_id.Goals as goal
+use Rattle.dj_numbering.specs.Typed.{Typed}
+use Rattle.dj_numbering.specs.Numbered.{AreMembers}
+use Rattle.dj_numbering.proofs.Placed.{field_id_reported, field_starts_within}
+use Rattle.dj_numbering.proofs.types.Types.field_id.Goals as goal
 
 pub index-requires : goal.index-requires
 index-requires c =

@@ -1,8 +1,8 @@
 use Rattle.std.proofs.Common.{ℕ, List, length, sym, ap, subst, arith}
-use Rattle.dj_types.specs.Typed.{Typed}
-use Rattle.dj_types.specs.Numbered.{AreMembers, AreMemberClasses, IsStartOf}
-use Rattle.dj_types.proofs.Placed.{IsPlaceOfField, place_of_field}
-use Rattle.dj_types.proofs.types.Types.field_place.Goals as goal
+use Rattle.dj_numbering.specs.Typed.{Typed}
+use Rattle.dj_numbering.specs.Numbered.{AreMembers, AreMemberClasses, IsStartOf}
+use Rattle.dj_numbering.proofs.Placed.{IsPlaceOfField, place_of_field}
+use Rattle.dj_numbering.proofs.types.Types.field_place.Goals as goal
 
 pub place_at-requires-clause-there : goal.place_at-requires-clause-there
 place_at-requires-clause-there c =

@@ -1,11 +1,11 @@
 use Rattle.std.proofs.Common.{ℕ, ◌+◌, ◌<◌, Some, length, sym, ap, subst, ◌∙◌, arith}
 use Rattle.std.proofs.lemmas.Option.{none-some, same_Some}
 use Rattle.dj_model.specs.trusted.Program.{Program}
-use Rattle.dj_classes.specs.Tables.{fields_at}
-use Rattle.dj_types.specs.Typed.{Typed}
-use Rattle.dj_types.specs.Members.{fields_before}
-use Rattle.dj_types.proofs.First.{first_field_reported, field_described}
-use Rattle.dj_types.proofs.types.Types.first_field.Goals as goal
+use Rattle.dj_class_table.specs.Tables.{fields_at}
+use Rattle.dj_numbering.specs.Typed.{Typed}
+use Rattle.dj_numbering.specs.Members.{fields_before}
+use Rattle.dj_numbering.proofs.First.{first_field_reported, field_described}
+use Rattle.dj_numbering.proofs.types.Types.first_field.Goals as goal
 
 abbrev program : Typed → Program
 program typed = typed.program

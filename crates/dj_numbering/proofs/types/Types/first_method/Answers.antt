@@ -1,12 +1,12 @@
 use Rattle.std.proofs.Common.{ℕ, ◌+◌, Some, sym, ap, subst, ◌∙◌, arith}
 use Rattle.std.proofs.lemmas.Option.{same_Some}
 use Rattle.dj_model.specs.trusted.Program.{Program}
-use Rattle.dj_linking.specs.Directories.{IsFirstLike}
-use Rattle.dj_linking.proofs.Resolution.{DoNamesDiffer}
-use Rattle.dj_types.specs.Typed.{Typed}
-use Rattle.dj_types.specs.Members.{methods_before}
-use Rattle.dj_types.proofs.First.{first_method_like}
-use Rattle.dj_types.proofs.types.Types.first_method.Goals as goal
+use Rattle.dj_resolution.specs.Directories.{IsFirstLike}
+use Rattle.dj_resolution.proofs.Resolution.{DoNamesDiffer}
+use Rattle.dj_numbering.specs.Typed.{Typed}
+use Rattle.dj_numbering.specs.Members.{methods_before}
+use Rattle.dj_numbering.proofs.First.{first_method_like}
+use Rattle.dj_numbering.proofs.types.Types.first_method.Goals as goal
 
 abbrev program : Typed → Program
 program typed = typed.program

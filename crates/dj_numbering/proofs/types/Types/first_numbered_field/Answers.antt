@@ -1,12 +1,12 @@
 use Rattle.std.proofs.Common.{ℕ, ◌+◌, Some, sym, ap, subst, ◌∙◌, arith}
 use Rattle.std.proofs.lemmas.Option.{none-some, same_Some}
 use Rattle.dj_model.specs.trusted.Program.{Program}
-use Rattle.dj_declared.specs.trusted.Files.{desc_in}
-use Rattle.dj_linking.proofs.Resolution.{DoNamesDiffer}
-use Rattle.dj_types.specs.Typed.{Typed}
-use Rattle.dj_types.specs.Members.{fields_before}
-use Rattle.dj_types.proofs.First.{first_field_named}
-use Rattle.dj_types.proofs.types.Types.first_numbered_field.Goals as goal
+use Rattle.dj_declarations.specs.trusted.Files.{desc_in}
+use Rattle.dj_resolution.proofs.Resolution.{DoNamesDiffer}
+use Rattle.dj_numbering.specs.Typed.{Typed}
+use Rattle.dj_numbering.specs.Members.{fields_before}
+use Rattle.dj_numbering.proofs.First.{first_field_named}
+use Rattle.dj_numbering.proofs.types.Types.first_numbered_field.Goals as goal
 
 abbrev program : Typed → Program
 program typed = typed.program

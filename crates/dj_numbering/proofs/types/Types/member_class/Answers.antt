@@ -1,11 +1,11 @@
 use Rattle.std.proofs.Common.{◌≡◌, length, ap, subst, ◌∙◌, arith}
 use Rattle.dj_model.specs.trusted.Types.{object_name}
 use Rattle.dj_model.specs.trusted.Program.{Program}
-use Rattle.dj_classes.specs.Tables.{class_number}
-use Rattle.dj_linking.proofs.Resolution.{DoNamesDiffer, object_within}
-use Rattle.dj_types.specs.Typed.{Typed, AreArrays}
-use Rattle.dj_types.proofs.Homes.{home_of_class, home_of_array}
-use Rattle.dj_types.proofs.types.Types.member_class.Goals as goal
+use Rattle.dj_class_table.specs.Tables.{class_number}
+use Rattle.dj_resolution.proofs.Resolution.{DoNamesDiffer, object_within}
+use Rattle.dj_numbering.specs.Typed.{Typed, AreArrays}
+use Rattle.dj_numbering.proofs.Homes.{home_of_class, home_of_array}
+use Rattle.dj_numbering.proofs.types.Types.member_class.Goals as goal
 
 pub returns-then-class-class_count-clause-is : goal.returns-then-class-class_count-clause-is
 returns-then-class-class_count-clause-is c =

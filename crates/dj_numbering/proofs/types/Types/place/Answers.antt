@@ -1,8 +1,8 @@
 use Rattle.std.proofs.Common.{Some, ap, subst, ◌∙◌, ◌<◌, length, arith}
 use Rattle.std.proofs.lemmas.List.{get_or_default}
-use Rattle.dj_types.specs.Typed.{Typed}
-use Rattle.dj_types.specs.Numbered.{AreObjectPlaces}
-use Rattle.dj_types.proofs.types.Types.place.Goals as goal
+use Rattle.dj_numbering.specs.Typed.{Typed}
+use Rattle.dj_numbering.specs.Numbered.{AreObjectPlaces}
+use Rattle.dj_numbering.proofs.types.Types.place.Goals as goal
 
 pub returns : goal.returns
 returns c =

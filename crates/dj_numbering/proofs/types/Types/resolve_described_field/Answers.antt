@@ -1,13 +1,13 @@
 use Rattle.std.proofs.Common.{◌≡◌, Some, None, sym, ap, subst, ◌∙◌}
 use Rattle.std.specs.Option.{option_map}
-use Rattle.dj_classes.specs.Tables.{field_there}
-use Rattle.dj_linking.specs.Linked.{resolved_field}
-use Rattle.dj_types.specs.Typed.{Typed}
-use Rattle.dj_types.specs.Members.{found_field_number, number_of_field}
-use Rattle.dj_types.proofs.First.{reported_is}
-use Rattle.dj_types.proofs.Homes.{field_resolved_in, no_field_resolved}
-use Rattle.dj_types.proofs.Placed.{field_bounds}
-use Rattle.dj_types.proofs.types.Types.resolve_described_field.Goals as goal
+use Rattle.dj_class_table.specs.Tables.{field_there}
+use Rattle.dj_resolution.specs.Linked.{resolved_field}
+use Rattle.dj_numbering.specs.Typed.{Typed}
+use Rattle.dj_numbering.specs.Members.{found_field_number, number_of_field}
+use Rattle.dj_numbering.proofs.First.{reported_is}
+use Rattle.dj_numbering.proofs.Homes.{field_resolved_in, no_field_resolved}
+use Rattle.dj_numbering.proofs.Placed.{field_bounds}
+use Rattle.dj_numbering.proofs.types.Types.resolve_described_field.Goals as goal
 
 pub returns-in_err-class : goal.returns-in_err-class
 returns-in_err-class c =

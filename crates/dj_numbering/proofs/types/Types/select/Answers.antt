@@ -2,15 +2,15 @@ use Rattle.std.proofs.Common.{◌≡◌, Some, None, ap, subst, ◌∙◌}
 use Rattle.std.specs.Option.{option_map}
 use Rattle.dj_names.specs.declared.descriptor.Ty.{Ty}
 use Rattle.dj_model.specs.trusted.Linking.{FoundMethod, member_class, select}
-use Rattle.dj_classes.specs.Tables.{class_number, method_there}
-use Rattle.dj_linking.specs.Numbers.{SaysMethod}
-use Rattle.dj_types.specs.Typed.{Typed, type_at}
-use Rattle.dj_types.specs.Members.{all_methods, selected, found_method_number, number_of_method}
-use Rattle.dj_types.proofs.First.{reported_is}
-use Rattle.dj_types.proofs.Homes.{selected_reported}
-use Rattle.dj_types.proofs.Placed.{method_bounds}
-use Rattle.dj_types.proofs.Starts.{some_there}
-use Rattle.dj_types.proofs.types.Types.select.Goals as goal
+use Rattle.dj_class_table.specs.Tables.{class_number, method_there}
+use Rattle.dj_resolution.specs.Numbers.{SaysMethod}
+use Rattle.dj_numbering.specs.Typed.{Typed, type_at}
+use Rattle.dj_numbering.specs.Members.{all_methods, selected, found_method_number, number_of_method}
+use Rattle.dj_numbering.proofs.First.{reported_is}
+use Rattle.dj_numbering.proofs.Homes.{selected_reported}
+use Rattle.dj_numbering.proofs.Placed.{method_bounds}
+use Rattle.dj_numbering.proofs.Starts.{some_there}
+use Rattle.dj_numbering.proofs.types.Types.select.Goals as goal
 
 pub first_method-requires-clause-there : goal.first_method-requires-clause-there
 first_method-requires-clause-there c =

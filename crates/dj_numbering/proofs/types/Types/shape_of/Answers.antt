@@ -1,9 +1,9 @@
 use Rattle.std.proofs.Common.{◌<◌, length, sym, ◌∙◌, ap, subst}
-use Rattle.dj_types.specs.declared.shapes.ElementType.TheVariants as elements
-use Rattle.dj_types.specs.Typed.{Typed, types_of}
-use Rattle.dj_types.specs.Kept.{types_kept}
-use Rattle.dj_types.proofs.Reported.{IsShapeAt, shape_of_array, shape_of_class}
-use Rattle.dj_types.proofs.types.Types.shape_of.Goals as goal
+use Rattle.dj_numbering.specs.declared.shapes.ElementType.TheVariants as elements
+use Rattle.dj_numbering.specs.Typed.{Typed, types_of}
+use Rattle.dj_numbering.specs.Kept.{types_kept}
+use Rattle.dj_numbering.proofs.Reported.{IsShapeAt, shape_of_array, shape_of_class}
+use Rattle.dj_numbering.proofs.types.Types.shape_of.Goals as goal
 
 array : (c : goal.After-result-1) → IsShapeAt c.args.self.now c.args.class c.index.result.now
 array c =

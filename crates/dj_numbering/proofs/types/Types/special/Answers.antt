@@ -1,16 +1,16 @@
 use Rattle.std.proofs.Common.{◌≡◌, Some, None, ap, subst, ◌∙◌}
 use Rattle.std.specs.Option.{option_map}
 use Rattle.dj_model.specs.trusted.Linking.{FoundMethod, special_method}
-use Rattle.dj_classes.specs.Tables.{method_there}
-use Rattle.dj_linking.specs.Linked.{class_name}
-use Rattle.dj_linking.specs.Numbers.{SaysMethod}
-use Rattle.dj_types.specs.Typed.{Typed}
-use Rattle.dj_types.specs.Members.{all_methods, special_of, found_method_number, number_of_method}
-use Rattle.dj_types.proofs.First.{reported_is}
-use Rattle.dj_types.proofs.Homes.{special_reported}
-use Rattle.dj_types.proofs.Placed.{method_bounds}
-use Rattle.dj_types.proofs.Starts.{some_there}
-use Rattle.dj_types.proofs.types.Types.special.Goals as goal
+use Rattle.dj_class_table.specs.Tables.{method_there}
+use Rattle.dj_resolution.specs.Linked.{class_name}
+use Rattle.dj_resolution.specs.Numbers.{SaysMethod}
+use Rattle.dj_numbering.specs.Typed.{Typed}
+use Rattle.dj_numbering.specs.Members.{all_methods, special_of, found_method_number, number_of_method}
+use Rattle.dj_numbering.proofs.First.{reported_is}
+use Rattle.dj_numbering.proofs.Homes.{special_reported}
+use Rattle.dj_numbering.proofs.Placed.{method_bounds}
+use Rattle.dj_numbering.proofs.Starts.{some_there}
+use Rattle.dj_numbering.proofs.types.Types.special.Goals as goal
 
 pub first_method-requires-clause-there : goal.first_method-requires-clause-there
 first_method-requires-clause-there c =

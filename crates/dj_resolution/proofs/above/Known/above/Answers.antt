@@ -2,12 +2,12 @@ use Rattle.std.proofs.Common.{◌≡◌, ◌<◌, ◌≤◌, ℕ, List, [], leng
 use Rattle.std.specs.Global.{Vec}
 use Rattle.std.proofs.lemmas.List.{length-map}
 use Rattle.dj_model.specs.trusted.Program.{interfaces_of}
-use Rattle.dj_classes.specs.Tables.{interface_numbers}
-use Rattle.dj_linking.specs.Bits.{words_for}
-use Rattle.dj_linking.specs.Numbers.{AreBelow, lists_of}
-use Rattle.dj_linking.proofs.Knowing.{gathered_none, gathered_row, gathered_all, gathered_enough, known_below}
-use Rattle.dj_linking.proofs.Marks.{found_below, numbers_below}
-use Rattle.dj_linking.proofs.above.Known.above.Goals as goal
+use Rattle.dj_class_table.specs.Tables.{interface_numbers}
+use Rattle.dj_resolution.specs.Bits.{words_for}
+use Rattle.dj_resolution.specs.Numbers.{AreBelow, lists_of}
+use Rattle.dj_resolution.proofs.Knowing.{gathered_none, gathered_row, gathered_all, gathered_enough, known_below}
+use Rattle.dj_resolution.proofs.Marks.{found_below, numbers_below}
+use Rattle.dj_resolution.proofs.above.Known.above.Goals as goal
 
 pub loop-listed-init : goal.loop-listed-init
 loop-listed-init c =

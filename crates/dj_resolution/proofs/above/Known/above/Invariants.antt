@@ -1,5 +1,5 @@
-use Rattle.dj_linking.proofs.Knowing.{IsGathered}
-use Rattle.dj_linking.proofs.above.Known.above.Given as goal
+use Rattle.dj_resolution.proofs.Knowing.{IsGathered}
+use Rattle.dj_resolution.proofs.above.Known.above.Given as goal
 
 -- those that the class lists so far, with those above them
 abbrev pub invariant-loop-listed : goal.invariant-loop-listed

@@ -1,8 +1,8 @@
 use Rattle.std.proofs.Common.{◌<◌, length, sym, ◌∙◌, arith}
-use Rattle.dj_linking.specs.Numbers.{lists_of}
-use Rattle.dj_linking.proofs.Bits.{alone_new, below_words, bits_row}
-use Rattle.dj_linking.proofs.Marks.{listed_row_below, mark_at}
-use Rattle.dj_linking.proofs.above.Known.add_above.Goals as goal
+use Rattle.dj_resolution.specs.Numbers.{lists_of}
+use Rattle.dj_resolution.proofs.Bits.{alone_new, below_words, bits_row}
+use Rattle.dj_resolution.proofs.Marks.{listed_row_below, mark_at}
+use Rattle.dj_resolution.proofs.above.Known.add_above.Goals as goal
 
 pub returns-then-has_all-clause-list : goal.returns-then-has_all-clause-list
 returns-then-has_all-clause-list c =

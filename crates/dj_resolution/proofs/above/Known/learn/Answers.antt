@@ -1,8 +1,8 @@
 use Rattle.std.proofs.Common.{◌<◌, length, sym, ◌∙◌, arith}
-use Rattle.dj_linking.proofs.Bits.{bits_learnt}
-use Rattle.dj_linking.proofs.Knowing.{known_learnt}
-use Rattle.dj_linking.proofs.Marks.{mark_at}
-use Rattle.dj_linking.proofs.above.Known.learn.Goals as goal
+use Rattle.dj_resolution.proofs.Bits.{bits_learnt}
+use Rattle.dj_resolution.proofs.Knowing.{known_learnt}
+use Rattle.dj_resolution.proofs.Marks.{mark_at}
+use Rattle.dj_resolution.proofs.above.Known.learn.Goals as goal
 
 pub returns-in_ok-list-clause-known : goal.returns-in_ok-list-clause-known
 returns-in_ok-list-clause-known c =

@@ -1,8 +1,8 @@
 use Rattle.std.proofs.Common.{◌++◌, ◌∷◌, [], ℕ, List, Some, set, length, get_or, sym, ◌∙◌, ap, arith}
-use Rattle.dj_linking.specs.Numbers.{first_places, lists_of, with_all}
-use Rattle.dj_linking.specs.Chained.{row_at}
-use Rattle.dj_linking.proofs.Chained.{below_is, first_put, learnt_ok, not_yet, row_is, rows_count}
-use Rattle.dj_linking.proofs.chains.Chains.learn.Goals as goal
+use Rattle.dj_resolution.specs.Numbers.{first_places, lists_of, with_all}
+use Rattle.dj_resolution.specs.Chained.{row_at}
+use Rattle.dj_resolution.proofs.Chained.{below_is, first_put, learnt_ok, not_yet, row_is, rows_count}
+use Rattle.dj_resolution.proofs.chains.Chains.learn.Goals as goal
 
 pub joined-requires-clause-row : goal.joined-requires-clause-row
 joined-requires-clause-row c =

@@ -1,8 +1,8 @@
 use Rattle.std.proofs.Common.{◌++◌, ◌∷◌, [], ℕ, List, set, Some, length, get_or, sym, ◌∙◌, ap, arith}
-use Rattle.dj_linking.specs.Numbers.{first_places, lists_of, with_all}
-use Rattle.dj_linking.specs.Chained.{once_up, row_at}
-use Rattle.dj_linking.proofs.Chained.{below_is, learnt_ok, list_is, next_place, next_within, nothing_in, place_reported, place_within, put_below, row_is, rows_below, rows_count, shared_below}
-use Rattle.dj_linking.proofs.chains.Chains.learn_below.Goals as goal
+use Rattle.dj_resolution.specs.Numbers.{first_places, lists_of, with_all}
+use Rattle.dj_resolution.specs.Chained.{once_up, row_at}
+use Rattle.dj_resolution.proofs.Chained.{below_is, learnt_ok, list_is, next_place, next_within, nothing_in, place_reported, place_within, put_below, row_is, rows_below, rows_count, shared_below}
+use Rattle.dj_resolution.proofs.chains.Chains.learn_below.Goals as goal
 
 pub index-requires : goal.index-requires
 index-requires c = let lt = next_place c.args.table.now c.args.self.now.places.items c.args.class c.args.next c.requires.learnt.chained.count c.requires.next in omega (arith, lt)

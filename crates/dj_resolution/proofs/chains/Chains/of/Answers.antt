@@ -1,9 +1,9 @@
 use Rattle.std.proofs.Common.{get_or}
-use Rattle.dj_linking.specs.Numbers.{lists_of}
-use Rattle.dj_linking.specs.Chained.{row_at}
-use Rattle.dj_linking.proofs.Chained.{learnt_none}
-use Rattle.dj_linking.proofs.Finding.{has_at}
-use Rattle.dj_linking.proofs.chains.Chains.of.Goals as goal
+use Rattle.dj_resolution.specs.Numbers.{lists_of}
+use Rattle.dj_resolution.specs.Chained.{row_at}
+use Rattle.dj_resolution.proofs.Chained.{learnt_none}
+use Rattle.dj_resolution.proofs.Finding.{has_at}
+use Rattle.dj_resolution.proofs.chains.Chains.of.Goals as goal
 
 pub loop-class-init : goal.loop-class-init
 loop-class-init c =

@@ -1,6 +1,6 @@
-use Rattle.dj_linking.specs.Numbers.{lists_of}
-use Rattle.dj_linking.specs.Chained.{AreLearnt, row_at}
-use Rattle.dj_linking.proofs.chains.Chains.of.Given as goal
+use Rattle.dj_resolution.specs.Numbers.{lists_of}
+use Rattle.dj_resolution.specs.Chained.{AreLearnt, row_at}
+use Rattle.dj_resolution.proofs.chains.Chains.of.Given as goal
 
 -- what is known so far
 abbrev pub invariant-loop-class : goal.invariant-loop-class

@@ -1,7 +1,7 @@
 use Rattle.std.proofs.Common.{arith}
-use Rattle.dj_linking.proofs.Bits.{bits_left_out, bits_put}
-use Rattle.dj_linking.proofs.chains.Chains.put.Goals as goal
-use Rattle.dj_linking.proofs.chains.Chains.put.Goals.{then-place-len, else-place-len}
+use Rattle.dj_resolution.proofs.Bits.{bits_left_out, bits_put}
+use Rattle.dj_resolution.proofs.chains.Chains.put.Goals as goal
+use Rattle.dj_resolution.proofs.chains.Chains.put.Goals.{then-place-len, else-place-len}
 
 pub invariant_of-self-2 : goal.invariant_of-self-2
 invariant_of-self-2 c =

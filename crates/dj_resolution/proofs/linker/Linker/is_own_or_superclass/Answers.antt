@@ -1,8 +1,8 @@
 use Rattle.std.proofs.Common.{◌≡◌, ◌<◌, length, sym, ◌∙◌, subst}
 use Rattle.dj_model.specs.trusted.Linking.{chain, is_among}
-use Rattle.dj_linking.specs.Linked.{Linked, class_name}
-use Rattle.dj_linking.proofs.Subclasses.{chain_numbers}
-use Rattle.dj_linking.proofs.linker.Linker.is_own_or_superclass.Goals as goal
+use Rattle.dj_resolution.specs.Linked.{Linked, class_name}
+use Rattle.dj_resolution.proofs.Subclasses.{chain_numbers}
+use Rattle.dj_resolution.proofs.linker.Linker.is_own_or_superclass.Goals as goal
 
 pub is_own_or_superclass-requires-clause-there : goal.is_own_or_superclass-requires-clause-there
 is_own_or_superclass-requires-clause-there c = subst (λ (linked : Linked). c.args.class < length linked.program) (sym c.self.view_is) c.requires.there

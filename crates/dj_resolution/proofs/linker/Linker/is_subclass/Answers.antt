@@ -1,10 +1,10 @@
 use Rattle.std.proofs.Common.{◌≡◌, ◌<◌, List, ℕ, length, sym, ◌∙◌, subst}
 use Rattle.std.specs.Global.{Vec}
 use Rattle.dj_model.specs.trusted.Linking.{is_subclass}
-use Rattle.dj_linking.specs.Linked.{Linked, class_name}
-use Rattle.dj_linking.specs.Numbers.{AreAbove, lists_of}
-use Rattle.dj_linking.proofs.Subclasses.{subclass_numbers}
-use Rattle.dj_linking.proofs.linker.Linker.is_subclass.Goals as goal
+use Rattle.dj_resolution.specs.Linked.{Linked, class_name}
+use Rattle.dj_resolution.specs.Numbers.{AreAbove, lists_of}
+use Rattle.dj_resolution.proofs.Subclasses.{subclass_numbers}
+use Rattle.dj_resolution.proofs.linker.Linker.is_subclass.Goals as goal
 
 pub is_above-requires-clause-there : goal.is_above-requires-clause-there
 is_above-requires-clause-there c = subst (λ (linked : Linked). c.args.class < length linked.program) (sym c.self.view_is) c.requires.there

@@ -1,11 +1,11 @@
 use Rattle.std.proofs.Common.{◌≡◌, ◌<◌, ℕ, List, Some, length, sym, ◌∙◌, ap, subst}
 use Rattle.std.specs.Global.{Vec}
 use Rattle.std.specs.Option.{option_map}
-use Rattle.dj_classes.specs.Tables.{field_there}
-use Rattle.dj_linking.specs.Linked.{Linked, prefix_of, resolved_field}
-use Rattle.dj_linking.specs.Numbers.{AreAbove, lists_of}
-use Rattle.dj_linking.proofs.Resolution.{field_resolved}
-use Rattle.dj_linking.proofs.linker.Linker.resolve_field.Goals as goal
+use Rattle.dj_class_table.specs.Tables.{field_there}
+use Rattle.dj_resolution.specs.Linked.{Linked, prefix_of, resolved_field}
+use Rattle.dj_resolution.specs.Numbers.{AreAbove, lists_of}
+use Rattle.dj_resolution.proofs.Resolution.{field_resolved}
+use Rattle.dj_resolution.proofs.linker.Linker.resolve_field.Goals as goal
 
 pub field_up-requires-clause-there : goal.field_up-requires-clause-there
 field_up-requires-clause-there c = subst (λ (linked : Linked). c.args.class < length linked.program) (sym c.self.view_is) c.requires.there

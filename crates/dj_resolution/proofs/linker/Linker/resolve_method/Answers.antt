@@ -1,12 +1,12 @@
 use Rattle.std.proofs.Common.{◌≡◌, ◌<◌, ℕ, List, Some, length, sym, subst}
 use Rattle.std.specs.Global.{Vec}
 use Rattle.std.specs.Option.{option_map}
-use Rattle.dj_classes.specs.Tables.{method_there}
+use Rattle.dj_class_table.specs.Tables.{method_there}
 use Rattle.dj_model.specs.trusted.Types.{object_name}
-use Rattle.dj_linking.specs.Linked.{Linked, prefix_of, resolved_method}
-use Rattle.dj_linking.specs.Numbers.{AreAbove, lists_of}
-use Rattle.dj_linking.proofs.Resolution.{method_here, method_above, object_within}
-use Rattle.dj_linking.proofs.linker.Linker.resolve_method.Goals as goal
+use Rattle.dj_resolution.specs.Linked.{Linked, prefix_of, resolved_method}
+use Rattle.dj_resolution.specs.Numbers.{AreAbove, lists_of}
+use Rattle.dj_resolution.proofs.Resolution.{method_here, method_above, object_within}
+use Rattle.dj_resolution.proofs.linker.Linker.resolve_method.Goals as goal
 
 pub method_first-requires-clause-object : goal.method_first-requires-clause-object
 method_first-requires-clause-object c = object_within c.self.inside.table (object_name (prefix_of c.self.inside.base)) c.self.inside.object c.self.inside.named

@@ -2,15 +2,15 @@ use Rattle.std.proofs.Common.{◌≡◌, ◌<◌, ℕ, List, Some, length, sym, 
 use Rattle.std.specs.Global.{Vec}
 use Rattle.std.specs.Option.{option_map}
 use Rattle.dj_model.specs.trusted.Program.{Program}
-use Rattle.dj_declared.specs.trusted.Files.{desc_in}
-use Rattle.dj_classes.specs.Tables.{field_there}
-use Rattle.dj_linking.specs.Linked.{Linked, prefix_of, resolved_field}
-use Rattle.dj_linking.specs.Chained.{AreFieldChains}
-use Rattle.dj_linking.specs.Numbers.{AreAbove, lists_of}
-use Rattle.dj_linking.specs.Shared.{HaveFieldMarks}
-use Rattle.dj_linking.proofs.Numbered.{FieldSays}
-use Rattle.dj_linking.proofs.Resolution.{field_resolved}
-use Rattle.dj_linking.proofs.linker.Linker.resolve_numbered_field.Goals as goal
+use Rattle.dj_declarations.specs.trusted.Files.{desc_in}
+use Rattle.dj_class_table.specs.Tables.{field_there}
+use Rattle.dj_resolution.specs.Linked.{Linked, prefix_of, resolved_field}
+use Rattle.dj_resolution.specs.Chained.{AreFieldChains}
+use Rattle.dj_resolution.specs.Numbers.{AreAbove, lists_of}
+use Rattle.dj_resolution.specs.Shared.{HaveFieldMarks}
+use Rattle.dj_resolution.proofs.Numbered.{FieldSays}
+use Rattle.dj_resolution.proofs.Resolution.{field_resolved}
+use Rattle.dj_resolution.proofs.linker.Linker.resolve_numbered_field.Goals as goal
 
 pub field_up-requires-clause-there : goal.field_up-requires-clause-there
 field_up-requires-clause-there c = subst (λ (p : Program). c.args.class < length p) (sym c.requires.same) c.requires.there

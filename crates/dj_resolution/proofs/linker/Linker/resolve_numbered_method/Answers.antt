@@ -3,16 +3,16 @@ use Rattle.std.specs.Global.{Vec}
 use Rattle.std.specs.Option.{option_map}
 use Rattle.dj_model.specs.trusted.Program.{Program}
 use Rattle.dj_model.specs.trusted.Types.{object_name}
-use Rattle.dj_declared.specs.trusted.Files.{desc_in}
-use Rattle.dj_classes.specs.Tables.{method_there}
-use Rattle.dj_linking.specs.Linked.{Linked, prefix_of, resolved_method}
-use Rattle.dj_linking.specs.Chained.{AreMethodChains}
-use Rattle.dj_linking.specs.Numbers.{AreAbove, lists_of}
-use Rattle.dj_linking.specs.Ranked.{AreRanksOf}
-use Rattle.dj_linking.specs.Shared.{HavePlainMarks, HaveRankMarks}
-use Rattle.dj_linking.proofs.Numbered.{FirstSays, AboveSays}
-use Rattle.dj_linking.proofs.Resolution.{method_here, method_above, object_within}
-use Rattle.dj_linking.proofs.linker.Linker.resolve_numbered_method.Goals as goal
+use Rattle.dj_declarations.specs.trusted.Files.{desc_in}
+use Rattle.dj_class_table.specs.Tables.{method_there}
+use Rattle.dj_resolution.specs.Linked.{Linked, prefix_of, resolved_method}
+use Rattle.dj_resolution.specs.Chained.{AreMethodChains}
+use Rattle.dj_resolution.specs.Numbers.{AreAbove, lists_of}
+use Rattle.dj_resolution.specs.Ranked.{AreRanksOf}
+use Rattle.dj_resolution.specs.Shared.{HavePlainMarks, HaveRankMarks}
+use Rattle.dj_resolution.proofs.Numbered.{FirstSays, AboveSays}
+use Rattle.dj_resolution.proofs.Resolution.{method_here, method_above, object_within}
+use Rattle.dj_resolution.proofs.linker.Linker.resolve_numbered_method.Goals as goal
 
 pub method_first-requires-clause-object : goal.method_first-requires-clause-object
 method_first-requires-clause-object c =

@@ -1,11 +1,11 @@
 use Rattle.std.proofs.Common.{◌≡◌, ◌<◌, ℕ, Option, Some, IfSome, length, sym, ap, subst}
 use Rattle.dj_names.specs.declared.descriptor.Ty.{Ty}
 use Rattle.dj_model.specs.trusted.Linking.{FoundMethod, member_class, select}
-use Rattle.dj_classes.specs.Tables.{class_number, methods_at, method_there}
-use Rattle.dj_linking.specs.Linked.{Linked, prefix_of}
-use Rattle.dj_linking.specs.Numbers.{SaysMethod}
-use Rattle.dj_linking.proofs.Selections.{select_numbers}
-use Rattle.dj_linking.proofs.linker.Linker.select.Goals as goal
+use Rattle.dj_class_table.specs.Tables.{class_number, methods_at, method_there}
+use Rattle.dj_resolution.specs.Linked.{Linked, prefix_of}
+use Rattle.dj_resolution.specs.Numbers.{SaysMethod}
+use Rattle.dj_resolution.proofs.Selections.{select_numbers}
+use Rattle.dj_resolution.proofs.linker.Linker.select.Goals as goal
 
 pub selected_method-requires-clause-there : goal.selected_method-requires-clause-there
 selected_method-requires-clause-there c = subst (λ (linked : Linked). c.args.resolved.class < length linked.program) (sym c.self.view_is) c.requires.there

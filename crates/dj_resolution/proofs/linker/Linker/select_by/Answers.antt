@@ -1,12 +1,12 @@
 use Rattle.std.proofs.Common.{◌≡◌, ◌<◌, ℕ, Option, Some, IfSome, length, sym, ap, subst}
 use Rattle.dj_names.specs.declared.descriptor.Ty.{Ty}
 use Rattle.dj_model.specs.trusted.Linking.{FoundMethod, member_class, select}
-use Rattle.dj_classes.specs.Tables.{class_number, methods_at, method_there}
-use Rattle.dj_directory.specs.Calls.{IsCallTable}
-use Rattle.dj_linking.specs.Linked.{Linked, prefix_of}
-use Rattle.dj_linking.specs.Numbers.{SaysMethod}
-use Rattle.dj_linking.proofs.Selections.{select_numbers}
-use Rattle.dj_linking.proofs.linker.Linker.select_by.Goals as goal
+use Rattle.dj_class_table.specs.Tables.{class_number, methods_at, method_there}
+use Rattle.dj_member_index.specs.Calls.{IsCallTable}
+use Rattle.dj_resolution.specs.Linked.{Linked, prefix_of}
+use Rattle.dj_resolution.specs.Numbers.{SaysMethod}
+use Rattle.dj_resolution.proofs.Selections.{select_numbers}
+use Rattle.dj_resolution.proofs.linker.Linker.select_by.Goals as goal
 
 pub selected_by-requires-clause-there : goal.selected_by-requires-clause-there
 selected_by-requires-clause-there c = subst (λ (linked : Linked). c.args.resolved.class < length linked.program) (sym c.self.view_is) c.requires.there

@@ -3,15 +3,15 @@ use Rattle.std.specs.Option.{option_map}
 use Rattle.dj_names.specs.trusted.Types.{Name, same_name}
 use Rattle.dj_model.specs.trusted.Types.{constructor_name}
 use Rattle.dj_model.specs.trusted.Linking.{FoundMethod, special_method}
-use Rattle.dj_declared.specs.Members.{method_name}
-use Rattle.dj_classes.specs.Tables.{methods_at, method_there}
-use Rattle.dj_directory.specs.Calls.{IsCallTable}
-use Rattle.dj_linking.specs.Linked.{Linked, class_name}
-use Rattle.dj_linking.specs.Numbers.{SaysMethod}
-use Rattle.dj_linking.proofs.Selections.{own}
-use Rattle.dj_linking.proofs.Specials.{taken_above, taken_itself, is_false, is_true}
-use Rattle.dj_linking.proofs.linker.Linker.special_by.Goals as goal
-use Rattle.dj_linking.proofs.linker.Linker.special_by.Goals.{else-ne-via-then-ne+else-is_superclass, else-ne-via-else-ne}
+use Rattle.dj_declarations.specs.Members.{method_name}
+use Rattle.dj_class_table.specs.Tables.{methods_at, method_there}
+use Rattle.dj_member_index.specs.Calls.{IsCallTable}
+use Rattle.dj_resolution.specs.Linked.{Linked, class_name}
+use Rattle.dj_resolution.specs.Numbers.{SaysMethod}
+use Rattle.dj_resolution.proofs.Selections.{own}
+use Rattle.dj_resolution.proofs.Specials.{taken_above, taken_itself, is_false, is_true}
+use Rattle.dj_resolution.proofs.linker.Linker.special_by.Goals as goal
+use Rattle.dj_resolution.proofs.linker.Linker.special_by.Goals.{else-ne-via-then-ne+else-is_superclass, else-ne-via-else-ne}
 
 pub method_name-name-requires-clause-there : goal.method_name-name-requires-clause-there
 method_name-name-requires-clause-there c = subst (λ (linked : Linked). c.args.resolved.class < length linked.program) (sym c.self.view_is) c.requires.declared

@@ -2,13 +2,13 @@ use Rattle.std.proofs.Common.{◌≡◌, ◌<◌, List, ℕ, true, false, Some, 
 use Rattle.std.specs.Option.{option_map}
 use Rattle.dj_names.specs.trusted.Types.{same_name}
 use Rattle.dj_model.specs.trusted.Linking.{FoundMethod, special_method}
-use Rattle.dj_declared.specs.trusted.Files.{desc_in}
-use Rattle.dj_classes.specs.Tables.{method_there}
-use Rattle.dj_linking.specs.Linked.{Linked, class_name}
-use Rattle.dj_linking.specs.Numbers.{IsNamed, SaysMethod}
-use Rattle.dj_linking.proofs.Specials.{taken_above, taken_itself, is_false, is_true}
-use Rattle.dj_linking.proofs.linker.Linker.special_method.Goals as goal
-use Rattle.dj_linking.proofs.linker.Linker.special_method.Goals.{else-ne-via-then-ne+else-is_superclass, else-ne-via-else-ne}
+use Rattle.dj_declarations.specs.trusted.Files.{desc_in}
+use Rattle.dj_class_table.specs.Tables.{method_there}
+use Rattle.dj_resolution.specs.Linked.{Linked, class_name}
+use Rattle.dj_resolution.specs.Numbers.{IsNamed, SaysMethod}
+use Rattle.dj_resolution.proofs.Specials.{taken_above, taken_itself, is_false, is_true}
+use Rattle.dj_resolution.proofs.linker.Linker.special_method.Goals as goal
+use Rattle.dj_resolution.proofs.linker.Linker.special_method.Goals.{else-ne-via-then-ne+else-is_superclass, else-ne-via-else-ne}
 
 pub instance_method_above-requires-clause-there : goal.instance_method_above-requires-clause-there
 instance_method_above-requires-clause-there c = subst (λ (linked : Linked). c.args.class < length linked.program) (sym c.self.view_is) c.requires.there

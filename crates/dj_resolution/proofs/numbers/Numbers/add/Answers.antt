@@ -1,9 +1,9 @@
 use Rattle.std.proofs.Common.{◌≡◌, ℕ, true, List, length, nat_eq, sym, ◌∙◌, subst, if◌then◌else◌}
 use Rattle.std.specs.Vec.{vec_len}
 use Rattle.std.proofs.lemmas.List.{with_items_is}
-use Rattle.dj_linking.specs.Bits.{AreBits, in_bits}
-use Rattle.dj_linking.proofs.Bits.{bits_more}
-use Rattle.dj_linking.proofs.numbers.Numbers.add.Goals as goal
+use Rattle.dj_resolution.specs.Bits.{AreBits, in_bits}
+use Rattle.dj_resolution.proofs.Bits.{bits_more}
+use Rattle.dj_resolution.proofs.numbers.Numbers.add.Goals as goal
 
 pub invariant_of-self-then-not-has_bit : goal.invariant_of-self-then-not-has_bit
 invariant_of-self-then-not-has_bit c =

@@ -1,8 +1,8 @@
 use Rattle.std.proofs.Common.{◌*◌, ◌<◌, ℕ, List, get_or, sym, ◌∙◌, ap, subst}
-use Rattle.dj_linking.specs.Numbers.{with_new}
-use Rattle.dj_linking.proofs.Finding.{has_at}
-use Rattle.dj_linking.proofs.Marks.{all_more}
-use Rattle.dj_linking.proofs.numbers.Numbers.add_all.Goals as goal
+use Rattle.dj_resolution.specs.Numbers.{with_new}
+use Rattle.dj_resolution.proofs.Finding.{has_at}
+use Rattle.dj_resolution.proofs.Marks.{all_more}
+use Rattle.dj_resolution.proofs.numbers.Numbers.add_all.Goals as goal
 
 pub add-requires : goal.add-requires
 add-requires c =

@@ -1,6 +1,6 @@
 use Rattle.std.proofs.Common.{◌≡◌, length, take}
-use Rattle.dj_linking.specs.Numbers.{with_all}
-use Rattle.dj_linking.proofs.numbers.Numbers.add_all.Given as goal
+use Rattle.dj_resolution.specs.Numbers.{with_all}
+use Rattle.dj_resolution.proofs.numbers.Numbers.add_all.Given as goal
 
 -- those so far are there
 abbrev pub invariant-loop-number : goal.invariant-loop-number

@@ -1,7 +1,7 @@
 use Rattle.std.proofs.Common.{◌∙◌, length, sym}
-use Rattle.dj_linking.specs.Numbers.{lists_of}
-use Rattle.dj_linking.proofs.Ranking.{none_up, rank_within, row_is_at, some_in, up_reported}
-use Rattle.dj_linking.proofs.ranked.Ranks.is_up.Goals as goal
+use Rattle.dj_resolution.specs.Numbers.{lists_of}
+use Rattle.dj_resolution.proofs.Ranking.{none_up, rank_within, row_is_at, some_in, up_reported}
+use Rattle.dj_resolution.proofs.ranked.Ranks.is_up.Goals as goal
 
 pub has_bit-requires : goal.has_bit-requires
 has_bit-requires c =

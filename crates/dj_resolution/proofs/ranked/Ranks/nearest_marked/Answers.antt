@@ -1,8 +1,8 @@
 use Rattle.std.proofs.Common.{ℕ, List, ◌∙◌, ap, get_or, length, arith}
-use Rattle.dj_linking.specs.Numbers.{lists_of}
-use Rattle.dj_linking.proofs.Covering.{near_at, none_near}
-use Rattle.dj_linking.proofs.Ranking.{row_is_at}
-use Rattle.dj_linking.proofs.ranked.Ranks.nearest_marked.Goals as goal
+use Rattle.dj_resolution.specs.Numbers.{lists_of}
+use Rattle.dj_resolution.proofs.Covering.{near_at, none_near}
+use Rattle.dj_resolution.proofs.Ranking.{row_is_at}
+use Rattle.dj_resolution.proofs.ranked.Ranks.nearest_marked.Goals as goal
 
 pub highest_common-requires : goal.highest_common-requires
 highest_common-requires c =

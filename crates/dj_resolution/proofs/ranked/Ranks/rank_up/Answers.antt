@@ -1,7 +1,7 @@
 use Rattle.std.proofs.Common.{List, ℕ, ◌<◌, ◌∙◌, length, subst, sym}
-use Rattle.dj_linking.specs.Numbers.{lists_of}
-use Rattle.dj_linking.proofs.Ranking.{bit_reported, not_among, rank_within, row_is_at}
-use Rattle.dj_linking.proofs.ranked.Ranks.rank_up.Goals as goal
+use Rattle.dj_resolution.specs.Numbers.{lists_of}
+use Rattle.dj_resolution.proofs.Ranking.{bit_reported, not_among, rank_within, row_is_at}
+use Rattle.dj_resolution.proofs.ranked.Ranks.rank_up.Goals as goal
 
 pub returns-in_default : goal.returns-in_default
 returns-in_default c =

@@ -1,7 +1,7 @@
 use Rattle.std.proofs.Common.{◌∙◌, sym, arith}
-use Rattle.dj_shape.specs.Arena.{slot_at}
-use Rattle.dj_shape.proofs.Links.{no_slots, slots_above, one_less, before_within}
-use Rattle.dj_shape.proofs.arena.Locals.pop.Goals as goal
+use Rattle.dj_shape_rule.specs.Arena.{slot_at}
+use Rattle.dj_shape_rule.proofs.Links.{no_slots, slots_above, one_less, before_within}
+use Rattle.dj_shape_rule.proofs.arena.Locals.pop.Goals as goal
 
 pub returns-in_default : goal.returns-in_default
 returns-in_default c = sym c.self.view_is ∙ no_slots c.self.inside.slots.now c.self.inside.place.end (sym c.slot_at.ensures ∙ c.in_default.is)

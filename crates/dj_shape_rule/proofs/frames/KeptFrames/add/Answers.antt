@@ -1,5 +1,5 @@
-use Rattle.dj_shape.proofs.Places.{placed_grown}
-use Rattle.dj_shape.proofs.frames.KeptFrames.add.Goals as goal
+use Rattle.dj_shape_rule.proofs.Places.{placed_grown}
+use Rattle.dj_shape_rule.proofs.frames.KeptFrames.add.Goals as goal
 
 pub invariant_of-self : goal.invariant_of-self
 invariant_of-self c = record {

@@ -1,9 +1,9 @@
 use Rattle.std.proofs.Common.{◌≡◌, ◌∙◌, ℕ, Bool, true, false, List, get_or, length, vec_len, refl, sym, subst}
 use Rattle.std.proofs.lemmas.List.{with_items_is}
-use Rattle.dj_shape.specs.Placing.{AreMarked}
-use Rattle.dj_shape.proofs.Places.{marked_after, placed_after, reported_more}
-use Rattle.dj_shape.proofs.Works.{ok_more}
-use Rattle.dj_shape.proofs.frames.KeptFrames.keep.Goals as goal
+use Rattle.dj_shape_rule.specs.Placing.{AreMarked}
+use Rattle.dj_shape_rule.proofs.Places.{marked_after, placed_after, reported_more}
+use Rattle.dj_shape_rule.proofs.Works.{ok_more}
+use Rattle.dj_shape_rule.proofs.frames.KeptFrames.keep.Goals as goal
 
 pub invariant_of-self : goal.invariant_of-self
 invariant_of-self c =

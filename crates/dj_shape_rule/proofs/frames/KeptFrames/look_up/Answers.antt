@@ -1,7 +1,7 @@
 use Rattle.std.proofs.Common.{◌∙◌, List, Option, Some, ap, sym}
 use Rattle.dj_names.specs.declared.descriptor.Kind.{Kind}
-use Rattle.dj_shape.proofs.Places.{reported_none, reported_some}
-use Rattle.dj_shape.proofs.frames.KeptFrames.look_up.Goals as goal
+use Rattle.dj_shape_rule.proofs.Places.{reported_none, reported_some}
+use Rattle.dj_shape_rule.proofs.frames.KeptFrames.look_up.Goals as goal
 
 pub locals-requires : goal.locals-requires
 locals-requires c = c.args.self.now.placed c.args.number c.in-Some.kept.now (sym c.in-Some.ensures.value)

@@ -1,6 +1,6 @@
 use Rattle.std.proofs.Common.{◌∙◌, Bool, true, List, get_or, ap, sym}
-use Rattle.dj_shape.proofs.Places.{reported_none}
-use Rattle.dj_shape.proofs.frames.KeptFrames.may_report.Goals as goal
+use Rattle.dj_shape_rule.proofs.Places.{reported_none}
+use Rattle.dj_shape_rule.proofs.frames.KeptFrames.may_report.Goals as goal
 
 pub returns : goal.returns
 returns c = λ none.

@@ -1,6 +1,6 @@
 use Rattle.std.proofs.Common.{ap, length, arith}
-use Rattle.dj_shape.proofs.Handling.{row_at, later_from, none_later, all_handled, after_all, lacked, begun_more}
-use Rattle.dj_shape.proofs.handlers.Handlers.begin_all.Goals as goal
+use Rattle.dj_shape_rule.proofs.Handling.{row_at, later_from, none_later, all_handled, after_all, lacked, begun_more}
+use Rattle.dj_shape_rule.proofs.handlers.Handlers.begin_all.Goals as goal
 
 pub returns-then-number-row-clause-entered : goal.returns-then-number-row-clause-entered
 returns-then-number-row-clause-entered c = λ initial.

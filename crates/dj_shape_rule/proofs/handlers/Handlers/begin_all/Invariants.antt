@@ -1,6 +1,6 @@
 use Rattle.std.proofs.Common.{◌≡◌, ◌-◌, length}
-use Rattle.dj_shape.specs.Handlers.{IsKnown}
-use Rattle.dj_shape.proofs.handlers.Handlers.begin_all.Given as goal
+use Rattle.dj_shape_rule.specs.Handlers.{IsKnown}
+use Rattle.dj_shape_rule.proofs.handlers.Handlers.begin_all.Given as goal
 
 abbrev pub invariant-loop-row : goal.invariant-loop-row
 invariant-loop-row l = record {

@@ -1,12 +1,12 @@
 use Rattle.std.proofs.Common.{◌≡◌, ◌∙◌, subst, sym, length, List, arith}
 use Rattle.std.proofs.lemmas.Bool.Decides.{nat_tests}
-use Rattle.dj_shape.specs.declared.needs.Need.{Need}
-use Rattle.dj_shape.specs.Needs.{MissesOne}
-use Rattle.dj_shape.specs.Handlers.{MeetAll, MeetOthers}
-use Rattle.dj_shape.proofs.Handling.{missed, none_enter}
-use Rattle.dj_shape.proofs.Needing.{meet_all}
-use Rattle.dj_shape.proofs.Works.{ok_more}
-use Rattle.dj_shape.proofs.handlers.Handlers.enter.Goals as goal
+use Rattle.dj_shape_rule.specs.declared.needs.Need.{Need}
+use Rattle.dj_shape_rule.specs.Needs.{MissesOne}
+use Rattle.dj_shape_rule.specs.Handlers.{MeetAll, MeetOthers}
+use Rattle.dj_shape_rule.proofs.Handling.{missed, none_enter}
+use Rattle.dj_shape_rule.proofs.Needing.{meet_all}
+use Rattle.dj_shape_rule.proofs.Works.{ok_more}
+use Rattle.dj_shape_rule.proofs.handlers.Handlers.enter.Goals as goal
 
 pub returns-then-not-meets-clause-entered : goal.returns-then-not-meets-clause-entered
 returns-then-not-meets-clause-entered c = λ known.

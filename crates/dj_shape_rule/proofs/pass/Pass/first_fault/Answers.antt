@@ -1,8 +1,8 @@
 use Rattle.std.proofs.Common.{◌≡◌, ◌∙◌, ℕ, ◌+◌, suc, ap, subst, arith, length, below_more}
 use Rattle.std.proofs.lemmas.List.{length-map}
 use Rattle.dj_program.specs.trusted.Naming.{instruction_in}
-use Rattle.dj_shape.specs.Passing.{Before}
-use Rattle.dj_shape.proofs.pass.Pass.first_fault.Goals as goal
+use Rattle.dj_shape_rule.specs.Passing.{Before}
+use Rattle.dj_shape_rule.proofs.pass.Pass.first_fault.Goals as goal
 
 pub loop-number-preserved : goal.loop-number-preserved
 loop-number-preserved c = λ case is before.

@@ -1,7 +1,7 @@
 use Rattle.std.proofs.Common.{ℕ, ◌<◌}
 use Rattle.dj_model.specs.trusted.Shape.{HoldsAt}
-use Rattle.dj_shape.specs.Passing.{Before, Case, IsCase}
-use Rattle.dj_shape.proofs.pass.Pass.first_fault.Given as goal
+use Rattle.dj_shape_rule.specs.Passing.{Before, Case, IsCase}
+use Rattle.dj_shape_rule.proofs.pass.Pass.first_fault.Given as goal
 
 -- those so far hold
 abbrev pub invariant-loop-number : goal.invariant-loop-number

@@ -1,6 +1,6 @@
-use Rattle.dj_shape.proofs.Works.{ok_more}
-use Rattle.dj_shape.proofs.Handling.{known_of_few, enters_with_all}
-use Rattle.dj_shape.proofs.pass.Pass.meet_handlers.Goals as goal
+use Rattle.dj_shape_rule.proofs.Works.{ok_more}
+use Rattle.dj_shape_rule.proofs.Handling.{known_of_few, enters_with_all}
+use Rattle.dj_shape_rule.proofs.pass.Pass.meet_handlers.Goals as goal
 
 pub returns-clause-entered : goal.returns-clause-entered
 returns-clause-entered c =

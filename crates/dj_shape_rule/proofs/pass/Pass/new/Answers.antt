@@ -1,6 +1,6 @@
 use Rattle.std.proofs.Common.{ap, sym, Some, arith}
 use Rattle.dj_model.specs.trusted.Kinds.{Kinds}
-use Rattle.dj_shape.proofs.pass.Pass.new.Goals as goal
+use Rattle.dj_shape_rule.proofs.pass.Pass.new.Goals as goal
 
 pub returns : goal.returns
 returns c = λ case room kinds. record {

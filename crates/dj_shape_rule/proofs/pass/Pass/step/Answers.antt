@@ -1,10 +1,10 @@
 use Rattle.std.proofs.Common.{◌∙◌, Some, ap, sym, subst}
 use Rattle.std.proofs.lemmas.Option.{slice_get_within}
 use Rattle.dj_program.specs.trusted.Naming.{instruction_in}
-use Rattle.dj_shape.specs.Standing.{Standing, SameRoom}
-use Rattle.dj_shape.proofs.Steps.{not_found}
-use Rattle.dj_shape.proofs.Stepping.{frame_fails, frame_stands, unhandled, handlers_fail, room_at, state_at, step_answers}
-use Rattle.dj_shape.proofs.pass.Pass.step.Goals as goal
+use Rattle.dj_shape_rule.specs.Standing.{Standing, SameRoom}
+use Rattle.dj_shape_rule.proofs.Steps.{not_found}
+use Rattle.dj_shape_rule.proofs.Stepping.{frame_fails, frame_stands, unhandled, handlers_fail, room_at, state_at, step_answers}
+use Rattle.dj_shape_rule.proofs.pass.Pass.step.Goals as goal
 
 pub returns-then-not-branch : goal.returns-then-not-branch
 returns-then-not-branch c = λ case is before.

@@ -1,10 +1,10 @@
 use Rattle.std.proofs.Common.{◌≡◌, ◌∙◌, ℕ, List, Option, Some, length, take, ap, sym, subst, arith}
 use Rattle.dj_names.specs.declared.descriptor.Kind.{Kind}
 use Rattle.dj_model.specs.trusted.Kinds.{form_entries}
-use Rattle.dj_shape.specs.declared.arena.LocalsPlace.{LocalsPlace}
-use Rattle.dj_shape.specs.Reading.{ArePlaces, ChangesTo, frame_code, kept_entries}
-use Rattle.dj_shape.proofs.Places.{kept_few, kept_same, length_take, places_kept}
-use Rattle.dj_shape.proofs.reading.Reader.change.Goals as goal
+use Rattle.dj_shape_rule.specs.declared.arena.LocalsPlace.{LocalsPlace}
+use Rattle.dj_shape_rule.specs.Reading.{ArePlaces, ChangesTo, frame_code, kept_entries}
+use Rattle.dj_shape_rule.proofs.Places.{kept_few, kept_same, length_take, places_kept}
+use Rattle.dj_shape_rule.proofs.reading.Reader.change.Goals as goal
 
 pub place_all-requires-clause-few : goal.place_all-requires-clause-few
 place_all-requires-clause-few c =

@@ -1,8 +1,8 @@
 use Rattle.std.proofs.Common.{◌∙◌, List, length, ap, sym, subst}
-use Rattle.dj_shape.specs.declared.arena.LocalsPlace.{LocalsPlace}
-use Rattle.dj_shape.specs.Reading.{ArePlaces}
-use Rattle.dj_shape.proofs.Places.{place_of_all}
-use Rattle.dj_shape.proofs.reading.Reader.place.Goals as goal
+use Rattle.dj_shape_rule.specs.declared.arena.LocalsPlace.{LocalsPlace}
+use Rattle.dj_shape_rule.specs.Reading.{ArePlaces}
+use Rattle.dj_shape_rule.proofs.Places.{place_of_all}
+use Rattle.dj_shape_rule.proofs.reading.Reader.place.Goals as goal
 
 pub returns : goal.returns
 returns c =

@@ -1,12 +1,12 @@
 use Rattle.std.proofs.Common.{◌≡◌, ◌∙◌, ◌<◌, ℕ, suc, List, [], ◌∷◌, get_or, length, take, ap, sym, subst, arith}
 use Rattle.std.proofs.lemmas.List.{length-append}
 use Rattle.dj_model.specs.trusted.Kinds.{entry_slots}
-use Rattle.dj_shape.specs.declared.arena.LocalsPlace.{LocalsPlace}
-use Rattle.dj_shape.specs.Arena.{IsAt}
-use Rattle.dj_shape.specs.Reading.{ArePlaces}
-use Rattle.dj_shape.proofs.Places.{grows_more, next_place, places_grown, places_more}
-use Rattle.dj_shape.proofs.Links.{at_in}
-use Rattle.dj_shape.proofs.reading.Reader.place_all.Goals as goal
+use Rattle.dj_shape_rule.specs.declared.arena.LocalsPlace.{LocalsPlace}
+use Rattle.dj_shape_rule.specs.Arena.{IsAt}
+use Rattle.dj_shape_rule.specs.Reading.{ArePlaces}
+use Rattle.dj_shape_rule.proofs.Places.{grows_more, next_place, places_grown, places_more}
+use Rattle.dj_shape_rule.proofs.Links.{at_in}
+use Rattle.dj_shape_rule.proofs.reading.Reader.place_all.Goals as goal
 
 pub add_entry-requires : goal.add_entry-requires
 add_entry-requires c =

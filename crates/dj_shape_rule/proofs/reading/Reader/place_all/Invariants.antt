@@ -1,7 +1,7 @@
 use Rattle.std.proofs.Common.{◌≡◌, ◌-◌, ◌≤◌, length}
-use Rattle.dj_shape.specs.Reading.{ArePlaces}
-use Rattle.dj_shape.specs.Reported.{Grows}
-use Rattle.dj_shape.proofs.reading.Reader.place_all.Given as goal
+use Rattle.dj_shape_rule.specs.Reading.{ArePlaces}
+use Rattle.dj_shape_rule.specs.Reported.{Grows}
+use Rattle.dj_shape_rule.proofs.reading.Reader.place_all.Given as goal
 
 abbrev pub invariant-loop-self : goal.invariant-loop-self
 invariant-loop-self l = record {

@@ -1,10 +1,10 @@
 use Rattle.std.proofs.Common.{◌≡◌, ◌≤◌, ◌<◌, length, ap, refl, arith}
 use Rattle.dj_model.specs.trusted.Kinds.{depth, entry_slots, form_entries}
-use Rattle.dj_shape.specs.Reading.{frame_code}
-use Rattle.dj_shape.specs.Reported.{reported_in}
-use Rattle.dj_shape.proofs.FrameLaws.{none_read, many_read, deep_read, some_read, low_so, deep_so}
-use Rattle.dj_shape.proofs.Links.{at_in}
-use Rattle.dj_shape.proofs.reading.Reader.read.Goals as goal
+use Rattle.dj_shape_rule.specs.Reading.{frame_code}
+use Rattle.dj_shape_rule.specs.Reported.{reported_in}
+use Rattle.dj_shape_rule.proofs.FrameLaws.{none_read, many_read, deep_read, some_read, low_so, deep_so}
+use Rattle.dj_shape_rule.proofs.Links.{at_in}
+use Rattle.dj_shape_rule.proofs.reading.Reader.read.Goals as goal
 
 pub returns-in_default-clause-read : goal.returns-in_default-clause-read
 returns-in_default-clause-read c =

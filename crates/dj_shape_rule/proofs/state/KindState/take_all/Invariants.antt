@@ -1,7 +1,7 @@
 use Rattle.std.proofs.Common.{◌≡◌, drop}
 use Rattle.dj_model.specs.trusted.Shape.{taken}
-use Rattle.dj_shape.specs.Standing.{SameLocals}
-use Rattle.dj_shape.proofs.state.KindState.take_all.Given as goal
+use Rattle.dj_shape_rule.specs.Standing.{SameLocals}
+use Rattle.dj_shape_rule.proofs.state.KindState.take_all.Given as goal
 
 abbrev pub invariant-loop-kind : goal.invariant-loop-kind
 invariant-loop-kind l = record {

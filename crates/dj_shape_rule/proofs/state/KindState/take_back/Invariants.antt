@@ -1,7 +1,7 @@
 use Rattle.std.proofs.Common.{◌≡◌, length, reverse}
 use Rattle.dj_model.specs.trusted.Shape.{taken}
-use Rattle.dj_shape.specs.Standing.{SameLocals}
-use Rattle.dj_shape.proofs.state.KindState.take_back.Given as goal
+use Rattle.dj_shape_rule.specs.Standing.{SameLocals}
+use Rattle.dj_shape_rule.proofs.state.KindState.take_back.Given as goal
 
 abbrev pub invariant-loop-last : goal.invariant-loop-last
 invariant-loop-last l = record {

@@ -1,6 +1,6 @@
 use Rattle.std.proofs.lemmas.Result.{err_from_is_err_and}
 use Rattle.dj_image.specs.Imaged.{program_of}
-use Rattle.dj_activations.specs.Activations.{declared_at}
+use Rattle.dj_current_method.specs.Activations.{declared_at}
 use Rattle.dj_step.proofs.BeginLaws.{input_refused}
 use Rattle.dj_step.proofs.machine.Machine.new.Goals as goal
 

@@ -1,7 +1,7 @@
 use Rattle.std.proofs.Common.{subst, sym}
 use Rattle.dj_model.specs.Standing.{AsksNothing}
 use Rattle.dj_image.specs.Imaged.{program_of}
-use Rattle.dj_turning.specs.Memory.{NeedsNoMemory}
+use Rattle.dj_image_step.specs.Memory.{NeedsNoMemory}
 use Rattle.dj_step.specs.Machines.{Machined, terms_of}
 use Rattle.dj_step.proofs.StepLaws.{needs_of}
 use Rattle.dj_step.proofs.machine.Machine.step.Goals as goal

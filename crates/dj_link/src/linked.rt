@@ -1,12 +1,12 @@
 ghost use Rattle.std.specs.Prelude.{◌≡◌, ◌<◌, ◌^◌, [], length, map, All, IfOk};
 ghost use Rattle.dj_report.specs.trusted.Lines.{AreExactly};
-ghost use Rattle.dj_rules.specs.Views.{path_file_view};
-ghost use Rattle.dj_check.specs.trusted.Malformed.{IsRefused};
-ghost use Rattle.dj_link.specs.trusted.Lines.{IsLinkLine};
-ghost use Rattle.dj_image_rules.specs.Rules.{declared_of};
+ghost use Rattle.dj_file_rules.specs.Views.{path_file_view};
+ghost use Rattle.dj_early_rules.specs.trusted.Malformed.{IsRefused};
+ghost use Rattle.dj_link_rules.specs.trusted.Lines.{IsLinkLine};
+ghost use Rattle.dj_link.specs.Rules.{declared_of};
 
 use dj_image::Image;
-use dj_link::LinkError;
+use dj_link_rules::LinkError;
 use dj_report::{PathFile, Violations};
 use std::alloc::Global;
 
@@ -17,5 +17,5 @@ pub fn links(alloc: Global, image: &Image, files: &[PathFile<'_>]) -> Result<Vio
     requires whole { All (λ file. IsRefused file.bytes.now → ⊥) files.now }
     ensures { IfOk result (AreExactly (IsLinkLine (declared_of image.now) (map path_file_view files.now))) }
 {
-    dj_link::links(alloc, image.linker(), files)
+    dj_link_rules::links(alloc, image.linker(), files)
 }
