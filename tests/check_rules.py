@@ -50,7 +50,7 @@ RULES = {
     19: "SHAPE",
 }
 
-# Flags of classes and methods (JVMS tables 4.1-B and 4.6-A).
+# Flags of classes and methods (JVMS tables 4.1-A and 4.6-A).
 FINAL, IS_NATIVE, INTERFACE, ABSTRACT = 0x0010, 0x0100, 0x0200, 0x0400
 
 

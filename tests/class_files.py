@@ -3,7 +3,7 @@
 from instructions import instructions
 from opcodes import opcode
 
-# Flags of classes, fields and methods (JVMS tables 4.1-B, 4.5-A and 4.6-A).
+# Flags of classes, fields and methods (JVMS tables 4.1-A, 4.5-A and 4.6-A).
 PUBLIC, PRIVATE, PROTECTED, STATIC, FINAL, SUPER = 0x0001, 0x0002, 0x0004, 0x0008, 0x0010, 0x0020
 NATIVE, INTERFACE, ABSTRACT = 0x0100, 0x0200, 0x0400
 A_CLASS = PUBLIC | SUPER

@@ -11,6 +11,7 @@ ghost use Rattle.dj_asm.specs.Filing.{constant_bodies, stack_at, locals_at, firs
 use crate::code::code_body;
 use dj_asm_pool::PoolBuilder;
 use dj_asm_source::{Line, Value, section_size};
+use dj_cursor::u2_bytes;
 use dj_names::Bytes;
 use std::alloc::{AllocError, Global};
 
@@ -19,7 +20,7 @@ fn constant_body(alloc: Global, pool: &PoolBuilder, value: Value<'_>) -> Result<
     ensures { IfOk result (λ bytes. bytes ≡ u2 (found_index pool.now (value_entry (value_view value.entry)))) }
 {
     let index = pool.value_index(alloc, value)?;
-    Bytes::from_slice(alloc, &index.to_be_bytes())
+    Bytes::from_slice(alloc, &u2_bytes(index))
 }
 
 /// Appends the body of a field's attribute, or none, where the line is a field's.

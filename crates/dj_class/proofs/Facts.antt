@@ -269,7 +269,7 @@ length-fault = inr (record {
 
 -- ---- access flags
 
--- each flag's value, as JVMS tables 4.1-B, 4.5-A and 4.6-A have it
+-- each flag's value, as JVMS tables 4.1-A, 4.5-A and 4.6-A have it
 flags-are : access_table ≡
     (codes "PUBLIC", 1) ∷ (codes "PRIVATE", 2) ∷ (codes "PROTECTED", 4) ∷ (codes "STATIC", 8) ∷ (codes "FINAL", 16) ∷ (codes "SUPER", 32)
     ∷ (codes "SYNCHRONIZED", 32) ∷ (codes "VOLATILE", 64) ∷ (codes "BRIDGE", 64) ∷ (codes "TRANSIENT", 128) ∷ (codes "VARARGS", 128) ∷ (codes "NATIVE", 256)

@@ -1,4 +1,4 @@
--- Access flags that no clause of the call `djvm` reaches (JVMS tables 4.1-B, 4.5-A and 4.6-A); the others are in trusted/Access.antt.
+-- Access flags that no clause of the call `djvm` reaches (JVMS tables 4.1-A, 4.5-A and 4.6-A); the others are in trusted/Access.antt.
 use Rattle.std.specs.Prelude.{ℕ, ◌^◌, List, [], ◌∷◌, codes}
 use Rattle.dj_class.specs.trusted.Access.{static, final, native, interface, abstract}
 

@@ -5,7 +5,7 @@ ghost use Rattle.dj_class.specs.trusted.Access as access;
 use crate::class::{ClassView, MemberView};
 use bitflags::{Flag, Flags, bitflag_items};
 
-/// The access flags of a class, a field or a method (JVMS tables 4.1-B, 4.5-A and 4.6-A).
+/// The access flags of a class, a field or a method (JVMS tables 4.1-A, 4.5-A and 4.6-A).
 #[derive(Clone, Copy, PartialEq, Eq, Debug)]
 pub struct AccessFlags(pub u16);
 

@@ -1,4 +1,4 @@
--- Access flags that the rules ask for, bit by bit (JVMS tables 4.1-B and 4.6-A): 0x0100 and 0x0400 of a method, 0x0200 of a class.
+-- Access flags that the rules ask for, bit by bit (JVMS tables 4.1-A and 4.6-A): 0x0100 and 0x0400 of a method, 0x0200 of a class.
 use Rattle.std.proofs.Common.{ℕ, [], refl, inl, inr}
 use Rattle.dj_class.specs.trusted.ClassFile.{MemberInfo, ClassFile}
 use Rattle.dj_early_rules.specs.trusted.Malformed.{IsBodiless}

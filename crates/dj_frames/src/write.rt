@@ -7,6 +7,7 @@ ghost use Rattle.dj_frames.specs.trusted.Written.{short_tag, head_bytes, frames_
 ghost use Rattle.dj_frames.specs.declared.read.FrameError.TheVariants as errors;
 
 use crate::read::FrameError;
+use dj_cursor::u2_bytes;
 use dj_names::Bytes;
 use dj_ops::{Form, Frame, Frames, VType, VTypes};
 use std::alloc::Global;
@@ -22,7 +23,7 @@ fn put_u2(out: &mut Bytes, number: u16) -> Result<(), FrameError>
     ensures ok { OnOk result (out.new ≡ out.old ++ u2 number) }
     ensures memory { IfErr result (λ e. e ≡ errors.Memory) }
 {
-    Ok(out.extend(&number.to_be_bytes())?)
+    Ok(out.extend(&u2_bytes(number))?)
 }
 
 fn put_type(out: &mut Bytes, item: VType, starts: &[u32]) -> Result<(), FrameError>

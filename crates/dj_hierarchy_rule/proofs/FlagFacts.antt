@@ -1,4 +1,4 @@
--- Flags of classes, bit by bit (JVMS table 4.1-B): 0x0010 alone makes a class final, and 0x0200 alone an interface.
+-- Flags of classes, bit by bit (JVMS table 4.1-A): 0x0010 alone makes a class final, and 0x0200 alone an interface.
 use Rattle.std.proofs.Common.{ℕ, [], Some, refl, codes}
 use Rattle.dj_library.specs.trusted.Heads.{Head}
 use Rattle.dj_hierarchy_rule.specs.trusted.Hierarchy.{IsFinal, IsInterface}

@@ -15,7 +15,7 @@ use Rattle.dj_names.specs.trusted.Descriptors.{desc_text, type_slots, type_kind}
 use Rattle.dj_names.specs.trusted.DescReading.{base_at}
 use Rattle.dj_names.specs.trusted.Types.{same_base, same_type, same_desc, class_type, array_type, base_type, base_array, component_type, parameters_of, field_kind}
 use Rattle.dj_names.specs.Types.{result_of, desc_map, in_sandbox}
-use Rattle.dj_names.specs.trusted.Heaps.{instance_size, array_size, text_size, kept, value_number, number_value, class_of, Object, Instance, Array, Text}
+use Rattle.dj_names.specs.trusted.Heaps.{instance_size, array_size, text_size, kept, field_value, value_number, number_value, class_of, Object, Instance, Array, Text}
 use Rattle.dj_names.specs.Heaps.{object_map}
 
 abbrev each : List Base
@@ -143,6 +143,10 @@ numbers = refl
 
 of_numbers : map (λ kind. number_value kind (pos 7)) (kinds.Int ∷ kinds.Long ∷ kinds.Ref ∷ []) ≡ values.Int (pos 7) ∷ values.Long (pos 7) ∷ values.Ref 7 ∷ []
 of_numbers = refl
+
+-- a field's 64 bits as a reference: the low 32 are its number, and those above count for nothing
+of_reference_bits : map (field_value kinds.Ref) (65537 ∷ 4294967295 ∷ 4294967297 ∷ []) ≡ values.Ref 65537 ∷ values.Ref 4294967295 ∷ values.Ref 1 ∷ []
+of_reference_bits = refl
 
 -- ---- objects whose classes are given otherwise
 

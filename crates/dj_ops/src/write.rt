@@ -9,6 +9,7 @@ ghost use Rattle.dj_ops.specs.declared.instruction.Instr.TheVariants as instrs;
 use crate::instruction::Instr;
 use crate::read::OpError;
 use crate::write_switches::{offset_of, write_lookup, write_table};
+use dj_cursor::{u2_bytes, u4_bytes};
 
 /// Appends the bytes of the instruction at the address, with zeros as padding (JVMS chapter 6). `out` is as it was where memory ran out.
 pub fn write_instr(instr: &Instr, at: u32, out: &mut Vec<u8>) -> Result<(), OpError>
@@ -32,17 +33,17 @@ pub fn write_instr(instr: &Instr, at: u32, out: &mut Vec<u8>) -> Result<(), OpEr
         Instr::Lookup { default, pairs } => write_lookup(*default, pairs.as_slice(), at, out),
         Instr::Member { op, index } => write_index(*op, *index, out),
         Instr::Interface { index, count } => {
-            let index = index.to_be_bytes();
+            let index = u2_bytes(index);
             put(&[185, index[0], index[1], *count, 0], out)
         }
         Instr::Dynamic { index } => {
-            let index = index.to_be_bytes();
+            let index = u2_bytes(index);
             put(&[186, index[0], index[1], 0, 0], out)
         }
         Instr::Class { op, index } => write_index(*op, *index, out),
         Instr::Array { base } => put(&[188, *base], out),
         Instr::Multi { index, dims } => {
-            let index = index.to_be_bytes();
+            let index = u2_bytes(index);
             put(&[197, index[0], index[1], *dims], out)
         }
     }
@@ -58,7 +59,7 @@ pub fn put(bytes: &[u8], out: &mut Vec<u8>) -> Result<(), OpError>
 fn write_index(op: u8, index: u16, out: &mut Vec<u8>) -> Result<(), OpError>
     ensures { Appended result out.old.items out.new.items (op ∷ u2 index) }
 {
-    let index = index.to_be_bytes();
+    let index = u2_bytes(index);
     put(&[op, index[0], index[1]], out)
 }
 
@@ -94,7 +95,7 @@ fn write_local(op: u8, slot: u16, wide: bool, out: &mut Vec<u8>) -> Result<(), O
     ensures { Appended result out.old.items out.new.items (written 0 (instrs.Local op slot wide)) }
 {
     if wide {
-        let slot = slot.to_be_bytes();
+        let slot = u2_bytes(slot);
         put(&[196, op, slot[0], slot[1]], out)
     } else {
         put(&[op, slot as u8], out)
@@ -108,8 +109,8 @@ fn write_increment(slot: u16, by: i16, wide: bool, out: &mut Vec<u8>) -> Result<
     ensures { Appended result out.old.items out.new.items (written 0 (instrs.Inc slot by wide)) }
 {
     if wide {
-        let slot = slot.to_be_bytes();
-        let by = by.to_be_bytes();
+        let slot = u2_bytes(slot);
+        let by = u2_bytes(by.cast_unsigned());
         put(&[196, 132, slot[0], slot[1], by[0], by[1]], out)
     } else {
         put(&[132, slot as u8, (by as i8).cast_unsigned()], out)
@@ -122,7 +123,7 @@ fn write_short_branch(op: u8, target: i64, at: u32, out: &mut Vec<u8>) -> Result
     ensures { Appended result out.old.items out.new.items (op ∷ s2 (offset at target)) }
 {
     let offset = (target - i64::from(at)) as i16;
-    let offset = offset.to_be_bytes();
+    let offset = u2_bytes(offset.cast_unsigned());
     put(&[op, offset[0], offset[1]], out)
 }
 
@@ -132,7 +133,7 @@ fn write_long_branch(op: u8, target: i64, at: u32, out: &mut Vec<u8>) -> Result<
     ensures { Appended result out.old.items out.new.items (op ∷ s4 (offset at target)) }
 {
     let offset = offset_of(at, target);
-    let offset = offset.to_be_bytes();
+    let offset = u4_bytes(offset.cast_unsigned());
     put(&[op, offset[0], offset[1], offset[2], offset[3]], out)
 }
 

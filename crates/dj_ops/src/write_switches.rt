@@ -7,6 +7,7 @@ ghost use Rattle.dj_ops.specs.declared.instruction.Instr.TheVariants as instrs;
 
 use crate::read::OpError;
 use crate::write::put;
+use dj_cursor::u4_bytes;
 use std::alloc::AllocError;
 
 /// The distance from an address to a target.
@@ -80,7 +81,7 @@ fn put_padding(at: u32, out: &mut Vec<u8>) -> Result<(), AllocError>
 fn put_s4(number: i32, out: &mut Vec<u8>) -> Result<(), AllocError>
     ensures { OnOk result (out.new.items ≡ out.old.items ++ s4 number) }
 {
-    out.extend_from_slice(&number.to_be_bytes())
+    out.extend_from_slice(&u4_bytes(number.cast_unsigned()))
 }
 
 /// Appends the offsets of targets.

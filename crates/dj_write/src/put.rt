@@ -2,6 +2,7 @@ ghost use Rattle.std.specs.Prelude.{◌≡◌, ◌++◌, OnOk};
 ghost use Rattle.dj_cursor.specs.trusted.Spelling.{u1, u2, u4, u8, s4, s8};
 
 use crate::error::WriteError;
+use dj_cursor::{u2_bytes, u4_bytes, u8_bytes};
 
 /// Appends a byte.
 pub(crate) fn put_u1(out: &mut Vec<u8>, n: u8) -> Result<(), WriteError>
@@ -15,7 +16,7 @@ pub(crate) fn put_u1(out: &mut Vec<u8>, n: u8) -> Result<(), WriteError>
 pub(crate) fn put_u2(out: &mut Vec<u8>, n: u16) -> Result<(), WriteError>
     ensures { OnOk result (out.new.items ≡ out.old.items ++ u2 n) }
 {
-    out.extend_from_slice(&n.to_be_bytes())?;
+    out.extend_from_slice(&u2_bytes(n))?;
     Ok(())
 }
 
@@ -23,7 +24,7 @@ pub(crate) fn put_u2(out: &mut Vec<u8>, n: u16) -> Result<(), WriteError>
 pub(crate) fn put_u4(out: &mut Vec<u8>, n: u32) -> Result<(), WriteError>
     ensures { OnOk result (out.new.items ≡ out.old.items ++ u4 n) }
 {
-    out.extend_from_slice(&n.to_be_bytes())?;
+    out.extend_from_slice(&u4_bytes(n))?;
     Ok(())
 }
 
@@ -31,7 +32,7 @@ pub(crate) fn put_u4(out: &mut Vec<u8>, n: u32) -> Result<(), WriteError>
 pub(crate) fn put_u8(out: &mut Vec<u8>, n: u64) -> Result<(), WriteError>
     ensures { OnOk result (out.new.items ≡ out.old.items ++ u8 n) }
 {
-    out.extend_from_slice(&n.to_be_bytes())?;
+    out.extend_from_slice(&u8_bytes(n))?;
     Ok(())
 }
 

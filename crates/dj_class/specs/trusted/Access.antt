@@ -1,4 +1,4 @@
--- Access flags (JVMS tables 4.1-B of classes, 4.5-A of fields, 4.6-A of methods): which bit of the flags each is. A bit may be one flag of a class or a
+-- Access flags (JVMS tables 4.1-A of classes, 4.5-A of fields, 4.6-A of methods): which bit of the flags each is. A bit may be one flag of a class or a
 -- field, and another of a method.
 use Rattle.std.specs.Prelude.{ℕ}
 
