@@ -33,17 +33,17 @@ pub fn write_instr(instr: &Instr, at: u32, out: &mut Vec<u8>) -> Result<(), OpEr
         Instr::Lookup { default, pairs } => write_lookup(*default, pairs.as_slice(), at, out),
         Instr::Member { op, index } => write_index(*op, *index, out),
         Instr::Interface { index, count } => {
-            let index = u2_bytes(index);
+            let index = u2_bytes(*index);
             put(&[185, index[0], index[1], *count, 0], out)
         }
         Instr::Dynamic { index } => {
-            let index = u2_bytes(index);
+            let index = u2_bytes(*index);
             put(&[186, index[0], index[1], 0, 0], out)
         }
         Instr::Class { op, index } => write_index(*op, *index, out),
         Instr::Array { base } => put(&[188, *base], out),
         Instr::Multi { index, dims } => {
-            let index = u2_bytes(index);
+            let index = u2_bytes(*index);
             put(&[197, index[0], index[1], *dims], out)
         }
     }
