@@ -7,6 +7,7 @@ use Rattle.dj_asm_source.specs.trusted.Items.{Exactly, Number, Text, Ended, Says
 use Rattle.dj_asm_tokens.specs.trusted.Mnemonics.{mnemonics, mnemonic, base_word}
 use Rattle.dj_asm_source.specs.trusted.Lines.{Line, Class, Version, Super, Implements, Field, Abstract, Method, Stack, Locals, Beside, Framed, Does, End, IntValue, LongValue, StringValue, IntLiteral, StringLiteral, ClassLiteral, Simple, Object, New, Same, Stack1, Chop, Append, Full, Plain, Push, Local, Increment, Load, LoadLong, Jump, Table, Lookup, Member, Dynamic, ClassOf, Array, Multi, Labelled, Catch, items_of}
 use Rattle.dj_asm_source.specs.trusted.Sources.{token_of}
+use Rattle.dj_ops.specs.Mnemonics.{nop, aconst_null, iconst_m1, iconst_0, iconst_1, iconst_2, iconst_3, iconst_4, iconst_5, lconst_0, lconst_1, fconst_0, fconst_1, fconst_2, dconst_0, dconst_1, bipush, sipush, ldc, ldc_w, ldc2_w, iload, lload, fload, dload, aload, iload_0, iload_1, iload_2, iload_3, lload_0, lload_1, lload_2, lload_3, fload_0, fload_1, fload_2, fload_3, dload_0, dload_1, dload_2, dload_3, aload_0, aload_1, aload_2, aload_3, iaload, laload, faload, daload, aaload, baload, caload, saload, istore, lstore, fstore, dstore, astore, istore_0, istore_1, istore_2, istore_3, lstore_0, lstore_1, lstore_2, lstore_3, fstore_0, fstore_1, fstore_2, fstore_3, dstore_0, dstore_1, dstore_2, dstore_3, astore_0, astore_1, astore_2, astore_3, iastore, lastore, fastore, dastore, aastore, bastore, castore, sastore, pop, pop2, dup, dup_x1, dup_x2, dup2, dup2_x1, dup2_x2, swap, iadd, ladd, fadd, dadd, isub, lsub, fsub, dsub, imul, lmul, fmul, dmul, idiv, ldiv, fdiv, ddiv, irem, lrem, frem, drem, ineg, lneg, fneg, dneg, ishl, lshl, ishr, lshr, iushr, lushr, iand, land, ior, lor, ixor, lxor, iinc, i2l, i2f, i2d, l2i, l2f, l2d, f2i, f2l, f2d, d2i, d2l, d2f, i2b, i2c, i2s, lcmp, fcmpl, fcmpg, dcmpl, dcmpg, ifeq, ifne, iflt, ifge, ifgt, ifle, if_icmpeq, if_icmpne, if_icmplt, if_icmpge, if_icmpgt, if_icmple, if_acmpeq, if_acmpne, goto, jsr, ret, tableswitch, lookupswitch, ireturn, lreturn, freturn, dreturn, areturn, return, getstatic, putstatic, getfield, putfield, invokevirtual, invokespecial, invokestatic, invokeinterface, invokedynamic, new, newarray, anewarray, arraylength, athrow, checkcast, instanceof, monitorenter, monitorexit, wide, multianewarray, ifnull, ifnonnull, goto_w, jsr_w, breakpoint}
 
 -- ---- the line that the bytes are
 
@@ -253,6 +254,47 @@ few_mnemonics : map mnemonic (0 ∷ 5 ∷ 16 ∷ 45 ∷ 132 ∷ 171 ∷ 196 ∷ 
     ≡ codes "nop" ∷ codes "iconst_2" ∷ codes "bipush" ∷ codes "aload_3" ∷ codes "iinc" ∷ codes "lookupswitch" ∷ codes "wide" ∷ codes "breakpoint" ∷ [] ∷ []
 unfolding mnemonics
 few_mnemonics = refl
+
+-- the word of each opcode, by families
+mnemonics_by_family :
+    map mnemonic (
+    aconst_null ∷ iconst_m1 ∷ iconst_0 ∷ iconst_1 ∷ iconst_2 ∷ iconst_3 ∷ iconst_4 ∷ iconst_5 ∷ lconst_0 ∷ lconst_1 ∷ fconst_0 ∷ fconst_1 ∷ fconst_2 ∷ dconst_0 ∷ dconst_1 ∷ bipush ∷ sipush ∷ ldc ∷ ldc_w ∷ ldc2_w ∷
+    aload ∷ aload_0 ∷ aload_1 ∷ aload_2 ∷ aload_3 ∷ dload ∷ dload_0 ∷ dload_1 ∷ dload_2 ∷ dload_3 ∷ fload ∷ fload_0 ∷ fload_1 ∷ fload_2 ∷ fload_3 ∷ iload ∷ iload_0 ∷ iload_1 ∷ iload_2 ∷ iload_3 ∷ lload ∷ lload_0 ∷ lload_1 ∷ lload_2 ∷ lload_3 ∷
+    astore ∷ astore_0 ∷ astore_1 ∷ astore_2 ∷ astore_3 ∷ dstore ∷ dstore_0 ∷ dstore_1 ∷ dstore_2 ∷ dstore_3 ∷ fstore ∷ fstore_0 ∷ fstore_1 ∷ fstore_2 ∷ fstore_3 ∷ istore ∷ istore_0 ∷ istore_1 ∷ istore_2 ∷ istore_3 ∷ lstore ∷ lstore_0 ∷ lstore_1 ∷ lstore_2 ∷ lstore_3 ∷
+    aaload ∷ aastore ∷ arraylength ∷ baload ∷ bastore ∷ caload ∷ castore ∷ daload ∷ dastore ∷ faload ∷ fastore ∷ iaload ∷ iastore ∷ laload ∷ lastore ∷ saload ∷ sastore ∷
+    pop ∷ pop2 ∷ dup ∷ dup_x1 ∷ dup_x2 ∷ dup2 ∷ dup2_x1 ∷ dup2_x2 ∷ swap ∷
+    iadd ∷ isub ∷ imul ∷ idiv ∷ irem ∷ ineg ∷ ishl ∷ ishr ∷ iushr ∷ iand ∷ ior ∷ ixor ∷ iinc ∷
+    ladd ∷ lsub ∷ lmul ∷ ldiv ∷ lrem ∷ lneg ∷ lshl ∷ lshr ∷ lushr ∷ land ∷ lor ∷ lxor ∷ lcmp ∷
+    dadd ∷ dsub ∷ dmul ∷ ddiv ∷ drem ∷ dneg ∷ dcmpl ∷ dcmpg ∷ fadd ∷ fsub ∷ fmul ∷ fdiv ∷ frem ∷ fneg ∷ fcmpl ∷ fcmpg ∷
+    d2i ∷ d2l ∷ d2f ∷ f2i ∷ f2l ∷ f2d ∷ i2l ∷ i2f ∷ i2d ∷ i2b ∷ i2c ∷ i2s ∷ l2i ∷ l2f ∷ l2d ∷
+    ifeq ∷ ifne ∷ iflt ∷ ifge ∷ ifgt ∷ ifle ∷ if_icmpeq ∷ if_icmpne ∷ if_icmplt ∷ if_icmpge ∷ if_icmpgt ∷ if_icmple ∷ if_acmpeq ∷ if_acmpne ∷ goto ∷ jsr ∷ ret ∷ tableswitch ∷ lookupswitch ∷ ifnull ∷ ifnonnull ∷ goto_w ∷ jsr_w ∷
+    areturn ∷ dreturn ∷ freturn ∷ ireturn ∷ lreturn ∷ return ∷
+    getstatic ∷ putstatic ∷ getfield ∷ putfield ∷ invokevirtual ∷ invokespecial ∷ invokestatic ∷ invokeinterface ∷ invokedynamic ∷
+    new ∷ newarray ∷ anewarray ∷ athrow ∷ checkcast ∷ instanceof ∷ monitorenter ∷ monitorexit ∷ multianewarray ∷
+    nop ∷ wide ∷ breakpoint ∷
+    [])
+    ≡
+    codes "aconst_null" ∷ codes "iconst_m1" ∷ codes "iconst_0" ∷ codes "iconst_1" ∷ codes "iconst_2" ∷ codes "iconst_3" ∷ codes "iconst_4" ∷ codes "iconst_5" ∷ codes "lconst_0" ∷ codes "lconst_1" ∷ codes "fconst_0" ∷ codes "fconst_1" ∷ codes "fconst_2" ∷ codes "dconst_0" ∷ codes "dconst_1" ∷ codes "bipush" ∷ codes "sipush" ∷ codes "ldc" ∷ codes "ldc_w" ∷ codes "ldc2_w" ∷
+    codes "aload" ∷ codes "aload_0" ∷ codes "aload_1" ∷ codes "aload_2" ∷ codes "aload_3" ∷ codes "dload" ∷ codes "dload_0" ∷ codes "dload_1" ∷ codes "dload_2" ∷ codes "dload_3" ∷ codes "fload" ∷ codes "fload_0" ∷ codes "fload_1" ∷ codes "fload_2" ∷ codes "fload_3" ∷ codes "iload" ∷ codes "iload_0" ∷ codes "iload_1" ∷ codes "iload_2" ∷ codes "iload_3" ∷ codes "lload" ∷ codes "lload_0" ∷ codes "lload_1" ∷ codes "lload_2" ∷ codes "lload_3" ∷
+    codes "astore" ∷ codes "astore_0" ∷ codes "astore_1" ∷ codes "astore_2" ∷ codes "astore_3" ∷ codes "dstore" ∷ codes "dstore_0" ∷ codes "dstore_1" ∷ codes "dstore_2" ∷ codes "dstore_3" ∷ codes "fstore" ∷ codes "fstore_0" ∷ codes "fstore_1" ∷ codes "fstore_2" ∷ codes "fstore_3" ∷ codes "istore" ∷ codes "istore_0" ∷ codes "istore_1" ∷ codes "istore_2" ∷ codes "istore_3" ∷ codes "lstore" ∷ codes "lstore_0" ∷ codes "lstore_1" ∷ codes "lstore_2" ∷ codes "lstore_3" ∷
+    codes "aaload" ∷ codes "aastore" ∷ codes "arraylength" ∷ codes "baload" ∷ codes "bastore" ∷ codes "caload" ∷ codes "castore" ∷ codes "daload" ∷ codes "dastore" ∷ codes "faload" ∷ codes "fastore" ∷ codes "iaload" ∷ codes "iastore" ∷ codes "laload" ∷ codes "lastore" ∷ codes "saload" ∷ codes "sastore" ∷
+    codes "pop" ∷ codes "pop2" ∷ codes "dup" ∷ codes "dup_x1" ∷ codes "dup_x2" ∷ codes "dup2" ∷ codes "dup2_x1" ∷ codes "dup2_x2" ∷ codes "swap" ∷
+    codes "iadd" ∷ codes "isub" ∷ codes "imul" ∷ codes "idiv" ∷ codes "irem" ∷ codes "ineg" ∷ codes "ishl" ∷ codes "ishr" ∷ codes "iushr" ∷ codes "iand" ∷ codes "ior" ∷ codes "ixor" ∷ codes "iinc" ∷
+    codes "ladd" ∷ codes "lsub" ∷ codes "lmul" ∷ codes "ldiv" ∷ codes "lrem" ∷ codes "lneg" ∷ codes "lshl" ∷ codes "lshr" ∷ codes "lushr" ∷ codes "land" ∷ codes "lor" ∷ codes "lxor" ∷ codes "lcmp" ∷
+    codes "dadd" ∷ codes "dsub" ∷ codes "dmul" ∷ codes "ddiv" ∷ codes "drem" ∷ codes "dneg" ∷ codes "dcmpl" ∷ codes "dcmpg" ∷ codes "fadd" ∷ codes "fsub" ∷ codes "fmul" ∷ codes "fdiv" ∷ codes "frem" ∷ codes "fneg" ∷ codes "fcmpl" ∷ codes "fcmpg" ∷
+    codes "d2i" ∷ codes "d2l" ∷ codes "d2f" ∷ codes "f2i" ∷ codes "f2l" ∷ codes "f2d" ∷ codes "i2l" ∷ codes "i2f" ∷ codes "i2d" ∷ codes "i2b" ∷ codes "i2c" ∷ codes "i2s" ∷ codes "l2i" ∷ codes "l2f" ∷ codes "l2d" ∷
+    codes "ifeq" ∷ codes "ifne" ∷ codes "iflt" ∷ codes "ifge" ∷ codes "ifgt" ∷ codes "ifle" ∷ codes "if_icmpeq" ∷ codes "if_icmpne" ∷ codes "if_icmplt" ∷ codes "if_icmpge" ∷ codes "if_icmpgt" ∷ codes "if_icmple" ∷ codes "if_acmpeq" ∷ codes "if_acmpne" ∷ codes "goto" ∷ codes "jsr" ∷ codes "ret" ∷ codes "tableswitch" ∷ codes "lookupswitch" ∷ codes "ifnull" ∷ codes "ifnonnull" ∷ codes "goto_w" ∷ codes "jsr_w" ∷
+    codes "areturn" ∷ codes "dreturn" ∷ codes "freturn" ∷ codes "ireturn" ∷ codes "lreturn" ∷ codes "return" ∷
+    codes "getstatic" ∷ codes "putstatic" ∷ codes "getfield" ∷ codes "putfield" ∷ codes "invokevirtual" ∷ codes "invokespecial" ∷ codes "invokestatic" ∷ codes "invokeinterface" ∷ codes "invokedynamic" ∷
+    codes "new" ∷ codes "newarray" ∷ codes "anewarray" ∷ codes "athrow" ∷ codes "checkcast" ∷ codes "instanceof" ∷ codes "monitorenter" ∷ codes "monitorexit" ∷ codes "multianewarray" ∷
+    codes "nop" ∷ codes "wide" ∷ codes "breakpoint" ∷
+    []
+unfolding mnemonics
+mnemonics_by_family = refl
+
+mnemonics_end : length mnemonics ≡ 203
+unfolding mnemonics
+mnemonics_end = refl
 
 base_types : map base_word (4 ∷ 5 ∷ 6 ∷ 7 ∷ 8 ∷ 9 ∷ 10 ∷ 11 ∷ 12 ∷ []) ≡ codes "boolean" ∷ codes "char" ∷ codes "float" ∷ codes "double" ∷ codes "byte" ∷ codes "short" ∷ codes "int" ∷ codes "long" ∷ [] ∷ []
 base_types = refl

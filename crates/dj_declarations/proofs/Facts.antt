@@ -166,6 +166,13 @@ has-name : map (has_method_named (declared_class file).methods) (codes "m" ∷ c
 unfolding declared_class file methods member pool
 has-name = refl
 
+abbrev abstract_one : Name → Method
+abstract_one name = record { flags = 1024; name = name; desc = no_parameters; body = Abstract }
+
+-- each method is looked at, the last one too
+has-name-of-any : map (has_method_named (abstract_one (codes "a") ∷ abstract_one (codes "m") ∷ [])) (codes "a" ∷ codes "m" ∷ codes "f" ∷ []) ≡ true ∷ true ∷ false ∷ []
+has-name-of-any = refl
+
 -- ---- a library's class
 
 stop : library_class (more_named.below_object named.stop_class []) ≡ record {

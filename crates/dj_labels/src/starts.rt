@@ -33,9 +33,8 @@ pub fn read_code(alloc: Global, code: &[u8]) -> Result<(Vec<u32>, Vec<Instr>), C
     ensures read { IfOk result (λ x. IsCut code.now x.0.items x.1.items (length code.now)) }
     ensures refused { IfErr result (IsStartsFault code.now) }
 {
-    // An instruction has at least one byte.
-    let mut starts = Vec::with_capacity(alloc, code.len())?;
-    let mut instrs = Vec::with_capacity(alloc, code.len())?;
+    let mut starts = Vec::new(alloc);
+    let mut instrs = Vec::new(alloc);
     let mut at = 0;
     while (at as usize) < code.len() {
         let (instr, next) = next_instr(alloc, code, at)?;
@@ -43,6 +42,9 @@ pub fn read_code(alloc: Global, code: &[u8]) -> Result<(Vec<u32>, Vec<Instr>), C
         instrs.push(instr)?;
         at = next;
     }
+    // The labelled code of each method is kept for a whole job.
+    starts.shrink_to_fit();
+    instrs.shrink_to_fit();
     Ok((starts, instrs))
 }
 
