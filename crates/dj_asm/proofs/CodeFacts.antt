@@ -55,7 +55,7 @@ operations =
 are_instrs : AreInstrsOf places (map Does operations)
     (instrs.Simple nop ∷ instrs.Push bipush (negsuc 4) ∷ instrs.Local iload 3 false ∷ instrs.Local ret 300 true ∷ instrs.Inc 3 (negsuc 4) false ∷ instrs.Inc 300 (negsuc 499) true
     ∷ instrs.Literal ldc 1 ∷ instrs.Literal ldc_w 4 ∷ instrs.Literal ldc 5 ∷ instrs.Literal ldc2_w 2
-    ∷ instrs.Branch goto (pos 2) ∷ instrs.Branch goto_w (pos 1) ∷ instrs.Table (pos 2) (negsuc 0) (pos 0 ∷ pos 1 ∷ []) ∷ instrs.Lookup (pos 2) ((negsuc 0, pos 1) ∷ (pos 7, pos 0) ∷ [])
+    ∷ instrs.Branch goto (pos 2) ∷ instrs.Branch goto_w (pos 1) ∷ instrs.Table (negsuc 0) (pos 2) (pos 0 ∷ pos 1 ∷ []) ∷ instrs.Lookup (pos 2) ((negsuc 0, pos 1) ∷ (pos 7, pos 0) ∷ [])
     ∷ instrs.Member putstatic 6 ∷ instrs.Member invokestatic 7 ∷ instrs.Member invokestatic 8 ∷ instrs.Dynamic 9 ∷ instrs.Class new 5 ∷ instrs.Array 8 ∷ instrs.Multi 5 2 ∷ [])
 unfolding label_number index_of
 are_instrs = (refl, (refl, (refl, (refl, (refl, (refl, (refl, (refl, (refl, (refl, (refl, (refl, (refl, (refl, (refl, (refl, (refl, (refl, (refl, (refl, (refl, tt)))))))))))))))))))))

@@ -148,7 +148,7 @@ proper_or_not (instrs.Literal op index) = literal (form_of op) index
 proper_or_not (instrs.Local op slot wide) = both (is_slot (form_of op)) (local slot wide)
 proper_or_not (instrs.Inc slot by wide) = both (local slot wide) (increment by wide)
 proper_or_not (instrs.Branch op target) = either (is_short_offset (form_of op)) (is_long_offset (form_of op))
-proper_or_not (instrs.Table default low targets) = table low targets
+proper_or_not (instrs.Table low default targets) = table low targets
 proper_or_not (instrs.Lookup default pairs) = lookup pairs
 proper_or_not (instrs.Member op index) = both (is_member (form_of op)) (below_short index)
 proper_or_not (instrs.Interface index count) = elim (both (below_short index) (both (below 0 count) (below_byte count))) [
@@ -166,6 +166,6 @@ proper_or_not (instrs.Multi index dims) = elim (both (below_short index) (both (
 -- the offsets of an instruction fit or they don't
 pub offsets_or_not : (at : ℕ) (instr : Instr) → Is (AreOffsets at instr)
 offsets_or_not at (instrs.Branch op target) = offset_fits (form_of op) (offset at target)
-offsets_or_not at (instrs.Table default low targets) = both (fits_int (offset at default)) (each (IsFar at) (λ target. fits_int (offset at target)) targets)
+offsets_or_not at (instrs.Table low default targets) = both (fits_int (offset at default)) (each (IsFar at) (λ target. fits_int (offset at target)) targets)
 offsets_or_not at (instrs.Lookup default pairs) = both (fits_int (offset at default)) (each (λ (pair : ℤ × ℤ). IsFar at pair.1) (λ pair. fits_int (offset at pair.1)) pairs)
 offsets_or_not at instr = inl tt

@@ -229,7 +229,7 @@ module _ (places : Places) (starts : List ℕ) (at : ℕ) where
   pub offsets_reach : (o : Operation) (i : Instr) → IsInstrOf places o i → IsOperation o → Fits i → is_reached places.number starts at o ≡ true
   offsets_reach (Jump op label) i is may h = jump_near op at (slice_index starts (places.number label)) may (subst Fits is h)
   offsets_reach (Table low labels default) i is may h =
-      let f : Fits (instrs.Table (target_of places default) low (map (target_of places) labels)) = subst Fits is h in
+      let f : Fits (instrs.Table low (target_of places default) (map (target_of places) labels)) = subst Fits is h in
       and_from (far_test default) (list_all far_test labels) (long_near at (slice_index starts (places.number default)) f.0) (labels_near labels f.1)
   offsets_reach (Lookup pairs default) i is may h =
       let f : Fits (instrs.Lookup (target_of places default) (map pair_to pairs)) = subst Fits is h in

@@ -38,7 +38,7 @@ fn targets_of(
 ) -> Result<Targets, AllocError>
     ensures { IfOk result (λ targets. targets ≡ map (λ (label : Label). pos (label_number labels.now label)) (map units_of words.now)) }
 {
-    let mut targets = Targets::new(alloc);
+    let mut targets = Targets::new(alloc)?;
     for word in words {
         targets.push(target_of(labels, *word))?;
     }
@@ -57,7 +57,7 @@ fn pairs_of(
     for pair in list {
         pairs.push((pair.key, target_of(labels, pair.target)))?;
     }
-    Ok(Pairs::from_vec(pairs))
+    Pairs::from_vec(pairs)
 }
 
 /// A jump by a table.
@@ -68,7 +68,7 @@ fn table_of(
     words: &[Word<'_>],
     default: Word<'_>,
 ) -> Result<Instr, AllocError>
-    ensures { IfOk result (λ instr. instr ≡ instrs.Table (pos (label_number labels.now (units_of default.entry))) low (map (λ (label : Label). pos (label_number labels.now label)) (map units_of words.now))) }
+    ensures { IfOk result (λ instr. instr ≡ instrs.Table low (pos (label_number labels.now (units_of default.entry))) (map (λ (label : Label). pos (label_number labels.now label)) (map units_of words.now))) }
 {
     let targets = targets_of(alloc, labels, words)?;
     Ok(Instr::Table {

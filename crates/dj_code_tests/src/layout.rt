@@ -289,7 +289,7 @@ fn instr_of(alloc: Global, reported: (u8, u8, i64, i64)) -> Result<Instr, AllocE
         b'b' => Ok(Instr::Branch { op, target: a }),
         b'p' => Ok(Instr::Push { op, value: 5 }),
         b't' => {
-            let mut targets = Targets::new(alloc);
+            let mut targets = Targets::new(alloc)?;
             targets.push(b)?;
             Ok(Instr::Table {
                 default: a,

@@ -4,13 +4,13 @@ use dj_ops::{CatchRow, CatchRows, Instr, Instrs, Pairs, Starts, Targets};
 use std::alloc::{AllocError, Global};
 
 fn targets_grow(alloc: Global) -> Result<bool, AllocError> {
-    let mut targets = Targets::new(alloc);
+    let mut targets = Targets::new(alloc)?;
     targets.push(-3)?;
     Ok(targets.as_slice() == [-3].as_slice())
 }
 
 fn pairs_grow(alloc: Global) -> Result<bool, AllocError> {
-    let mut pairs = Pairs::new(alloc);
+    let mut pairs = Pairs::new(alloc)?;
     pairs.push((-1, 7))?;
     Ok(pairs.as_slice() == [(-1, 7)].as_slice())
 }

@@ -328,7 +328,7 @@ module _ (imaged : Imaged) (types : Typed) (like : IsLike (typed_of imaged) type
     kept_is (instrs.Inc slot by wide) = refl
     kept_is (instrs.Branch op target) =
         sym (made_free imaged (operand_does jump_rows Nothing op (unsigned_abs target)) operands.Nothing (operand_free jump_rows Nothing op (unsigned_abs target) refl))
-    kept_is (instrs.Table default low targets) = refl
+    kept_is (instrs.Table low default targets) = refl
     kept_is (instrs.Lookup default pairs) = refl
     kept_is (instrs.Member op index) = indexed_free (instrs.Member op index) index (member op (named_at pool index)) (member_free op (named_at pool index))
     kept_is (instrs.Interface index count) =

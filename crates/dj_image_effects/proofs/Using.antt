@@ -152,7 +152,7 @@ class_instruction imaged (instrs.Push op value) named k (Makes class element is 
 class_instruction imaged (instrs.Local op slot wide) named k (Makes class element is number) = (class, element, is, number)
 class_instruction imaged (instrs.Inc slot by wide) named k (Makes class element is number) = (class, element, is, number)
 class_instruction imaged (instrs.Branch op target) named k (Makes class element is number) = (class, element, is, number)
-class_instruction imaged (instrs.Table default low targets) named k (Makes class element is number) = (class, element, is, number)
+class_instruction imaged (instrs.Table low default targets) named k (Makes class element is number) = (class, element, is, number)
 class_instruction imaged (instrs.Lookup default pairs) named k (Makes class element is number) = (class, element, is, number)
 class_instruction imaged (instrs.Array base) named k (Makes class element is number) = (class, element, is, number)
 class_instruction imaged instr named k (Names class is takes unmade number) = absurd cc

@@ -33,14 +33,14 @@ labels code ranges = record { code = code; ranges = ranges }
 
 -- of goto, tableswitch, lookupswitch and ldc
 targets : (targets_of (instrs.Branch goto (pos 3)) ≡ pos 3 ∷ [])
-    × (targets_of (instrs.Table (pos 1) (pos 5) (pos 2 ∷ pos 3 ∷ [])) ≡ pos 1 ∷ pos 2 ∷ pos 3 ∷ [])
+    × (targets_of (instrs.Table (pos 5) (pos 1) (pos 2 ∷ pos 3 ∷ [])) ≡ pos 1 ∷ pos 2 ∷ pos 3 ∷ [])
     × (targets_of (instrs.Lookup (pos 1) ((pos 5, pos 2) ∷ (pos 6, pos 3) ∷ [])) ≡ pos 1 ∷ pos 2 ∷ pos 3 ∷ [])
     × (targets_of (instrs.Literal ldc 3) ≡ [])
 targets = (refl, refl, refl, refl)
 
 -- the numbers that are matched, and those that are pushed, are no targets
-replaced : (with_targets (λ t. pos 9) (instrs.Table (pos 1) (pos 5) (pos 2 ∷ []))
-    ≡ instrs.Table (pos 9) (pos 5) (pos 9 ∷ []))
+replaced : (with_targets (λ t. pos 9) (instrs.Table (pos 5) (pos 1) (pos 2 ∷ []))
+    ≡ instrs.Table (pos 5) (pos 9) (pos 9 ∷ []))
     × (with_targets (λ t. pos 9) (instrs.Lookup (pos 1) ((pos 5, pos 2) ∷ [])) ≡ instrs.Lookup (pos 9) ((pos 5, pos 9) ∷ []))
     × (with_targets (λ t. pos 9) (instrs.Push bipush (pos 1)) ≡ instrs.Push bipush (pos 1))
 replaced = (refl, refl, refl)

@@ -86,7 +86,7 @@ without_targets starts (instrs.Literal op index) none = record { each = tt; star
 without_targets starts (instrs.Local op slot wide) none = record { each = tt; start = refl }
 without_targets starts (instrs.Inc slot by wide) none = record { each = tt; start = refl }
 without_targets starts (instrs.Branch op target) none = absurd cc
-without_targets starts (instrs.Table default low targets) none = absurd cc
+without_targets starts (instrs.Table low default targets) none = absurd cc
 without_targets starts (instrs.Lookup default pairs) none = absurd cc
 without_targets starts (instrs.Member op index) none = record { each = tt; start = refl }
 without_targets starts (instrs.Interface index count) none = record { each = tt; start = refl }

@@ -54,7 +54,7 @@ pairs_undone f g (pair ∷ pairs) h =
 -- what undoes f at each target undoes the replacement
 pub targets_undone : (f g : ℤ → ℤ) (instr : Instr) → AllByRecursion (λ t. g (f t) ≡ t) (targets_of instr) → with_targets g (with_targets f instr) ≡ instr
 targets_undone f g (instrs.Branch op target) h = ap (λ (t : ℤ). instrs.Branch op t) h.0
-targets_undone f g (instrs.Table default low targets) h =
+targets_undone f g (instrs.Table low default targets) h =
     let here : g (f default) ≡ default = h.0 in
     let rest : map g (map f targets) ≡ targets = map_undone f g targets h.1 in
     cc
@@ -77,7 +77,7 @@ pair_targets f (pair ∷ pairs) = ap (λ (l : List ℤ). f pair.1 ∷ l) (pair_t
 
 pub targets_replaced : (f : ℤ → ℤ) (instr : Instr) → targets_of (with_targets f instr) ≡ map f (targets_of instr)
 targets_replaced f (instrs.Branch op target) = refl
-targets_replaced f (instrs.Table default low targets) = refl
+targets_replaced f (instrs.Table low default targets) = refl
 targets_replaced f (instrs.Lookup default pairs) = ap (λ (l : List ℤ). f default ∷ l) (pair_targets f pairs)
 targets_replaced f instr = refl
 

@@ -45,13 +45,13 @@ lookup_to f pairs is = record {
 
 -- from one with other targets
 pub proper_from : (f : ℤ → ℤ) (instr : Instr) → IsProper (with_targets f instr) → IsProper instr
-proper_from f (instrs.Table default low targets) is = table_of low (map f targets) targets (length-map targets f) is
+proper_from f (instrs.Table low default targets) is = table_of low (map f targets) targets (length-map targets f) is
 proper_from f (instrs.Lookup default pairs) is = lookup_from f pairs is
 proper_from f instr is = is
 
 -- and to one
 pub proper_to : (f : ℤ → ℤ) (instr : Instr) → IsProper instr → IsProper (with_targets f instr)
-proper_to f (instrs.Table default low targets) is = table_of low targets (map f targets) (sym (length-map targets f)) is
+proper_to f (instrs.Table low default targets) is = table_of low targets (map f targets) (sym (length-map targets f)) is
 proper_to f (instrs.Lookup default pairs) is = lookup_to f pairs is
 proper_to f instr is = is
 

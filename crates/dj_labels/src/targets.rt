@@ -33,7 +33,7 @@ fn number_targets(
     ensures found { IfOk result (λ numbers. AreNumbers table.now.starts.items targets.now numbers) }
     ensures refused { IfErr result (LacksStart table.now.starts.items at targets.now) }
 {
-    let mut numbers = Targets::new(alloc);
+    let mut numbers = Targets::new(alloc)?;
     for &target in targets {
         numbers.push(number_of(table, at, target)?)?;
     }
@@ -50,7 +50,7 @@ fn number_pairs(
     ensures found { IfOk result (λ numbered. ArePairs table.now.starts.items pairs.now numbered) }
     ensures refused { IfErr result (LacksStart table.now.starts.items at (map (λ pair. pair.1) pairs.now)) }
 {
-    let mut numbered = Pairs::new(alloc);
+    let mut numbered = Pairs::new(alloc)?;
     for &(key, target) in pairs {
         numbered.push((key, number_of(table, at, target)?))?;
     }

@@ -50,7 +50,7 @@ both (inr none) q = inr (λ h. none h.0)
 
 reaches : (at : ℕ) (instr : Instr) → Is (AreOffsets at instr)
 reaches at (instrs.Branch op target) = fits_form (form_of op) (offset at target)
-reaches at (instrs.Table default low targets) = both (fits_long (offset at default)) (each (IsFar at) (λ target. fits_long (offset at target)) targets)
+reaches at (instrs.Table low default targets) = both (fits_long (offset at default)) (each (IsFar at) (λ target. fits_long (offset at target)) targets)
 reaches at (instrs.Lookup default pairs) = both (fits_long (offset at default)) (each (λ pair. IsFar at pair.1) (λ pair. fits_long (offset at pair.1)) pairs)
 reaches at _ = inl tt
 

@@ -33,13 +33,13 @@ length_most at (instrs.Local op slot false) = omega arith
 length_most at (instrs.Inc slot by true) = omega arith
 length_most at (instrs.Inc slot by false) = omega arith
 length_most at (instrs.Branch op target) = omega (arith, signed_short (form_of op) (target -ℤ pos at))
-length_most at (instrs.Table default low targets) = omega (arith, table_length at default low targets)
+length_most at (instrs.Table low default targets) = omega (arith, table_length at default low targets)
 length_most at (instrs.Lookup default pairs) = omega (arith, lookup_length at default pairs)
 length_most at _ = omega arith
 
 -- each entry has more than one
 pub length_least : (at : ℕ) (instr : Instr) → entry_count instr ≤ length_at at instr
-length_least at (instrs.Table default low targets) = omega (arith, table_length at default low targets)
+length_least at (instrs.Table low default targets) = omega (arith, table_length at default low targets)
 length_least at (instrs.Lookup default pairs) = omega (arith, lookup_length at default pairs)
 length_least at _ = omega arith
 
@@ -56,7 +56,7 @@ pair_with f pair = (pair.0, f pair.1)
 
 pub same_length : (f : ℤ → ℤ) (at : ℕ) (instr : Instr) → length_at at (with_targets f instr) ≡ length_at at instr
 same_length f at (instrs.Branch op target) = ap suc (signed_same (form_of op) (f target -ℤ pos at) (target -ℤ pos at))
-same_length f at (instrs.Table default low targets) = omega (arith, table_length at default low targets, table_length at (f default) low (map f targets), length-map targets f)
+same_length f at (instrs.Table low default targets) = omega (arith, table_length at default low targets, table_length at (f default) low (map f targets), length-map targets f)
 same_length f at (instrs.Lookup default pairs) = omega (arith, lookup_length at default pairs, lookup_length at (f default) (map (pair_with f) pairs), length-map pairs (pair_with f))
 same_length f at _ = refl
 

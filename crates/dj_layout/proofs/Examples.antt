@@ -34,10 +34,10 @@ more_places : (starts_from 0 (instrs.Simple nop ∷ instrs.Simple nop ∷ instrs
 more_places = (refl, refl)
 
 -- tableswitch with one target, after 0 to 3 bytes: what follows it starts at 20
-after_table : (starts_from 0 (instrs.Table (pos 1) (pos 0) (pos 1 ∷ []) ∷ instrs.Simple return ∷ []) ≡ 0 ∷ 20 ∷ [])
-    × (starts_from 0 (instrs.Simple nop ∷ instrs.Table (pos 2) (pos 0) (pos 2 ∷ []) ∷ instrs.Simple return ∷ []) ≡ 0 ∷ 1 ∷ 20 ∷ [])
-    × (starts_from 0 (instrs.Simple nop ∷ instrs.Simple nop ∷ instrs.Table (pos 3) (pos 0) (pos 3 ∷ []) ∷ instrs.Simple return ∷ []) ≡ 0 ∷ 1 ∷ 2 ∷ 20 ∷ [])
-    × (starts_from 0 (instrs.Simple nop ∷ instrs.Simple nop ∷ instrs.Simple nop ∷ instrs.Table (pos 4) (pos 0) (pos 4 ∷ []) ∷ instrs.Simple return ∷ []) ≡ 0 ∷ 1 ∷ 2 ∷ 3 ∷ 20 ∷ [])
+after_table : (starts_from 0 (instrs.Table (pos 0) (pos 1) (pos 1 ∷ []) ∷ instrs.Simple return ∷ []) ≡ 0 ∷ 20 ∷ [])
+    × (starts_from 0 (instrs.Simple nop ∷ instrs.Table (pos 0) (pos 2) (pos 2 ∷ []) ∷ instrs.Simple return ∷ []) ≡ 0 ∷ 1 ∷ 20 ∷ [])
+    × (starts_from 0 (instrs.Simple nop ∷ instrs.Simple nop ∷ instrs.Table (pos 0) (pos 3) (pos 3 ∷ []) ∷ instrs.Simple return ∷ []) ≡ 0 ∷ 1 ∷ 2 ∷ 20 ∷ [])
+    × (starts_from 0 (instrs.Simple nop ∷ instrs.Simple nop ∷ instrs.Simple nop ∷ instrs.Table (pos 0) (pos 4) (pos 4 ∷ []) ∷ instrs.Simple return ∷ []) ≡ 0 ∷ 1 ∷ 2 ∷ 3 ∷ 20 ∷ [])
 after_table = (refl, refl, refl, refl)
 
 -- ---- layouts

@@ -57,7 +57,7 @@ far_is at z le is = omega (arith, ints, le, is.0, is.1)
 
 pub others_reach : (at : ℕ) (instr : Instr) → at ≤ most_bytes → AllByRecursion IsAddress (targets_of instr) → ((op : ℕ) (target : ℤ) → instr ≡ instrs.Branch op target → ⊥) → AreOffsets at instr
 others_reach at (instrs.Branch op target) le are other = absurd (other op target refl)
-others_reach at (instrs.Table default low targets) le are other = (far_is at default le are.0, each_then IsAddress (IsFar at) (λ z is. far_is at z le is) targets are.1)
+others_reach at (instrs.Table low default targets) le are other = (far_is at default le are.0, each_then IsAddress (IsFar at) (λ z is. far_is at z le is) targets are.1)
 others_reach at (instrs.Lookup default pairs) le are other =
     (far_is at default le are.0, each_then (λ pair. IsAddress pair.1) (λ pair. IsFar at pair.1) (λ pair is. far_is at pair.1 le is) pairs (each_of_map IsAddress (λ pair. pair.1) pairs are.1))
 others_reach at _ le are other = tt
@@ -124,7 +124,7 @@ item_is P instrs k x all lt is = subst P (sym is) (All-from_recursion P instrs a
 -- what is replaced is each target
 targets_with : (f : ℤ → ℤ) (instr : Instr) → targets_of (with_targets f instr) ≡ map f (targets_of instr)
 targets_with f (instrs.Branch op target) = refl
-targets_with f (instrs.Table default low targets) = refl
+targets_with f (instrs.Table low default targets) = refl
 targets_with f (instrs.Lookup default pairs) = ap (λ (l : List ℤ). f default ∷ l) (pairs_with f pairs)
   where
     pairs_with : (f : ℤ → ℤ) (pairs : List (ℤ × ℤ)) → map (λ (pair : ℤ × ℤ). pair.1) (map (pair_with f) pairs) ≡ map f (map (λ (pair : ℤ × ℤ). pair.1) pairs)

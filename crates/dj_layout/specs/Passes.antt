@@ -15,7 +15,7 @@ use Rattle.dj_layout.specs.Faults.{IsFirstPast}
 
 -- the entries of a switch
 abbrev pub entry_count : Instr → ℕ
-entry_count (instrs.Table default low targets) = length targets
+entry_count (instrs.Table low default targets) = length targets
 entry_count (instrs.Lookup default pairs) = length pairs
 entry_count instr = 0
 

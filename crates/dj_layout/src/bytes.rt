@@ -26,7 +26,7 @@ fn target_addresses(alloc: Global, starts: &[u32], numbers: &[i64]) -> Result<Ta
     requires { AllByRecursion (IsNumber (length starts.now)) numbers.now }
     ensures { IfOk result (λ targets. targets ≡ map (address_of starts.now) numbers.now) }
 {
-    let mut targets = Targets::new(alloc);
+    let mut targets = Targets::new(alloc)?;
     for number in numbers {
         targets.push(address_of(starts, *number))?;
     }
@@ -46,7 +46,7 @@ fn pair_addresses(
     for pair in numbers {
         pairs.push((pair.0, address_of(starts, pair.1)))?;
     }
-    Ok(Pairs::from_vec(pairs))
+    Pairs::from_vec(pairs)
 }
 
 /// The instruction with the addresses of its targets.

@@ -33,7 +33,7 @@ bytes_of n = record { charge = charges.Alloc; amount = n } ∷ []
 
 abbrev jumps : List Instruction
 jumps = map (λ (n : ℕ). jump n 3) (153 ∷ 154 ∷ 155 ∷ 156 ∷ 157 ∷ 158 ∷ 159 ∷ 160 ∷ 161 ∷ 162 ∷ 163 ∷ 164 ∷ 165 ∷ 166 ∷ 167 ∷ 198 ∷ 199 ∷ 200 ∷ [])
-    ++ instruction_of (instrs.Table (pos 1) (pos 0) (pos 2 ∷ [])) Nothing ∷ instruction_of (instrs.Lookup (pos 1) []) Nothing ∷ []
+    ++ instruction_of (instrs.Table (pos 0) (pos 1) (pos 2 ∷ [])) Nothing ∷ instruction_of (instrs.Lookup (pos 1) []) Nothing ∷ []
 
 -- taken or not
 jumps_charged : map (charged (values.Int (pos 1) ∷ values.Int (pos 2) ∷ [])) jumps ≡ map (λ (i : Instruction). once charges.Jump) jumps

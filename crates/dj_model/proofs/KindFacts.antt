@@ -27,7 +27,7 @@ abbrev leaves : List Kind → Option Kinds
 leaves stack = Some (with_operands stack)
 
 abbrev table : ℕ → List ℤ → Instruction
-table default targets = instruction_of (instrs.Table (pos default) (pos 1) targets) Nothing
+table default targets = instruction_of (instrs.Table (pos 1) (pos default) targets) Nothing
 
 abbrev lookup : ℕ → List (ℤ × ℤ) → Instruction
 lookup default pairs = instruction_of (instrs.Lookup (pos default) pairs) Nothing

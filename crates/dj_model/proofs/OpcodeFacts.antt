@@ -64,7 +64,7 @@ pushes : plainly (instrs.Push 16 (negsuc 127)) ∷ plainly (instrs.Push 17 (pos 
 unfolding instruction_of simple
 pushes = refl
 
-switches : plainly (instrs.Table (pos 9) (negsuc 0) (pos 4 ∷ pos 5 ∷ pos 6 ∷ [])) ∷ plainly (instrs.Lookup (pos 9) ((negsuc 6, pos 4) ∷ (pos 80, pos 5) ∷ [])) ∷ [] ≡ Switch ((negsuc 0, 4) ∷ (pos 0, 5) ∷ (pos 1, 6) ∷ []) 9 ∷ Switch ((negsuc 6, 4) ∷ (pos 80, 5) ∷ []) 9 ∷ []
+switches : plainly (instrs.Table (negsuc 0) (pos 9) (pos 4 ∷ pos 5 ∷ pos 6 ∷ [])) ∷ plainly (instrs.Lookup (pos 9) ((negsuc 6, pos 4) ∷ (pos 80, pos 5) ∷ [])) ∷ [] ≡ Switch ((negsuc 0, 4) ∷ (pos 0, 5) ∷ (pos 1, 6) ∷ []) 9 ∷ Switch ((negsuc 6, 4) ∷ (pos 80, 5) ∷ []) 9 ∷ []
 unfolding instruction_of simple
 switches = refl
 

@@ -95,7 +95,7 @@ abbrev switching : Instruction → List ℕ → Judged
 switching switch framed = of (op iconst_0 ∷ switch ∷ op aload_0 ∷ op areturn ∷ op aload_0 ∷ op areturn ∷ op aload_0 ∷ op areturn ∷ []) (map (λ at. frame at forms.Same) framed) []
 
 abbrev table : Instruction
-table = instruction_of (instrs.Table (pos 6) (pos 1) (pos 2 ∷ pos 4 ∷ [])) Nothing
+table = instruction_of (instrs.Table (pos 1) (pos 6) (pos 2 ∷ pos 4 ∷ [])) Nothing
 
 abbrev lookup : Instruction
 lookup = instruction_of (instrs.Lookup (pos 6) ((pos 3, pos 2) ∷ (pos 7, pos 4) ∷ [])) Nothing
@@ -112,7 +112,7 @@ unfolding after instruction_of simple state_before frames_after moved
 switches = refl
 
 -- a switch may stand last, and its int has to be there
-last_switches : of (op iconst_0 ∷ instruction_of (instrs.Lookup (pos 0) []) Nothing ∷ []) (frame 0 forms.Same ∷ []) [] ∷ of (op iconst_0 ∷ instruction_of (instrs.Table (pos 0) (pos 1) []) Nothing ∷ []) (frame 0 forms.Same ∷ []) []
+last_switches : of (op iconst_0 ∷ instruction_of (instrs.Lookup (pos 0) []) Nothing ∷ []) (frame 0 forms.Same ∷ []) [] ∷ of (op iconst_0 ∷ instruction_of (instrs.Table (pos 1) (pos 0) []) Nothing ∷ []) (frame 0 forms.Same ∷ []) []
     ∷ of (op aload_0 ∷ instruction_of (instrs.Lookup (pos 0) []) Nothing ∷ []) (frame 0 forms.Same ∷ []) [] ∷ of (op iconst_0 ∷ instruction_of (instrs.Lookup (pos 0) []) Nothing ∷ []) [] []
     ∷ of (op iconst_0 ∷ instruction_of (instrs.Lookup (pos 1) []) Nothing ∷ []) (frame 1 forms.Same ∷ []) [] ∷ []
     ≡ Shape ∷ Shape ∷ Fault (Some 1) ∷ Fault (Some 1) ∷ Fault (Some 0) ∷ []

@@ -77,7 +77,7 @@ verify_code =
     ∷ class new c_type ∷ op dup ∷ construct c_type [] ∷ op astore_2 ∷ op aload_2 ∷ op iload_1 ∷ field putfield b_type (codes "f") int
     ∷ op lconst_1 ∷ field getstatic c_type (codes "n") long ∷ op ladd ∷ op lstore_3
     ∷ op aload_2 ∷ interface_method 1 i_type (codes "m") [] (Some int) ∷ op aload_2 ∷ method invokevirtual b_type (codes "m") [] (Some int) ∷ op iadd ∷ method invokestatic a_type (codes "k") (int ∷ []) (Some int)
-    ∷ instruction_of (instrs.Table (pos 28) (pos 1) (pos 21 ∷ pos 24 ∷ [])) Nothing
+    ∷ instruction_of (instrs.Table (pos 1) (pos 28) (pos 21 ∷ pos 24 ∷ [])) Nothing
     ∷ op iconst_2 ∷ newarray 8 ∷ op areturn
     ∷ op aload_0 ∷ op arraylength ∷ op istore_1 ∷ jump goto 21
     ∷ class new error ∷ op dup ∷ op iload_1 ∷ jump ifne 34 ∷ op aconst_null ∷ jump goto 35 ∷ constant (AText (codes "x")) ∷ construct error (string ∷ []) ∷ op athrow

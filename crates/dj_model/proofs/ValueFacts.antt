@@ -278,7 +278,7 @@ unfolding on_values instruction_of
 switches = refl
 
 abbrev tabled : ℤ → Option Way
-tabled z = option_map (λ v. v.way) (on_values (instruction_of (instrs.Table (pos 9) (negsuc 0) (pos 4 ∷ pos 5 ∷ pos 6 ∷ [])) Nothing) [] (values.Int z ∷ []))
+tabled z = option_map (λ v. v.way) (on_values (instruction_of (instrs.Table (negsuc 0) (pos 9) (pos 4 ∷ pos 5 ∷ pos 6 ∷ [])) Nothing) [] (values.Int z ∷ []))
 
 tables : map tabled (negsuc 1 ∷ negsuc 0 ∷ pos 0 ∷ pos 1 ∷ pos 2 ∷ []) ≡ Some (To 9) ∷ Some (To 4) ∷ Some (To 5) ∷ Some (To 6) ∷ Some (To 9) ∷ []
 unfolding on_values instruction_of

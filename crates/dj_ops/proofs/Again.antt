@@ -133,11 +133,11 @@ wide_increment_back at slot by p q =
 plainly : {at : ℕ} {instr : Instr} {text bytes : List ℕ} → text ≡ bytes → ReadsBack at instr bytes → ReadsBack at instr text
 plainly {at} {instr} {text} {bytes} e back = subst (ReadsBack at instr) (sym e) back
 
-table_back : (at : ℕ) (default low : ℤ) (targets : List ℤ) (text : List ℕ) → IsProper (instrs.Table default low targets) → SpellsInstruction at (instrs.Table default low targets) text → ReadsBack at (instrs.Table default low targets) text
+table_back : (at : ℕ) (default low : ℤ) (targets : List ℤ) (text : List ℕ) → IsProper (instrs.Table low default targets) → SpellsInstruction at (instrs.Table low default targets) text → ReadsBack at (instrs.Table low default targets) text
 table_back at default low targets text proper is =
     let rest : List ℕ = is.padding ++ target_bytes at default ++ s4 low ++ s4 (high_of low targets) ++ flat_map (target_bytes at) targets in
-    let spelled : SpellsInstruction at (instrs.Table default low targets) (170 ∷ rest) = record { padding = is.padding; padded = is.padded; offsets = is.offsets; are = refl } in
-    let back : ReadsBack at (instrs.Table default low targets) (170 ∷ rest) = by_form TableSwitch at 170 _ rest table_form (λ d. cc) (λ c next s. padded_table_again at default low targets rest c next proper spelled s) in
+    let spelled : SpellsInstruction at (instrs.Table low default targets) (170 ∷ rest) = record { padding = is.padding; padded = is.padded; offsets = is.offsets; are = refl } in
+    let back : ReadsBack at (instrs.Table low default targets) (170 ∷ rest) = by_form TableSwitch at 170 _ rest table_form (λ d. cc) (λ c next s. padded_table_again at default low targets rest c next proper spelled s) in
     plainly is.are back
 
 lookup_back : (at : ℕ) (default : ℤ) (pairs : List (ℤ × ℤ)) (text : List ℕ) → IsProper (instrs.Lookup default pairs) → SpellsInstruction at (instrs.Lookup default pairs) text → ReadsBack at (instrs.Lookup default pairs) text
@@ -156,7 +156,7 @@ reads_back at (instrs.Local op slot true) text proper is = plainly is.are (wide_
 reads_back at (instrs.Inc slot by false) text proper is = plainly is.are (increment_back at slot by proper.0 proper.1)
 reads_back at (instrs.Inc slot by true) text proper is = plainly is.are (wide_increment_back at slot by proper.0 proper.1)
 reads_back at (instrs.Branch op t) text proper is = plainly is.are (branch_back (form_of op) at op t refl is.offsets)
-reads_back at (instrs.Table default low targets) text proper is = table_back at default low targets text proper is
+reads_back at (instrs.Table low default targets) text proper is = table_back at default low targets text proper is
 reads_back at (instrs.Lookup default pairs) text proper is = lookup_back at default pairs text proper is
 reads_back at (instrs.Member op index) text proper is = plainly is.are (member_back at op index proper.0 proper.1)
 reads_back at (instrs.Interface index count) text proper is = plainly is.are (interface_back at index count proper.0 proper.1 proper.2)

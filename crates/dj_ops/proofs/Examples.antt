@@ -50,7 +50,7 @@ indexes = (
 )
 
 -- tableswitch at address 1, with 2 bytes of padding, of 3 and 4 to 13 and 14, and to 15 else
-table : SpellsInstruction 1 (instrs.Table (pos 15) (pos 3) (pos 13 ∷ pos 14 ∷ []))
+table : SpellsInstruction 1 (instrs.Table (pos 3) (pos 15) (pos 13 ∷ pos 14 ∷ []))
     (170 ∷ 9 ∷ 9 ∷ 0 ∷ 0 ∷ 0 ∷ 14 ∷ 0 ∷ 0 ∷ 0 ∷ 3 ∷ 0 ∷ 0 ∷ 0 ∷ 4 ∷ 0 ∷ 0 ∷ 0 ∷ 12 ∷ 0 ∷ 0 ∷ 0 ∷ 13 ∷ [])
 table = record {
   padding = 9 ∷ 9 ∷ [];
@@ -59,7 +59,7 @@ table = record {
   are = refl;
 }
 
-table_proper : IsProper (instrs.Table (pos 15) (pos 3) (pos 13 ∷ pos 14 ∷ []))
+table_proper : IsProper (instrs.Table (pos 3) (pos 15) (pos 13 ∷ pos 14 ∷ []))
 table_proper = record { some = omega arith; low_fits = sfits_lit tt; high_fits = sfits_lit tt }
 
 -- lookupswitch at address 3, without padding, of -1 to 0, and to itself else
@@ -108,7 +108,7 @@ no_less_padding is = omega (arith, is.aligned)
 -- ---- operands that no instruction has
 
 -- high would be 2,147,483,648
-high_past : IsProper (instrs.Table (pos 0) (pos 2147483647) (pos 0 ∷ pos 0 ∷ [])) → ⊥
+high_past : IsProper (instrs.Table (pos 2147483647) (pos 0) (pos 0 ∷ pos 0 ∷ [])) → ⊥
 high_past is = omega (arith, ints, is.high_fits)
 
 no_targets : IsProper (instrs.Table (pos 0) (pos 0) []) → ⊥
@@ -192,10 +192,10 @@ abbrev refused_at : ℕ → List ℕ → OpError → Type 0
 refused_at at code e = instr_at (cursor_at at code) ≡ Err e
 
 -- a switch at each place of four, with any padding
-tables : read_at 0 (170 ∷ 1 ∷ 2 ∷ 3 ∷ 0 ∷ 0 ∷ 0 ∷ 20 ∷ 0 ∷ 0 ∷ 0 ∷ 0 ∷ 0 ∷ 0 ∷ 0 ∷ 0 ∷ 0 ∷ 0 ∷ 0 ∷ 24 ∷ []) (instrs.Table (pos 20) (pos 0) (pos 24 ∷ [])) 20
-    × read_at 1 (0 ∷ 170 ∷ 1 ∷ 2 ∷ 0 ∷ 0 ∷ 0 ∷ 20 ∷ 0 ∷ 0 ∷ 0 ∷ 0 ∷ 0 ∷ 0 ∷ 0 ∷ 0 ∷ 0 ∷ 0 ∷ 0 ∷ 24 ∷ []) (instrs.Table (pos 21) (pos 0) (pos 25 ∷ [])) 20
-    × read_at 2 (0 ∷ 0 ∷ 170 ∷ 1 ∷ 0 ∷ 0 ∷ 0 ∷ 20 ∷ 0 ∷ 0 ∷ 0 ∷ 0 ∷ 0 ∷ 0 ∷ 0 ∷ 0 ∷ 0 ∷ 0 ∷ 0 ∷ 24 ∷ []) (instrs.Table (pos 22) (pos 0) (pos 26 ∷ [])) 20
-    × read_at 3 (0 ∷ 0 ∷ 0 ∷ 170 ∷ 0 ∷ 0 ∷ 0 ∷ 20 ∷ 0 ∷ 0 ∷ 0 ∷ 0 ∷ 0 ∷ 0 ∷ 0 ∷ 0 ∷ 0 ∷ 0 ∷ 0 ∷ 24 ∷ []) (instrs.Table (pos 23) (pos 0) (pos 27 ∷ [])) 20
+tables : read_at 0 (170 ∷ 1 ∷ 2 ∷ 3 ∷ 0 ∷ 0 ∷ 0 ∷ 20 ∷ 0 ∷ 0 ∷ 0 ∷ 0 ∷ 0 ∷ 0 ∷ 0 ∷ 0 ∷ 0 ∷ 0 ∷ 0 ∷ 24 ∷ []) (instrs.Table (pos 0) (pos 20) (pos 24 ∷ [])) 20
+    × read_at 1 (0 ∷ 170 ∷ 1 ∷ 2 ∷ 0 ∷ 0 ∷ 0 ∷ 20 ∷ 0 ∷ 0 ∷ 0 ∷ 0 ∷ 0 ∷ 0 ∷ 0 ∷ 0 ∷ 0 ∷ 0 ∷ 0 ∷ 24 ∷ []) (instrs.Table (pos 0) (pos 21) (pos 25 ∷ [])) 20
+    × read_at 2 (0 ∷ 0 ∷ 170 ∷ 1 ∷ 0 ∷ 0 ∷ 0 ∷ 20 ∷ 0 ∷ 0 ∷ 0 ∷ 0 ∷ 0 ∷ 0 ∷ 0 ∷ 0 ∷ 0 ∷ 0 ∷ 0 ∷ 24 ∷ []) (instrs.Table (pos 0) (pos 22) (pos 26 ∷ [])) 20
+    × read_at 3 (0 ∷ 0 ∷ 0 ∷ 170 ∷ 0 ∷ 0 ∷ 0 ∷ 20 ∷ 0 ∷ 0 ∷ 0 ∷ 0 ∷ 0 ∷ 0 ∷ 0 ∷ 0 ∷ 0 ∷ 0 ∷ 0 ∷ 24 ∷ []) (instrs.Table (pos 0) (pos 23) (pos 27 ∷ [])) 20
 unfolding form_of instr_at padded_at table_from bounds_at target_at s4_at many_at
 tables = (refl, refl, refl, refl)
 
@@ -231,10 +231,10 @@ padding_written : (written 2 (instrs.Lookup (pos 7) []) ≡ 171 ∷ 0 ∷ 0 ∷ 
 padding_written = (refl, λ e. absurd cc (e))
 
 -- a switch is as long as its place wants
-lengths_of_switches : (length_at 0 (instrs.Table (pos 30) (pos 0) (pos 0 ∷ [])) ≡ 20)
-    × (length_at 1 (instrs.Table (pos 30) (pos 0) (pos 0 ∷ [])) ≡ 19)
-    × (length_at 2 (instrs.Table (pos 30) (pos 0) (pos 0 ∷ [])) ≡ 18)
-    × (length_at 3 (instrs.Table (pos 30) (pos 0) (pos 0 ∷ [])) ≡ 17)
+lengths_of_switches : (length_at 0 (instrs.Table (pos 0) (pos 30) (pos 0 ∷ [])) ≡ 20)
+    × (length_at 1 (instrs.Table (pos 0) (pos 30) (pos 0 ∷ [])) ≡ 19)
+    × (length_at 2 (instrs.Table (pos 0) (pos 30) (pos 0 ∷ [])) ≡ 18)
+    × (length_at 3 (instrs.Table (pos 0) (pos 30) (pos 0 ∷ [])) ≡ 17)
     × (length_at 4 (instrs.Lookup (pos 9) ((pos 0, pos 4) ∷ [])) ≡ 20)
 lengths_of_switches = (refl, refl, refl, refl, refl)
 

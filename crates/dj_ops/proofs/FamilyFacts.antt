@@ -68,9 +68,9 @@ rows =
     ∷ row 0 (instrs.Array 8) (188 ∷ 8 ∷ [])
     ∷ row 0 (instrs.Multi 258 3) (197 ∷ 1 ∷ 2 ∷ 3 ∷ [])
     -- tableswitch, of 2 bytes of padding, of none and of one: of -1 and 0, of 7, and of 7
-    ∷ row 1 (instrs.Table (pos 0) (negsuc 0) (pos 259 ∷ pos 1 ∷ [])) (170 ∷ 0 ∷ 0 ∷ 255 ∷ 255 ∷ 255 ∷ 255 ∷ 255 ∷ 255 ∷ 255 ∷ 255 ∷ 0 ∷ 0 ∷ 0 ∷ 0 ∷ 0 ∷ 0 ∷ 1 ∷ 2 ∷ 0 ∷ 0 ∷ 0 ∷ 0 ∷ [])
-    ∷ row 3 (instrs.Table (pos 10) (pos 7) (pos 2 ∷ [])) (170 ∷ 0 ∷ 0 ∷ 0 ∷ 7 ∷ 0 ∷ 0 ∷ 0 ∷ 7 ∷ 0 ∷ 0 ∷ 0 ∷ 7 ∷ 255 ∷ 255 ∷ 255 ∷ 255 ∷ [])
-    ∷ row 2 (instrs.Table (pos 2) (pos 7) (pos 3 ∷ [])) (170 ∷ 0 ∷ 0 ∷ 0 ∷ 0 ∷ 0 ∷ 0 ∷ 0 ∷ 0 ∷ 7 ∷ 0 ∷ 0 ∷ 0 ∷ 7 ∷ 0 ∷ 0 ∷ 0 ∷ 1 ∷ [])
+    ∷ row 1 (instrs.Table (negsuc 0) (pos 0) (pos 259 ∷ pos 1 ∷ [])) (170 ∷ 0 ∷ 0 ∷ 255 ∷ 255 ∷ 255 ∷ 255 ∷ 255 ∷ 255 ∷ 255 ∷ 255 ∷ 0 ∷ 0 ∷ 0 ∷ 0 ∷ 0 ∷ 0 ∷ 1 ∷ 2 ∷ 0 ∷ 0 ∷ 0 ∷ 0 ∷ [])
+    ∷ row 3 (instrs.Table (pos 7) (pos 10) (pos 2 ∷ [])) (170 ∷ 0 ∷ 0 ∷ 0 ∷ 7 ∷ 0 ∷ 0 ∷ 0 ∷ 7 ∷ 0 ∷ 0 ∷ 0 ∷ 7 ∷ 255 ∷ 255 ∷ 255 ∷ 255 ∷ [])
+    ∷ row 2 (instrs.Table (pos 7) (pos 2) (pos 3 ∷ [])) (170 ∷ 0 ∷ 0 ∷ 0 ∷ 0 ∷ 0 ∷ 0 ∷ 0 ∷ 0 ∷ 7 ∷ 0 ∷ 0 ∷ 0 ∷ 7 ∷ 0 ∷ 0 ∷ 0 ∷ 1 ∷ [])
     -- lookupswitch, of 3 bytes of padding and of one: of -2 and 258, and of none
     ∷ row 0 (instrs.Lookup (pos 9) ((negsuc 1, pos 3) ∷ (pos 258, pos 0) ∷ [])) (171 ∷ 0 ∷ 0 ∷ 0 ∷ 0 ∷ 0 ∷ 0 ∷ 9 ∷ 0 ∷ 0 ∷ 0 ∷ 2 ∷ 255 ∷ 255 ∷ 255 ∷ 254 ∷ 0 ∷ 0 ∷ 0 ∷ 3 ∷ 0 ∷ 0 ∷ 1 ∷ 2 ∷ 0 ∷ 0 ∷ 0 ∷ 0 ∷ [])
     ∷ row 2 (instrs.Lookup (pos 7) []) (171 ∷ 0 ∷ 0 ∷ 0 ∷ 0 ∷ 5 ∷ 0 ∷ 0 ∷ 0 ∷ 0 ∷ [])
@@ -105,7 +105,7 @@ unfolding form_of instr_at s2_at short_literal_at short_push_at member_at class_
 not_read = (λ e. absurd cc (e), λ e. absurd cc (e), λ e. absurd cc (e), λ e. absurd cc (e))
 
 -- the padding is zeros and not other bytes, an offset is counted from the opcode and not from the operands, and wide stands before the opcode
-not_written : (written 1 (instrs.Table (pos 2) (pos 7) (pos 3 ∷ [])) ≢ 170 ∷ 9 ∷ 9 ∷ 0 ∷ 0 ∷ 0 ∷ 1 ∷ 0 ∷ 0 ∷ 0 ∷ 7 ∷ 0 ∷ 0 ∷ 0 ∷ 7 ∷ 0 ∷ 0 ∷ 0 ∷ 2 ∷ [])
+not_written : (written 1 (instrs.Table (pos 7) (pos 2) (pos 3 ∷ [])) ≢ 170 ∷ 9 ∷ 9 ∷ 0 ∷ 0 ∷ 0 ∷ 1 ∷ 0 ∷ 0 ∷ 0 ∷ 7 ∷ 0 ∷ 0 ∷ 0 ∷ 7 ∷ 0 ∷ 0 ∷ 0 ∷ 2 ∷ [])
     × (written 2 (instrs.Branch 167 (pos 5)) ≢ 167 ∷ 0 ∷ 2 ∷ [])
     × (written 0 (instrs.Local 21 256 true) ≢ 21 ∷ 196 ∷ 1 ∷ 0 ∷ [])
     × (written 0 (instrs.Multi 258 3) ≢ 197 ∷ 3 ∷ 1 ∷ 2 ∷ [])

@@ -164,9 +164,9 @@ indexes = (
 )
 
 -- low and high at their ends, and low below its own
-tables : IsProper (instrs.Table (pos 0) (negsuc 2147483647) (pos 0 ∷ []))
-    × IsProper (instrs.Table (pos 0) (pos 2147483646) (pos 0 ∷ pos 0 ∷ []))
-    × (IsProper (instrs.Table (pos 0) (negsuc 2147483648) (pos 0 ∷ [])) → ⊥)
+tables : IsProper (instrs.Table (negsuc 2147483647) (pos 0) (pos 0 ∷ []))
+    × IsProper (instrs.Table (pos 2147483646) (pos 0) (pos 0 ∷ pos 0 ∷ []))
+    × (IsProper (instrs.Table (negsuc 2147483648) (pos 0) (pos 0 ∷ [])) → ⊥)
 tables = (
   record { some = omega arith; low_fits = sfits_lit tt; high_fits = sfits_lit tt },
   record { some = omega arith; low_fits = sfits_lit tt; high_fits = sfits_lit tt },
@@ -199,8 +199,8 @@ unfolding form_of
 wide_jumps = (sfits_lit tt, λ h. omega (arith, ints, h), sfits_lit tt, λ h. omega (arith, ints, h))
 
 -- the offsets of a switch have four bytes each: the default's, a target's and that of a pair's target
-switch_jumps : AreOffsets 1 (instrs.Table (pos 2147483648) (pos 0) (pos 2147483648 ∷ []))
-    × (AreOffsets 1 (instrs.Table (pos 2147483649) (pos 0) (pos 0 ∷ [])) → ⊥)
+switch_jumps : AreOffsets 1 (instrs.Table (pos 0) (pos 2147483648) (pos 2147483648 ∷ []))
+    × (AreOffsets 1 (instrs.Table (pos 0) (pos 2147483649) (pos 0 ∷ [])) → ⊥)
     × (AreOffsets 1 (instrs.Table (pos 0) (pos 0) (pos 0 ∷ pos 2147483649 ∷ [])) → ⊥)
     × AreOffsets 1 (instrs.Lookup (pos 2147483648) ((pos 0, pos 2147483648) ∷ []))
     × (AreOffsets 1 (instrs.Lookup (pos 2147483649) []) → ⊥)

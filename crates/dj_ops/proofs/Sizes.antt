@@ -17,7 +17,7 @@ pairs_length at [] = refl
 pairs_length at (pair ∷ pairs) = omega (arith, pairs_length at pairs, length-append (pair_bytes at pair) (flat_map (pair_bytes at) pairs))
 
 table_with : (padding : List ℕ) (at : ℕ) (default low : ℤ) (targets : List ℤ)
-    → length (bytes_with padding at (instrs.Table default low targets)) ≡ 1 + length padding + 12 + length targets * 4
+    → length (bytes_with padding at (instrs.Table low default targets)) ≡ 1 + length padding + 12 + length targets * 4
 table_with [] at default low targets = omega (arith, targets_length at targets)
 table_with (b ∷ padding) at default low targets = omega (arith, table_with padding at default low targets)
 
@@ -26,7 +26,7 @@ lookup_with : (padding : List ℕ) (at : ℕ) (default : ℤ) (pairs : List (ℤ
 lookup_with [] at default pairs = omega (arith, pairs_length at pairs)
 lookup_with (b ∷ padding) at default pairs = omega (arith, lookup_with padding at default pairs)
 
-pub table_length : (at : ℕ) (default low : ℤ) (targets : List ℤ) → length_at at (instrs.Table default low targets) ≡ 1 + padding_count at + 12 + length targets * 4
+pub table_length : (at : ℕ) (default low : ℤ) (targets : List ℤ) → length_at at (instrs.Table low default targets) ≡ 1 + padding_count at + 12 + length targets * 4
 table_length at default low targets =
     table_with (replicate (padding_count at) 0) at default low targets ∙ ap (λ (n : ℕ). 1 + n + 12 + length targets * 4) (length-replicate (padding_count at) 0)
 
@@ -45,7 +45,7 @@ padding_length : (at : ℕ) (padding : List ℕ) → IsPadding at padding → le
 padding_length at padding is = omega (arith, is.few, is.aligned)
 
 zeros_pad : (at : ℕ) (instr : Instr) → IsPaddingOf at instr (zeros at instr)
-zeros_pad at (instrs.Table default low targets) = zeros_are at
+zeros_pad at (instrs.Table low default targets) = zeros_are at
 zeros_pad at (instrs.Lookup default pairs) = zeros_are at
 zeros_pad at _ = refl
 
@@ -55,7 +55,7 @@ pub written_spells : (at : ℕ) (instr : Instr) → AreOffsets at instr → Spel
 written_spells at instr offsets = record { padding = zeros at instr; padded = zeros_pad at instr; offsets = offsets; are = refl }
 
 padded_length : (at : ℕ) (instr : Instr) (padding : List ℕ) → IsPaddingOf at instr padding → length (bytes_with padding at instr) ≡ length_at at instr
-padded_length at (instrs.Table default low targets) padding is = omega (arith, table_with padding at default low targets, table_length at default low targets, padding_length at padding is)
+padded_length at (instrs.Table low default targets) padding is = omega (arith, table_with padding at default low targets, table_length at default low targets, padding_length at padding is)
 padded_length at (instrs.Lookup default pairs) padding is = omega (arith, lookup_with padding at default pairs, lookup_length at default pairs, padding_length at padding is)
 padded_length at instr padding is = ap (λ (l : List ℕ). length (bytes_with l at instr)) is
 

@@ -82,7 +82,7 @@ pub record TableTaken (at : ℕ) (c : Cursor) (x : Instr × Cursor) : Type 0 whe
   pub default_fits : IsFar at default
   pub targets_fit : AllByRecursion (IsFar at) targets
   pub table : IsTable low targets
-  pub instr : instrs.Table default low targets ≡ x.0
+  pub instr : instrs.Table low default targets ≡ x.0
   pub spans : Spans c (target_bytes at default ++ (s4 low ++ s4 (high_of low targets)) ++ flat_map (target_bytes at) targets) x.1
 
 table_taken : (at : ℕ) (c : Cursor) (x : Instr × Cursor) → IsBytes c.rest → table_from at c ≡ Ok x → TableTaken at c x
@@ -93,7 +93,7 @@ table_taken at c x fits e =
     let high : ℤ = b.value.1.1 in
     cond_either (int_lt high low) _ _ b.rest (λ falls d. absurd cc) (λ rising d.
     let t = step_takes (many_reads (target_reads at) (unsigned_abs (high -ℤ low) + 1)) b.next b.fits d in
-    let made : (instrs.Table b.value.0 low t.value, t.next) ≡ x = cc (t.rest) in
+    let made : (instrs.Table low b.value.0 t.value, t.next) ≡ x = cc (t.rest) in
     let last : high_of low t.value ≡ high = high_is low high t.value (le_from _ _ rising) t.good.0 in
     subst (λ (y : Instr × Cursor). TableTaken at c y) made (record {
       default = b.value.0;
@@ -204,8 +204,8 @@ padded_lookup_taken at c x fits e =
 behind : {op : ℕ} {a b : List ℕ} → op ∷ a ≡ op ∷ b → a ≡ b
 behind e = cc
 
-pub padded_table_again : (at : ℕ) (default low : ℤ) (targets : List ℤ) (text : List ℕ) (c next : Cursor) → IsTable low targets → SpellsInstruction at (instrs.Table default low targets) (170 ∷ text) → Spans c text next
-    → padded_at at (table_from at) c ≡ Ok (instrs.Table default low targets, next)
+pub padded_table_again : (at : ℕ) (default low : ℤ) (targets : List ℤ) (text : List ℕ) (c next : Cursor) → IsTable low targets → SpellsInstruction at (instrs.Table low default targets) (170 ∷ text) → Spans c text next
+    → padded_at at (table_from at) c ≡ Ok (instrs.Table low default targets, next)
 unfolding padded_at table_from
 padded_table_again at default low targets text c next table is spans =
     let high : ℤ = high_of low targets in

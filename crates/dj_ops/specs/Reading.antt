@@ -137,7 +137,7 @@ bounds_at at c = both (target_at at) (both s4_at s4_at) c
 unfoldable pub table_from : ℕ → Cursor → Result (Instr × Cursor) OpError
 table_from at c = do
   bounds ← bounds_at at c
-  if int_lt bounds.0.1.1 bounds.0.1.0 then Err errors.BadOperand else made (instrs.Table bounds.0.0 bounds.0.1.0)
+  if int_lt bounds.0.1.1 bounds.0.1.0 then Err errors.BadOperand else made (instrs.Table bounds.0.1.0 bounds.0.0)
       (many_at (target_at at) (unsigned_abs (bounds.0.1.1 -ℤ bounds.0.1.0) + 1)) bounds.1
 
 -- default and npairs

@@ -36,8 +36,8 @@ pub enum Instr {
     },
     /// A jump by a table from low on: tableswitch.
     Table {
-        default: i64,
         low: i32,
+        default: i64,
         targets: Targets,
     },
     /// A jump by matches: lookupswitch.

@@ -112,11 +112,11 @@ fn read_table_from(
         return Err(OpError::BadOperand);
     }
     let (targets, after) = read_target_list(alloc, at, target_count(low, high), after)?;
-    let targets = Targets::from_vec(targets);
+    let targets = Targets::from_vec(targets)?;
     Ok((
         Instr::Table {
-            default,
             low,
+            default,
             targets,
         },
         after,
@@ -137,7 +137,7 @@ fn read_lookup_from(
         return Err(OpError::BadOperand);
     }
     let (pairs, after) = read_pair_list(alloc, at, count.unsigned_abs(), after)?;
-    let pairs = Pairs::from_vec(pairs);
+    let pairs = Pairs::from_vec(pairs)?;
     if !pairs.rises() {
         return Err(OpError::BadOperand);
     }

@@ -29,7 +29,7 @@ pub fn write_table(
     requires proper { IsTable low targets.now }
     requires default { IsFar at default }
     requires targets { AllByRecursion (IsFar at) targets.now }
-    ensures { Appended result out.old.items out.new.items (written at (instrs.Table default low targets.now)) }
+    ensures { Appended result out.old.items out.new.items (written at (instrs.Table low default targets.now)) }
 {
     let mut bytes = Vec::new(*out.allocator());
     bytes.push(170)?;

@@ -188,7 +188,7 @@ ends_so pool (instrs.Literal op index) = sym (literal_calm op _).0
 ends_so pool (instrs.Local op slot wide) = sym (local_still op slot _).0
 ends_so pool (instrs.Inc slot by wide) = refl
 ends_so pool (instrs.Branch op target) = refl
-ends_so pool (instrs.Table default low targets) = refl
+ends_so pool (instrs.Table low default targets) = refl
 ends_so pool (instrs.Lookup default pairs) = refl
 ends_so pool (instrs.Member op index) = sym (member_calm op _).0
 ends_so pool (instrs.Interface index count) = sym (interface_calm count _).0
@@ -272,7 +272,7 @@ same_flow left frames pool (instrs.Inc slot by wide) run = quiet_flow left frame
 same_flow left frames pool (instrs.Branch op target) run =
     let e = (jump_jumps op (unsigned_abs target) Nothing).0 run in
     (one_target left frames _ (unsigned_abs target) e, from_one left frames _ (unsigned_abs target) e)
-same_flow left frames pool (instrs.Table default low targets) run =
+same_flow left frames pool (instrs.Table low default targets) run =
     let e = table_targets low targets in (
       λ f. to_switch left frames (λ (t : ℤ). unsigned_abs t) targets (unsigned_abs default) _ e f.0 f.1,
       λ j. from_switch left frames (λ (t : ℤ). unsigned_abs t) targets (unsigned_abs default) _ e j,

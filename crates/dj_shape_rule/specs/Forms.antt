@@ -25,7 +25,7 @@ around (Some slot) = changes.Some (slot - 1) (slot + 2)
 abbrev pub form_ends : Instr → Bool
 form_ends (instrs.Simple op) = ends (simple Nothing op)
 form_ends (instrs.Branch op target) = ends (operand_does jump_rows Nothing op (unsigned_abs target))
-form_ends (instrs.Table default low targets) = true
+form_ends (instrs.Table low default targets) = true
 form_ends (instrs.Lookup default pairs) = true
 form_ends instr = false
 
@@ -35,6 +35,6 @@ FlowsAt left frames target = FlowsToFrame left (reported_at frames (unsigned_abs
 
 abbrev pub FormFlows : Kinds → ReportedFrames → Instr → Type 0
 FormFlows left frames (instrs.Branch op target) = FlowsAt left frames target
-FormFlows left frames (instrs.Table default low targets) = FlowsAt left frames default × All (FlowsAt left frames) targets
+FormFlows left frames (instrs.Table low default targets) = FlowsAt left frames default × All (FlowsAt left frames) targets
 FormFlows left frames (instrs.Lookup default pairs) = FlowsAt left frames default × All (λ pair. FlowsAt left frames pair.1) pairs
 FormFlows left frames instr = ⊤

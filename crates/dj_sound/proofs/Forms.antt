@@ -102,7 +102,7 @@ module _ (program : Program) where
   plain_fine pool (instrs.Local op slot wide) plain = (local_calm op slot _).1
   plain_fine pool (instrs.Inc slot by wide) plain = inr refl
   plain_fine pool (instrs.Branch op target) plain = (jump_jumps op (unsigned_abs target) _).1
-  plain_fine pool (instrs.Table default low targets) plain = inr refl
+  plain_fine pool (instrs.Table low default targets) plain = inr refl
   plain_fine pool (instrs.Lookup default pairs) plain = inr refl
   plain_fine pool (instrs.Member op index) plain = absurd plain
   plain_fine pool (instrs.Interface index count) plain = absurd plain
@@ -188,7 +188,7 @@ targets_within pool count (instrs.Literal op index) has = none_within count _ (l
 targets_within pool count (instrs.Local op slot wide) has = none_within count _ (local_calm [] op slot _).0
 targets_within pool count (instrs.Inc slot by wide) has = refl
 targets_within pool count (instrs.Branch op target) has = jump_within count target _ has.0 (jump_jumps [] op (unsigned_abs target) _).0
-targets_within pool count (instrs.Table default low ts) has =
+targets_within pool count (instrs.Table low default ts) has =
     let first = number_within count default has.0 in
     let rest = table_within count low ts has.1 in
     rw (first, rest) refl

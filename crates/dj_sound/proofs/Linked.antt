@@ -285,7 +285,7 @@ module _ (judged program : Program) (sees : Sees judged program) (own : Name) (p
   instr_fine hides (instrs.Local op slot wide) near linked = plain_fine program pool (instrs.Local op slot wide) tt
   instr_fine hides (instrs.Inc slot by wide) near linked = plain_fine program pool (instrs.Inc slot by wide) tt
   instr_fine hides (instrs.Branch op target) near linked = plain_fine program pool (instrs.Branch op target) tt
-  instr_fine hides (instrs.Table default low targets) near linked = plain_fine program pool (instrs.Table default low targets) tt
+  instr_fine hides (instrs.Table low default targets) near linked = plain_fine program pool (instrs.Table low default targets) tt
   instr_fine hides (instrs.Lookup default pairs) near linked = plain_fine program pool (instrs.Lookup default pairs) tt
   instr_fine hides (instrs.Dynamic index) near linked = plain_fine program pool (instrs.Dynamic index) tt
   instr_fine hides (instrs.Array base) near linked = plain_fine program pool (instrs.Array base) tt

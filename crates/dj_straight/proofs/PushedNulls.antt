@@ -41,7 +41,7 @@ pushes_null (instrs.Array base) = chosen PushesNull (base == 8) (NewArray byte_a
 pushes_null (instrs.Literal op index) = tt
 pushes_null (instrs.Inc slot by wide) = tt
 pushes_null (instrs.Branch op target) = tt
-pushes_null (instrs.Table default low targets) = tt
+pushes_null (instrs.Table low default targets) = tt
 pushes_null (instrs.Lookup default pairs) = tt
 pushes_null (instrs.Member op index) = tt
 pushes_null (instrs.Interface index count) = tt

@@ -54,7 +54,7 @@ IsInstrOf places (Increment wide slot by) instr = instr ≡ instrs.Inc (unsigned
 IsInstrOf places (Load op literal) instr = instr ≡ instrs.Literal op (places.index (literal_entry literal))
 IsInstrOf places (LoadLong n) instr = instr ≡ instrs.Literal 20 (places.index (entries.Long n))
 IsInstrOf places (Jump op label) instr = instr ≡ instrs.Branch op (target_of places label)
-IsInstrOf places (Table low labels default) instr = instr ≡ instrs.Table (target_of places default) low (map (target_of places) labels)
+IsInstrOf places (Table low labels default) instr = instr ≡ instrs.Table low (target_of places default) (map (target_of places) labels)
 IsInstrOf places (Lookup pairs default) instr = instr ≡ instrs.Lookup (target_of places default) (map (λ (pair : ℤ × Label). (pair.0, target_of places pair.1)) pairs)
 IsInstrOf places (Member op class name desc interface) instr =
     IsMemberInstr (is_interface_call op) op (places.index (member_entry op class name desc interface)) desc instr

@@ -73,7 +73,7 @@ IsProper (instrs.Literal op index) = IsLiteral (form_of op) index
 IsProper (instrs.Local op slot wide) = (form_of op ≡ Slot) × IsLocal slot wide
 IsProper (instrs.Inc slot by wide) = IsLocal slot wide × IsIncrement by wide
 IsProper (instrs.Branch op target) = (form_of op ≡ ShortOffset) ⊎ (form_of op ≡ LongOffset)
-IsProper (instrs.Table default low targets) = IsTable low targets
+IsProper (instrs.Table low default targets) = IsTable low targets
 IsProper (instrs.Lookup default pairs) = IsLookup pairs
 IsProper (instrs.Member op index) = (form_of op ≡ MemberIndex) × (index < 2 ^ 16)
 IsProper (instrs.Interface index count) = (index < 2 ^ 16) × (0 < count) × (count < 2 ^ 8)
@@ -91,7 +91,7 @@ pub record IsPadding (at : ℕ) (padding : List ℕ) : Type 0 where
 
 -- the padding of an instruction; only switches have some
 abbrev pub IsPaddingOf : ℕ → Instr → List ℕ → Type 0
-IsPaddingOf at (instrs.Table default low targets) padding = IsPadding at padding
+IsPaddingOf at (instrs.Table low default targets) padding = IsPadding at padding
 IsPaddingOf at (instrs.Lookup default pairs) padding = IsPadding at padding
 IsPaddingOf at instr padding = padding ≡ []
 
@@ -106,7 +106,7 @@ IsFar at target = FitsSigned w32 (offset at target)
 -- the distances to the targets fit their fields
 abbrev pub AreOffsets : ℕ → Instr → Type 0
 AreOffsets at (instrs.Branch op target) = IsOffset (form_of op) (offset at target)
-AreOffsets at (instrs.Table default low targets) = IsFar at default × AllByRecursion (IsFar at) targets
+AreOffsets at (instrs.Table low default targets) = IsFar at default × AllByRecursion (IsFar at) targets
 AreOffsets at (instrs.Lookup default pairs) = IsFar at default × AllByRecursion (λ pair. IsFar at pair.1) pairs
 AreOffsets at instr = Unit {0}
 
@@ -130,7 +130,7 @@ bytes_with padding at (instrs.Local op slot true) = 196 ∷ op ∷ u2 slot
 bytes_with padding at (instrs.Inc slot by false) = 132 ∷ slot ∷ s1 by
 bytes_with padding at (instrs.Inc slot by true) = 196 ∷ 132 ∷ u2 slot ++ s2 by
 bytes_with padding at (instrs.Branch op target) = op ∷ signed_bytes (form_of op) (offset at target)
-bytes_with padding at (instrs.Table default low targets) =
+bytes_with padding at (instrs.Table low default targets) =
     170 ∷ padding ++ target_bytes at default ++ s4 low ++ s4 (high_of low targets) ++ flat_map (target_bytes at) targets
 bytes_with padding at (instrs.Lookup default pairs) =
     171 ∷ padding ++ target_bytes at default ++ s4 (pos (length pairs)) ++ flat_map (pair_bytes at) pairs
@@ -161,7 +161,7 @@ abbrev pub padding_count : ℕ → ℕ
 padding_count at = 3 - at % 4
 
 abbrev pub zeros : ℕ → Instr → List ℕ
-zeros at (instrs.Table default low targets) = replicate (padding_count at) 0
+zeros at (instrs.Table low default targets) = replicate (padding_count at) 0
 zeros at (instrs.Lookup default pairs) = replicate (padding_count at) 0
 zeros at instr = []
 

@@ -7,7 +7,7 @@ use Rattle.dj_labels.proofs.TargetLaws.{pairs_lack, pairs_none, pairs_more}
 use Rattle.dj_labels.proofs.targets.number_pairs.Goals as goal
 
 pub loop-key-init : goal.loop-key-init
-loop-key-init c = subst (ArePairs c.args.table.now.starts.items []) (sym c.new-numbered.ensures) (pairs_none c.args.table.now.starts.items)
+loop-key-init c = subst (ArePairs c.args.table.now.starts.items []) (sym c.in_ok-new.ensures) (pairs_none c.args.table.now.starts.items)
 
 pub returns-in_err-number_of-clause-refused : goal.returns-in_err-number_of-clause-refused
 returns-in_err-number_of-clause-refused c =

@@ -7,7 +7,7 @@ use Rattle.dj_labels.proofs.TargetLaws.{lacks_at, numbers_none, numbers_more}
 use Rattle.dj_labels.proofs.targets.number_targets.Goals as goal
 
 pub loop-target-init : goal.loop-target-init
-loop-target-init c = subst (AreNumbers c.args.table.now.starts.items []) (sym c.new-numbers.ensures) (numbers_none c.args.table.now.starts.items)
+loop-target-init c = subst (AreNumbers c.args.table.now.starts.items []) (sym c.in_ok-new.ensures) (numbers_none c.args.table.now.starts.items)
 
 pub returns-in_err-number_of-clause-refused : goal.returns-in_err-number_of-clause-refused
 returns-in_err-number_of-clause-refused c =

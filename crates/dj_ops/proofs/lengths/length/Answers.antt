@@ -5,7 +5,7 @@ use Rattle.dj_ops.specs.trusted.Instructions.{padding_count, length_at}
 use Rattle.dj_ops.proofs.Sizes.{table_length, lookup_length}
 use Rattle.dj_ops.proofs.lengths.length.Goals as goal
 
-table_at : (at : ℕ) (instr : Instr) (default low : ℤ) (targets slice : List ℤ) → instr ≡ instrs.Table default low targets → slice ≡ targets
+table_at : (at : ℕ) (instr : Instr) (default low : ℤ) (targets slice : List ℤ) → instr ≡ instrs.Table low default targets → slice ≡ targets
     → length_at at instr ≡ 1 + padding_count at + 12 + length slice * 4
 table_at at instr default low targets slice is same =
     ap (length_at at) is ∙ table_length at default low targets ∙ ap (λ (l : List ℤ). 1 + padding_count at + 12 + length l * 4) (sym same)

@@ -2,8 +2,8 @@ use Rattle.std.proofs.Common.{◌≡◌, ◌∷◌, ◌++◌, ◌&&◌, [], List
 use Rattle.dj_ops.specs.trusted.Lookups.{rises}
 use Rattle.dj_ops.proofs.Rising.{Pair}
 use Rattle.dj_ops.proofs.Lookups.{falls_more, grown}
-use Rattle.dj_ops.proofs.lists.Pairs.push.Goals as goal
-use Rattle.dj_ops.proofs.lists.Pairs.push.Goals.{then-self, else-self}
+use Rattle.dj_ops.proofs.lists.Matched.push.Goals as goal
+use Rattle.dj_ops.proofs.lists.Matched.push.Goals.{then-self, else-self}
 
 pub invariant_of-self-2 : goal.invariant_of-self-2
 invariant_of-self-2 c =
