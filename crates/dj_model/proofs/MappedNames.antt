@@ -17,7 +17,7 @@ use Rattle.dj_names.specs.trusted.Types.{Name, same_name, same_of, same_type, sa
 use Rattle.dj_names.specs.Types.{type_map, desc_map}
 use Rattle.dj_model.specs.trusted.Types.{Prefix, Member, Declared, constructor_name, initialiser_name, no_parameters}
 use Rattle.dj_model.specs.Types.{member_map, declared_map}
-use Rattle.dj_model.specs.trusted.Program.{Program, Class, Method, Field, Code, Body, Abstract, Native, Runs, class_at, method_in, field_in, is_named, superclass_of, interfaces_of, fields_of, flags_of, method_of, field_of, method_at, code_in, code_of, has_flag, is_private, is_static, is_interface, is_initialiser, initialiser_of, has_code, runs_static, has_initialiser}
+use Rattle.dj_model.specs.trusted.Program.{Program, Class, Method, Field, Code, Body, Abstract, Native, Runs, class_at, method_in, field_in, is_named, superclass_of, interfaces_of, fields_of, flags_of, method_of, field_of, method_at, code_in, code_of, has_flag, is_private, is_static, is_interface, is_initialiser, initialiser_of, runs_static, has_initialiser}
 use Rattle.dj_model.specs.Program.{method_map, field_map, class_map, program_map}
 use Rattle.dj_model.specs.trusted.Linking.{most_classes, option_list, chain_of, chain, superclasses, interfaces_from, interfaces_above, is_among, is_subclass, array_supertypes, takes_arrays, is_below, is_subtype, FoundMethod, FoundField, method_or, first_method, field_or, first_field, field_order, any_method, is_plain, is_not_static, class_or_object, member_class, method_chain, or_else, resolve_method, resolve_field, with_body, select, special_method, count_fields, fields_before, own_field_count, fields_in, field_count, own_place, place_of, static_place, static_count}
 use Rattle.dj_model.specs.trusted.Members.{kinds_of}
