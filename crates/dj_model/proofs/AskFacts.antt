@@ -1,5 +1,5 @@
 -- A question is answered by an answer of its own kind alone.
-use Rattle.std.proofs.Common.{◌≡◌, pos, negsuc, List, [], ◌∷◌, Some, None, refl}
+use Rattle.std.proofs.Common.{◌≡◌, pos, negsuc, [], ◌∷◌, Some, None, refl}
 use Rattle.dj_edge.specs.declared.host.HostAnswer.TheVariants as host
 use Rattle.dj_model.specs.trusted.Natives.{Word, Nanos, Millis, answered}
 

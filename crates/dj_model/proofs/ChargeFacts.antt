@@ -1,5 +1,5 @@
 -- What each instruction is charged, by plain values.
-use Rattle.std.proofs.Common.{◌≡◌, ℕ, pos, negsuc, List, [], ◌∷◌, ◌++◌, map, Some, None, codes, refl}
+use Rattle.std.proofs.Common.{◌≡◌, ℕ, pos, negsuc, List, [], ◌∷◌, ◌++◌, map, Some, None, codes, refl, true, false, Option}
 use Rattle.dj_names.specs.declared.run.Charge.{Charge}
 use Rattle.dj_names.specs.declared.run.Charge.TheVariants as charges
 use Rattle.dj_names.specs.declared.run.Value.{Value}
@@ -9,13 +9,18 @@ use Rattle.dj_names.specs.trusted.Library.{object, string, int}
 use Rattle.dj_ops.specs.declared.instruction.Instr.TheVariants as instrs
 use Rattle.dj_model.specs.trusted.Instructions.{Instruction, Nothing, AText}
 use Rattle.dj_model.specs.trusted.Opcodes.{instruction_of, simple}
-use Rattle.dj_model.specs.trusted.Program.{Program}
+use Rattle.dj_model.specs.trusted.Program.{Program, Abstract, Native, has_code, is_initialiser}
 use Rattle.dj_model.specs.trusted.Linking.{most_classes, chain_of, field_count}
 use Rattle.dj_model.specs.Libraries.{metered_program}
 use Rattle.dj_model.specs.Charging.{Amount}
 use Rattle.dj_model.specs.Effects.{pays}
-use Rattle.dj_model.specs.SmallRuns.{op, push, constant, slot, iinc, jump, newarray, class, field, method, interface_method, class_with, field_with}
+use Rattle.dj_model.specs.SmallRuns.{op, push, constant, slot, iinc, jump, newarray, class, field, method, interface_method, class_with, field_with, code, method_desc, at_most}
 use Rattle.dj_ops.specs.Mnemonics.{nop, aconst_null, fconst_0, bipush, iload_0, iaload, istore, iastore, pop, iadd, ineg, ireturn, return, getstatic, putstatic, getfield, putfield, invokevirtual, invokespecial, invokestatic, new, anewarray, arraylength, athrow, checkcast, instanceof, monitorenter, monitorexit}
+use Rattle.dj_model.specs.trusted.Charging.{no_costs, Over, Fine, charge_one}
+use Rattle.dj_model.specs.trusted.Step.{stopped_by}
+use Rattle.dj_names.specs.declared.descriptor.Ty.{Ty}
+use Rattle.dj_names.specs.declared.run.Outcome.TheVariants as outcomes
+use Rattle.dj_names.specs.declared.native.NativeId.TheVariants as natives
 
 -- C has two fields, D below it one and a static one
 abbrev program : Program
@@ -70,3 +75,24 @@ others = op nop ∷ op aconst_null ∷ push bipush (pos 1) ∷ constant (AText [
 others_free : map (charged (values.Int (pos 5) ∷ [])) others ≡ map (λ (i : Instruction). []) others
 unfolding pays instruction_of simple
 others_free = refl
+
+-- ---- after a charge has passed its threshold
+
+-- it is told again, and nothing is added; before that the charge is added
+first_told : charge_one (at_most 9 9 9 9) (record { costs = no_costs; exceeded = Some charges.Jump }) charges.Alloc 5 ∷ charge_one (at_most 9 9 9 9) (record { costs = no_costs; exceeded = None }) charges.Alloc 5 ∷ []
+    ≡ Over charges.Jump (record { costs = no_costs; exceeded = Some charges.Jump }) ∷ Fine (record { costs = record no_costs { alloc = 5 }; exceeded = None }) ∷ []
+unfolding charge_one
+first_told = refl
+
+-- what stops the run is told by the charge that passed, and is any other object where none has
+stops_told : map (λ (charge : Option Charge). stopped_by charge outcomes.OkNull) (None ∷ Some charges.Jump ∷ []) ≡ outcomes.OkNull ∷ outcomes.Stopped charges.Jump ∷ []
+stops_told = refl
+
+-- ---- code and initialisers
+
+bodies_with_code : map has_code (Native natives.ObjectNew ∷ Abstract ∷ code [] [] ∷ []) ≡ false ∷ false ∷ true ∷ []
+bodies_with_code = refl
+
+-- an initialiser has neither parameters nor a result
+initialisers : map (λ (params : List Ty). is_initialiser (record { class = codes "A"; name = codes "<clinit>"; desc = method_desc params None })) ([] ∷ (int ∷ []) ∷ []) ≡ true ∷ false ∷ []
+initialisers = refl

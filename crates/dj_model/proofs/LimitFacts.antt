@@ -1,5 +1,5 @@
 -- Whole runs at the limits: the heap's bytes, the frames, and the handlers that are arrived at.
-use Rattle.std.proofs.Common.{◌≡◌, ℕ, false, List, [], ◌∷◌, ◌++◌, map, length, replicate, Option, Some, None, codes, refl}
+use Rattle.std.proofs.Common.{◌≡◌, ℕ, false, List, [], ◌∷◌, ◌++◌, map, length, replicate, Option, Some, None, codes, refl, pos}
 use Rattle.dj_names.specs.declared.descriptor.Ty.{Ty}
 use Rattle.dj_names.specs.declared.run.Charge.TheVariants as charges
 use Rattle.dj_names.specs.declared.run.Outcome.{Outcome}
@@ -8,7 +8,7 @@ use Rattle.dj_names.specs.trusted.Types.{Name, class_type, array_type}
 use Rattle.dj_names.specs.Types.{sandbox_prefix, in_sandbox}
 use Rattle.dj_names.specs.trusted.Library.{string, builder, char, int}
 use Rattle.dj_model.specs.trusted.Instructions.{Instruction, AText}
-use Rattle.dj_model.specs.trusted.Program.{Program, Class, Method, Text, code_of, has_initialiser}
+use Rattle.dj_model.specs.trusted.Program.{Program, Class, Method, Constant, Text, code_of, has_initialiser, Long}
 use Rattle.dj_model.specs.trusted.State.{State, Uncounted, Accounted}
 use Rattle.dj_model.specs.SmallRuns.{op, constant, jump, class, field, method, construct, entry, verify_of, verify_with, initialiser_with, class_with, a_with, field_with, catch_all, catch, costs, at_most, usual, lang_name}
 use Rattle.std.specs.Int.{int_wrap}
@@ -26,7 +26,7 @@ use Rattle.dj_model.specs.trusted.Performing.{perform, native}
 use Rattle.dj_model.specs.trusted.Members.{with_literal, invoke}
 use Rattle.dj_model.specs.trusted.Effects.{effect, used_class}
 use Rattle.dj_model.specs.Effects.{pays}
-use Rattle.dj_model.specs.trusted.Initialisation.{Initialised, Ready, Waits, Fails, is_initialised, mark, with_constants, constants_of, initialise}
+use Rattle.dj_model.specs.trusted.Initialisation.{Initialised, Ready, Waits, Fails, is_initialised, mark, with_constants, constants_of, initialise, with_constant}
 use Rattle.dj_model.specs.trusted.Step.{unwound, settle, step}
 use Rattle.dj_model.specs.trusted.Runs.{Report, empty_heap, start_state, begin, steps, plain_run}
 use Rattle.dj_model.specs.Runs.{Run, RunEnds, metered_terms, amounts, turn, turns, metered_run}
@@ -143,3 +143,29 @@ arrivals : two_handlers (op aconst_null ∷ op arraylength ∷ []) ∷ two_handl
     ≡ RunEnds both_bytes (costs 0 0 0 1) ∷ RunEnds both_bytes (costs 0 0 1 1) ∷ RunEnds outcomes.OkNull (costs 0 0 1 1) ∷ RunEnds outcomes.OkNull (costs 0 0 1 0) ∷ RunEnds both_bytes (costs 0 0 1 0) ∷ RunEnds both_bytes (costs 0 0 0 0) ∷ []
 unfolding int_wrap digits instruction_of simple code_of has_initialiser most_classes chain_of interfaces_from interfaces_above is_subclass is_subtype field_order resolve_method resolve_field select special_method field_count place_of static_place metered_program raw_program sandbox_program compute convert moved on_values load_element store_element array_length make_array charge_one charge_all answer host_answer perform native with_literal invoke effect pays used_class is_initialised mark with_constants constants_of initialise unwound settle step begin amounts turn turns metered_run steps plain_run
 arrivals = refl
+
+-- ---- runs that are out of steps
+
+abbrev after_steps : ℕ → Option Report
+after_steps most =
+    plain_run (sandbox_program (s_class ∷ [])) sandbox_prefix (record { limit = Some 100; counting = Accounted (at_most 99 9 9 9) }) (verify_of (in_sandbox (codes "A"))) (1 ∷ 2 ∷ []) [] most
+
+abbrev out_of : ℕ → ℕ → Option Report
+out_of n alloc = Some (record { outcome = outcomes.OutOfSteps n; costs = costs alloc 0 0 0; steps = n; taken = 0 })
+
+-- the costs up to there are reported
+costs_so_far : map after_steps (1 ∷ 3 ∷ []) ≡ out_of 1 0 ∷ out_of 3 24 ∷ []
+unfolding int_wrap digits instruction_of simple code_of has_initialiser most_classes chain_of interfaces_from interfaces_above is_subclass is_subtype field_order resolve_method resolve_field select special_method field_count place_of static_place metered_program raw_program sandbox_program compute convert moved on_values load_element store_element array_length make_array charge_one charge_all answer host_answer perform native with_literal invoke effect pays used_class is_initialised mark with_constants constants_of initialise unwound settle step begin amounts turn turns metered_run steps plain_run
+costs_so_far = refl
+
+-- ---- constants of static fields
+
+abbrev statics_then : Initialised → Option (List ℕ)
+statics_then (Ready s) = Some s.statics
+statics_then (Waits s) = None
+statics_then (Fails outcome s) = None
+
+-- a long keeps all of its 64 bits, and without a constant the field stays
+long_constants : map (λ (c : Option Constant). statics_then (with_constant [] (metered_terms usual) (record (with_frames 0) { statics = 7 ∷ [] }) 0 c)) (Some (Long (pos 4294967305)) ∷ None ∷ [])
+    ≡ Some (4294967305 ∷ []) ∷ Some (7 ∷ []) ∷ []
+long_constants = refl

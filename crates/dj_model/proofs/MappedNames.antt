@@ -1,6 +1,9 @@
 -- Look-ups in a program with other names of classes and other code are those in the program, with other names.
-use Rattle.std.proofs.Common.{◌≡◌, ℕ, zero, suc, ◌&&◌, Bool, true, false, not, List, [], ◌∷◌, ◌++◌, map, Option, Some, None, nat_eq, refl, sym, ap, ◌∙◌, ◌⊎◌, inl, inr, codes}
+use Rattle.std.proofs.Common.{◌≡◌, ℕ, zero, suc, ◌&&◌, Bool, true, false, not, List, [], ◌∷◌, ◌++◌, map, Option, Some, None, nat_eq, refl, sym, ap, ◌∙◌, ◌⊎◌, inl, inr, codes, arith}
 use Rattle.std.proofs.lemmas.List.{map-append}
+use Rattle.std.proofs.lemmas.Nat.Bits.{bit_at_and}
+use Rattle.std.specs.Prelude.{bit_and}
+use Rattle.std.specs.Int.{bit_at}
 use Rattle.std.specs.Option.{option_map}
 use Rattle.std.specs.List.{flat_map}
 use Rattle.std.specs.Cmp.Lexicographic.{pointwise, bytes_decides}
@@ -14,7 +17,7 @@ use Rattle.dj_names.specs.trusted.Types.{Name, same_name, same_of, same_type, sa
 use Rattle.dj_names.specs.Types.{type_map, desc_map}
 use Rattle.dj_model.specs.trusted.Types.{Prefix, Member, Declared, constructor_name, initialiser_name, no_parameters}
 use Rattle.dj_model.specs.Types.{member_map, declared_map}
-use Rattle.dj_model.specs.trusted.Program.{Program, Class, Method, Field, Code, Body, Abstract, Native, Runs, class_at, method_in, field_in, is_named, superclass_of, interfaces_of, fields_of, flags_of, method_of, field_of, method_at, code_in, code_of, is_private, is_interface, is_initialiser, initialiser_of, runs_static, has_initialiser}
+use Rattle.dj_model.specs.trusted.Program.{Program, Class, Method, Field, Code, Body, Abstract, Native, Runs, class_at, method_in, field_in, is_named, superclass_of, interfaces_of, fields_of, flags_of, method_of, field_of, method_at, code_in, code_of, has_flag, is_private, is_static, is_interface, is_initialiser, initialiser_of, runs_static, has_initialiser}
 use Rattle.dj_model.specs.Program.{method_map, field_map, class_map, program_map}
 use Rattle.dj_model.specs.trusted.Linking.{most_classes, option_list, chain_of, chain, superclasses, interfaces_from, interfaces_above, is_among, is_subclass, array_supertypes, takes_arrays, is_below, is_subtype, FoundMethod, FoundField, method_or, first_method, field_or, first_field, field_order, any_method, is_plain, is_not_static, class_or_object, member_class, method_chain, or_else, resolve_method, resolve_field, with_body, select, special_method, count_fields, fields_before, own_field_count, fields_in, field_count, own_place, place_of, static_place, static_count}
 use Rattle.dj_model.specs.trusted.Members.{kinds_of}
@@ -29,6 +32,16 @@ pub alike : (a b : Bool) → (a ≡ true → b ≡ true) → (b ≡ true → a �
 alike true b there back = sym (there refl)
 alike false true there back = back refl
 alike false false there back = refl
+
+-- a flag other than ACC_SYNCHRONIZED is the same in a rewritten method
+flag_kept : (flags bit : ℕ) → bit_at 65503 bit ≡ 1 → has_flag bit (bit_and flags 65503) ≡ has_flag bit flags
+flag_kept flags bit on = ap (λ b. nat_eq b 1) (let e = bit_at_and flags 65503 bit in omega (arith, e, on))
+
+private_kept : (flags : ℕ) → is_private (bit_and flags 65503) ≡ is_private flags
+private_kept flags = flag_kept flags 1 refl
+
+static_kept : (flags : ℕ) → is_static (bit_and flags 65503) ≡ is_static flags
+static_kept flags = flag_kept flags 3 refl
 
 module _ (f : Name → Name) (g : Code → Code) (p q : Prefix) (is : IsNameMap f p q) where
   -- ---- names, types and descriptors
@@ -150,9 +163,12 @@ module _ (f : Name → Name) (g : Code → Code) (p q : Prefix) (is : IsNameMap 
   runs_static_alike None = refl
   runs_static_alike (Some m) = go m.body refl where
     go : (body : Body) → m.body ≡ body → runs_static (option_map (method_map f g) (Some m)) ≡ runs_static (Some m)
-    go Abstract e = rw e refl
-    go (Native id) e = rw e refl
-    go (Runs code) e = rw e refl
+    go Abstract e = rw (static_kept m.flags, e) refl
+    go (Native id) e = rw (static_kept m.flags, e) refl
+    go (Runs code) e = rw (static_kept m.flags, e) refl
+
+  plain_kept : (m : Method) → is_plain (method_map f g m) ≡ is_plain m
+  plain_kept m = rw (private_kept m.flags, static_kept m.flags) refl
 
   pub initialiser_alike : (m : Declared) → is_initialiser (declared_map f m) ≡ is_initialiser m
   initialiser_alike m = named_alike initialiser_name no_parameters m.name m.desc
@@ -339,7 +355,7 @@ module _ (f : Name → Name) (g : Code → Code) (p q : Prefix) (is : IsNameMap 
           method_chain_mapped class,
           interfaces_above_mapped class,
           first_method_mapped any_method (λ m. refl) m.name m.desc (method_chain program p class),
-          first_method_mapped is_plain (λ m. refl) m.name m.desc (interfaces_above program class),
+          first_method_mapped is_plain plain_kept m.name m.desc (interfaces_above program class),
         )
         (or_else_mapped _ _)
 
@@ -350,7 +366,8 @@ module _ (f : Name → Name) (g : Code → Code) (p q : Prefix) (is : IsNameMap 
         rw (
           member_class_mapped class,
           chain_mapped (member_class p class),
-          first_method_mapped is_plain (λ m. refl) resolved.method.name resolved.method.desc (chain program (member_class p class)),
+          private_kept resolved.method.flags,
+          first_method_mapped is_plain plain_kept resolved.method.name resolved.method.desc (chain program (member_class p class)),
         )
         (elim (either (is_private resolved.method.flags)) [
           | inl e ↦ rw e (with_body_mapped (Some resolved))
@@ -365,7 +382,7 @@ module _ (f : Name → Name) (g : Code → Code) (p q : Prefix) (is : IsNameMap 
           chain_mapped own,
           superclasses_mapped (chain program own),
           among_alike (superclasses (chain program own)) resolved.class,
-          first_method_mapped is_not_static (λ m. refl) resolved.method.name resolved.method.desc (superclasses (chain program own)),
+          first_method_mapped is_not_static (λ m. ap not (static_kept m.flags)) resolved.method.name resolved.method.desc (superclasses (chain program own)),
         )
         (elim (either (not (same_name resolved.method.name constructor_name) && is_among (superclasses (chain program own)) resolved.class)) [
           | inl e ↦ rw e refl

@@ -19,16 +19,19 @@ use Rattle.dj_names.specs.Types.{in_sandbox, sandbox_prefix}
 use Rattle.dj_names.specs.trusted.UnitReading.{two_read, three_read, long_read, unit_read}
 use Rattle.dj_model.specs.trusted.Types.{Member}
 use Rattle.dj_model.specs.trusted.Instructions.{GetStatic, PutStatic}
-use Rattle.dj_model.specs.trusted.Program.{Program}
-use Rattle.dj_model.specs.trusted.Linking.{most_classes, chain_of, interfaces_from, interfaces_above, resolve_field, field_order}
+use Rattle.dj_model.specs.trusted.Program.{Program, Code, Abstract}
+use Rattle.dj_model.specs.trusted.Linking.{most_classes, chain_of, interfaces_from, interfaces_above, is_subclass, is_subtype, resolve_field, field_order}
 use Rattle.dj_model.specs.Libraries.{metered_program}
 use Rattle.dj_model.specs.trusted.State.{Metered, Account, Flow, Next, Goes, End, Effect}
 use Rattle.dj_model.specs.trusted.Charging.{charge_one, new_account}
 use Rattle.dj_model.specs.trusted.Natives.{MakesText, answer, host_answer, name_units, shown_class}
-use Rattle.dj_model.specs.trusted.Performing.{seen, perform, native}
+use Rattle.dj_model.specs.trusted.Performing.{seen, perform, native, text_object}
 use Rattle.dj_model.specs.Laws.{IsReported, IsEndReported}
-use Rattle.dj_model.specs.SmallRuns.{class_with, field_with}
+use Rattle.dj_model.specs.SmallRuns.{class_with, field_with, lang_name, method_with}
 use Rattle.dj_model.specs.Sound.{is_linked}
+use Rattle.dj_model.specs.Program.{method_map}
+use Rattle.dj_model.specs.trusted.Members.{Kept, with_literal, are_instances}
+use Rattle.dj_model.specs.Mapping.{same_names_map}
 
 -- ---- class names in texts
 
@@ -121,3 +124,33 @@ unreported_ones = ((λ t. omega (arith, t.alloc)), (λ t. omega (arith, t.0)), (
 -- a stop is by the one that is reported
 stops : IsEndReported (Some charges.Alloc) (outcomes.Stopped charges.Alloc) × (IsEndReported (Some charges.Alloc) (outcomes.Stopped charges.Jump) → ⊥) × (IsEndReported None (outcomes.Stopped charges.Alloc) → ⊥)
 stops = (refl, (λ e. absurd cc), (λ e. absurd cc))
+
+-- ---- flags of rewritten methods
+
+abbrev flags_then : ℕ → ℕ
+flags_then flags = (method_map same_names_map (λ (code : Code). code) (method_with flags (codes "m") [] None Abstract)).flags
+
+-- ACC_SYNCHRONIZED goes, and every other flag stays
+flags_kept : map flags_then (41 ∷ 9 ∷ 1057 ∷ 32 ∷ 65535 ∷ []) ≡ 9 ∷ 9 ∷ 1025 ∷ 0 ∷ 65503 ∷ []
+flags_kept = refl
+
+-- ---- texts and literals
+
+-- a text is of the plain String's class, and in rewritten code of the rewritten one's
+text_objects : text_object [] (codes "a") ∷ text_object sandbox_prefix (codes "a") ∷ []
+    ≡ Text string (codes "a") ∷ Text (class_type (in_sandbox (lang_name (codes "String")))) (codes "a") ∷ []
+text_objects = refl
+
+abbrev text_heap : Heap Ty
+text_heap = record { objects = Text string (codes "x") ∷ Instance (class_type wide) [] ∷ []; used = 40 }
+
+-- a new literal comes last, and one that is there is no new one
+literals_in_order : map (λ (units : List ℕ). option_map (λ (k : Kept). k.literals) (with_literal None [] text_heap (record { units = codes "x"; object = 1 } ∷ []) units)) (codes "y" ∷ codes "x" ∷ [])
+    ≡ Some (record { units = codes "x"; object = 1 } ∷ record { units = codes "y"; object = 3 } ∷ []) ∷ Some (record { units = codes "x"; object = 1 } ∷ []) ∷ []
+unfolding with_literal
+literals_in_order = refl
+
+-- the arguments after a number are looked at too
+later_arguments : map (λ (r : ℕ). are_instances (metered_program []) [] text_heap (int ∷ string ∷ []) (values.Int (pos 1) ∷ values.Ref r ∷ [])) (1 ∷ 2 ∷ []) ≡ true ∷ false ∷ []
+unfolding metered_program most_classes chain_of interfaces_from interfaces_above is_subclass is_subtype
+later_arguments = refl

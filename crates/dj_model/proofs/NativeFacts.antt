@@ -1,5 +1,5 @@
 -- Each native method, by plain values.
-use Rattle.std.proofs.Common.{◌≡◌, pos, negsuc, ℤ, List, [], ◌∷◌, map, Some, None, codes, refl}
+use Rattle.std.proofs.Common.{◌≡◌, pos, negsuc, ℤ, List, [], ◌∷◌, map, Some, None, codes, refl, ℕ, replicate}
 use Rattle.std.specs.Int.{int_wrap}
 use Rattle.std.specs.Fmt.{digits}
 use Rattle.dj_names.specs.declared.descriptor.Base.TheVariants as bases
@@ -99,3 +99,13 @@ shown : shown_class sandbox_prefix (class_type (codes "sandbox/a/B")) ∷ shown_
     ≡ codes "a.B" ∷ codes "[LB;" ∷ codes "a.sandbox.B" ∷ codes "sandbox.B" ∷ codes "[J" ∷ []
 unfolding units_read unit_read long_read two_read three_read
 shown = refl
+
+-- ---- a hash is wrapped to an int, also where its sum passes 31 bits
+
+abbrev hashed : Heap Ty
+hashed = record { objects = Text string (replicate 5 65535) ∷ Text string (codes "abcdefg") ∷ []; used = 0 }
+
+wrapped_hashes : map (λ (r : ℕ). answer natives.StringHashCode (seen (metered_program []) [] hashed) (values.Ref r ∷ [])) (1 ∷ 2 ∷ [])
+    ≡ Returns (Some (values.Int (negsuc 1884131264))) ∷ Returns (Some (values.Int (negsuc 1206291355))) ∷ []
+unfolding answer int_wrap
+wrapped_hashes = refl

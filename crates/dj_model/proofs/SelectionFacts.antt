@@ -8,7 +8,7 @@ use Rattle.dj_names.specs.trusted.Types.{Name, class_type}
 use Rattle.dj_names.specs.trusted.Library.{object, string, int}
 use Rattle.dj_model.specs.trusted.Instructions.{Instruction}
 use Rattle.dj_model.specs.trusted.Program.{Program, Class, Method, Abstract, code_of, has_initialiser}
-use Rattle.dj_model.specs.SmallRuns.{op, newarray, class, method, construct, entry, code, method_with, method_desc, verify_with, plain_constructor, class_with, a_with, costs, usual, lang_name}
+use Rattle.dj_model.specs.SmallRuns.{op, newarray, class, method, construct, entry, code, method_with, method_desc, verify_with, plain_constructor, class_with, a_with, costs, usual, lang_name, field, field_with}
 use Rattle.std.specs.Int.{int_wrap}
 use Rattle.std.specs.Fmt.{digits}
 use Rattle.dj_model.specs.trusted.Opcodes.{instruction_of, simple}
@@ -28,7 +28,7 @@ use Rattle.dj_model.specs.trusted.Initialisation.{is_initialised, mark, with_con
 use Rattle.dj_model.specs.trusted.Step.{unwound, settle, step}
 use Rattle.dj_model.specs.trusted.Runs.{begin, steps, plain_run}
 use Rattle.dj_model.specs.Runs.{Run, RunEnds, amounts, turn, turns, metered_run}
-use Rattle.dj_ops.specs.Mnemonics.{aconst_null, iconst_0, iconst_1, iconst_4, iconst_5, aload_0, bastore, dup, ireturn, areturn, invokespecial, invokestatic, new, athrow}
+use Rattle.dj_ops.specs.Mnemonics.{aconst_null, iconst_0, iconst_1, iconst_4, iconst_5, aload_0, bastore, dup, ireturn, areturn, invokespecial, invokestatic, new, athrow, getstatic, putstatic, getfield, putfield}
 
 abbrev c_type : Ty
 c_type = class_type (codes "C")
@@ -88,3 +88,34 @@ superclasses_first : found (codes "C") (codes "m") None ∷ found (codes "C") (c
     ∷ Some (codes "I") ∷ Some (lang_name (codes "Object")) ∷ Some (codes "J") ∷ Some (codes "I") ∷ Some (lang_name (codes "Object")) ∷ None ∷ []
 unfolding int_wrap digits instruction_of simple code_of has_initialiser most_classes chain_of interfaces_from interfaces_above is_subclass is_subtype field_order resolve_method resolve_field select special_method field_count place_of static_place metered_program raw_program sandbox_program compute convert moved on_values load_element store_element array_length make_array charge_one charge_all answer host_answer perform native with_literal invoke effect pays used_class is_initialised mark with_constants constants_of initialise unwound settle step begin amounts turn turns metered_run steps plain_run
 superclasses_first = refl
+
+-- ---- invokespecial and selection, by plain values
+
+-- C with a field f and a static s, and D below it with a static n
+abbrev selecting : Program
+selecting = metered_program
+    (class_with (codes "C") (field_with 0 (codes "f") int None ∷ field_with 8 (codes "s") int None ∷ []) (plain_method 1 (codes "m") None ∷ method_with 1 (codes "n") [] None (code [] []) ∷ [])
+    ∷ record (class_with (codes "D") [] (plain_method 1 (codes "m") None ∷ method_with 9 (codes "n") [] None (code [] []) ∷ [])) { superclass = Some (codes "C") } ∷ [])
+
+abbrev found_in : Name → Method → FoundMethod
+found_in class m = record { class = class; method = m }
+
+abbrev class_of_found : Option FoundMethod → Option Name
+class_of_found found = option_map (λ (f : FoundMethod). f.class) found
+
+-- a method of the class itself is taken as it was resolved, and one of a class above it is looked for above it
+special_of_own : class_of_found (special_method selecting (codes "D") (found_in (codes "D") (plain_method 2 (codes "m") None))) ∷ class_of_found (special_method selecting (codes "D") (found_in (codes "C") (plain_method 1 (codes "m") None))) ∷ []
+    ≡ Some (codes "D") ∷ Some (codes "C") ∷ []
+unfolding special_method most_classes chain_of metered_program
+special_of_own = refl
+
+-- a static method of the receiver's class isn't selected
+select_no_static : map (λ (n : Name). class_of_found (select selecting [] (found_in (codes "C") (method_with 1 n [] None (code [] []))) (class_type (codes "D")))) (codes "n" ∷ codes "none" ∷ []) ≡ Some (codes "C") ∷ None ∷ []
+unfolding select most_classes chain_of metered_program
+select_no_static = refl
+
+-- static fields initialise their class, and fields of objects don't
+fields_use : map (used_class selecting []) (field getstatic c_type (codes "s") int ∷ field putstatic c_type (codes "s") int ∷ field getfield c_type (codes "f") int ∷ field putfield c_type (codes "f") int ∷ [])
+    ≡ Some (codes "C") ∷ Some (codes "C") ∷ None ∷ None ∷ []
+unfolding used_class resolve_field field_order most_classes chain_of interfaces_from interfaces_above metered_program instruction_of
+fields_use = refl

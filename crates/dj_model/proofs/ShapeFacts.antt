@@ -1,5 +1,5 @@
 -- The shape of small codes.
-use Rattle.std.proofs.Common.{◌≡◌, true, false, pos, ℕ, zero, suc, List, [], ◌∷◌, length, map, Option, Some, None, nat_le, codes, refl, if◌then◌else◌}
+use Rattle.std.proofs.Common.{◌≡◌, true, false, pos, ℕ, zero, suc, List, [], ◌∷◌, length, map, Option, Some, None, nat_le, codes, refl, if◌then◌else◌, inl, inr, arith}
 use Rattle.dj_names.specs.declared.descriptor.Kind.{Kind}
 use Rattle.dj_names.specs.declared.descriptor.Kind.TheVariants as kinds
 use Rattle.dj_names.specs.declared.descriptor.Base.TheVariants as bases
@@ -18,7 +18,7 @@ use Rattle.dj_model.specs.trusted.Numbers.{is_wide}
 use Rattle.dj_model.specs.trusted.Program.{Code, Range}
 use Rattle.dj_model.specs.trusted.Values.{in_slots, moved}
 use Rattle.dj_model.specs.trusted.Kinds.{Signature, signature_of, Placed, Map, Read, Faulty, NoMap, frames_after, map_of}
-use Rattle.dj_model.specs.trusted.Shape.{after, state_before}
+use Rattle.dj_model.specs.trusted.Shape.{after, state_before, ParametersFit, IsShapeFault}
 use Rattle.dj_model.specs.SmallRuns.{op, iinc, jump, class, field, method, interface_method, catch_all, method_desc}
 use Rattle.dj_model.proofs.Shapes.{holds_test}
 use Rattle.dj_ops.specs.Mnemonics.{nop, aconst_null, iconst_0, lconst_0, fconst_0, iload_1, iload_2, lload_1, aload_0, istore_1, istore_2, istore_3, lstore_1, lstore_2, pop, pop2, ifeq, goto, ireturn, areturn, return, getstatic, putstatic, getfield, putfield, invokevirtual, invokestatic, new, athrow}
@@ -225,3 +225,25 @@ calls_and_fields = refl
 signatures : signature_of true (method_desc (int ∷ long ∷ object ∷ []) None) ∷ signature_of false (method_desc (int ∷ []) (Some long)) ∷ signature_of true (method_desc (f_type ∷ []) None) ∷ signature_of true (method_desc [] (Some f_type)) ∷ []
     ≡ Some (record { parameters = kinds.Int ∷ kinds.Long ∷ kinds.Ref ∷ []; result = None }) ∷ Some (record { parameters = kinds.Ref ∷ kinds.Int ∷ []; result = Some kinds.Long }) ∷ None ∷ None ∷ []
 signatures = refl
+
+-- ---- parameters that don't fit
+
+abbrev long_taken : Signature
+long_taken = record { parameters = kinds.Long ∷ []; result = None }
+
+abbrev narrow : Code
+narrow = record { max_stack = 0; max_locals = 1; instructions = op return ∷ []; ranges = []; frames = Some [] }
+
+-- a long takes two local variables
+long_fits : ParametersFit long_taken (record narrow { max_locals = 2 })
+long_fits = omega arith
+
+long_fits_not : ParametersFit long_taken narrow → ⊥
+long_fits_not few = absurd (omega (arith, few))
+
+-- where it has one, the fault is at 0 and at no other number
+narrow_fault : IsShapeFault long_taken narrow (Some 0)
+narrow_fault = (refl, inl (λ few. absurd (omega (arith, few)), refl))
+
+narrow_fault_not : IsShapeFault long_taken narrow (Some 1) → ⊥
+narrow_fault_not f = elim f.1 [ inl is ↦ absurd (omega (arith, is.1)) | inr is ↦ absurd (omega (arith, is.0)) ]

@@ -1,5 +1,5 @@
 -- Beside trusted/Program.antt: what no clause of the call `djvm` reaches.
-use Rattle.std.specs.Prelude.{ℕ, Bool, map}
+use Rattle.std.specs.Prelude.{ℕ, Bool, map, bit_and}
 use Rattle.std.specs.Option.{option_map}
 use Rattle.dj_names.specs.trusted.Types.{Name}
 use Rattle.dj_names.specs.Types.{desc_map}
@@ -25,8 +25,10 @@ body_map g Abstract = Abstract
 body_map g (Native id) = Native id
 body_map g (Runs code) = Runs (g code)
 
+-- A rewritten method isn't synchronized: ACC_SYNCHRONIZED, 0x0020, is cleared, which no run reads.
+-- 65503 is 0xffdf.
 abbrev pub method_map : (Name → Name) → (Code → Code) → Method → Method
-method_map f g m = record { flags = m.flags; name = m.name; desc = desc_map f m.desc; body = body_map g m.body }
+method_map f g m = record { flags = bit_and m.flags 65503; name = m.name; desc = desc_map f m.desc; body = body_map g m.body }
 
 abbrev pub field_map : (Name → Name) → Field → Field
 field_map f x = record { flags = x.flags; name = x.name; desc = desc_map f x.desc; constant = x.constant }
