@@ -7,11 +7,11 @@ use Rattle.dj_labels.proofs.TargetLaws.{pairs_lack, pairs_none, pairs_more}
 use Rattle.dj_labels.proofs.targets.number_pairs.Goals as goal
 
 pub loop-key-init : goal.loop-key-init
-loop-key-init c = subst (ArePairs c.args.table.now.starts.items []) (sym c.in_ok-new.ensures) (pairs_none c.args.table.now.starts.items)
+loop-key-init c = subst (ArePairs c.args.table.now.starts.items []) (sym c.in_ok-numbered.ensures) (pairs_none c.args.table.now.starts.items)
 
 pub returns-in_err-number_of-clause-refused : goal.returns-in_err-number_of-clause-refused
 returns-in_err-number_of-clause-refused c =
-    let p = err_from_is_err_and c.from_residual.result c.from_residual.ensures.1 in
+    let p = err_from_is_err_and c.from_residual-in_err-number_of.result c.from_residual-in_err-number_of.ensures.1 in
     let pairs = c.args.pairs.now in
     let i = c.loop-key.key-index in
     let within : i < length pairs = omega (arith, c.loop-key-test.true) in

@@ -7,11 +7,11 @@ use Rattle.dj_labels.proofs.TargetLaws.{lacks_at, numbers_none, numbers_more}
 use Rattle.dj_labels.proofs.targets.number_targets.Goals as goal
 
 pub loop-target-init : goal.loop-target-init
-loop-target-init c = subst (AreNumbers c.args.table.now.starts.items []) (sym c.in_ok-new.ensures) (numbers_none c.args.table.now.starts.items)
+loop-target-init c = subst (AreNumbers c.args.table.now.starts.items []) (sym c.in_ok-numbers.ensures) (numbers_none c.args.table.now.starts.items)
 
 pub returns-in_err-number_of-clause-refused : goal.returns-in_err-number_of-clause-refused
 returns-in_err-number_of-clause-refused c =
-    let p = err_from_is_err_and c.from_residual.result c.from_residual.ensures.1 in
+    let p = err_from_is_err_and c.from_residual-in_err-number_of.result c.from_residual-in_err-number_of.ensures.1 in
     let within : c.loop-target.target-index < length c.args.targets.now = omega (arith, c.loop-target-test.true) in
     let fits : SFits w64 (get_or c.args.targets.now c.loop-target.target-index (pos 0)) = search rules in
     rw (p.1, p.2) (lacks_at c.args.table.now.starts.items c.args.at c.args.targets.now c.loop-target.target-index _ c.in_err-number_of.field-0.0 within (to_z-of_z w64 _ fits ∙ get_or_default c.args.targets.now c.loop-target.target-index _ _ within) c.in_err-number_of.ensures.refused)
