@@ -17,6 +17,10 @@ values_of_bits : field_value kinds.Int 18446744073709551615 ∷ field_value kind
 unfolding int_wrap
 values_of_bits = refl
 
+-- a reference has the low 32 bits of a field
+references_of_bits : map (field_value kinds.Ref) (65537 ∷ 4294967295 ∷ 4294967297 ∷ []) ≡ values.Ref 65537 ∷ values.Ref 4294967295 ∷ values.Ref 1 ∷ []
+references_of_bits = refl
+
 abbrev each : List Element
 each = elements.Boolean ∷ elements.Byte ∷ elements.Char ∷ elements.Short ∷ elements.Int ∷ elements.Long ∷ elements.Ref ∷ []
 

@@ -247,3 +247,13 @@ narrow_fault = (refl, inl (λ few. absurd (omega (arith, few)), refl))
 
 narrow_fault_not : IsShapeFault long_taken narrow (Some 1) → ⊥
 narrow_fault_not f = elim f.1 [ inl is ↦ absurd (omega (arith, is.1)) | inr is ↦ absurd (omega (arith, is.0)) ]
+
+-- without a stack map the fault has no number
+abbrev unmapped : Code
+unmapped = record narrow { frames = None }
+
+unmapped_fault : IsShapeFault long_taken unmapped None
+unmapped_fault = refl
+
+unmapped_fault_not : (IsShapeFault long_taken unmapped (Some 0) → ⊥) × (IsShapeFault long_taken narrow None → ⊥)
+unmapped_fault_not = ((λ f. let e = f.0 in absurd cc), (λ e. absurd cc))
