@@ -1,11 +1,11 @@
 -- Where the instructions of groups stand, and what becomes of them under a map.
-use Rattle.std.proofs.Common.{◌≡◌, ℕ, zero, suc, ◌+◌, ◌-◌, ◌<◌, ◌≤◌, Bool, true, false, List, [], ◌∷◌, ◌++◌, map, zip, length, get_or, Option, Some, None, slice_get, refl, sym, ap, subst, ◌∙◌, arith, length-append, ◌⊎◌, inl, inr, filter, nat_lt, nat_le, ◌&&◌, ◌||◌, not, if◌then◌else◌}
+use Rattle.std.proofs.Common.{◌≡◌, ℕ, zero, suc, ◌+◌, ◌-◌, ◌<◌, ◌≤◌, Bool, true, false, List, [], ◌∷◌, ◌++◌, map, length, Some, slice_get, refl, sym, ap, subst, ◌∙◌, arith, length-append, ◌⊎◌, inl, inr, filter, nat_lt, nat_le, ◌&&◌, ◌||◌, not, if◌then◌else◌}
 use Rattle.std.proofs.lemmas.List.{map-append}
 use Rattle.std.proofs.lemmas.Bool.Decides.{nat_tests}
-use Rattle.std.proofs.lemmas.Bool.{lt-ltb, le-leb, le-ltb, leb-true, leb-false}
+use Rattle.std.proofs.lemmas.Bool.{lt-ltb, le-ltb, leb-true, leb-false}
 use Rattle.std.proofs.lemmas.Map.Views.{any-filter_same}
-use Rattle.std.specs.List.{flat_map, list_any, AllByRecursion}
-use Rattle.dj_groups.specs.Groups.{Inserted, Own, Group, inserted, plain_group, size, start, group_at, own, cut, is_some_range, pieces, spelled, regrouped}
+use Rattle.std.specs.List.{list_any, AllByRecursion}
+use Rattle.dj_groups.specs.Groups.{Inserted, Own, Group, inserted, size, start, group_at, own, cut, is_some_range, pieces, spelled, regrouped}
 use Rattle.dj_groups.specs.Laws.{is_in, keeps}
 
 pub either : (b : Bool) → (b ≡ true) ⊎ (b ≡ false)

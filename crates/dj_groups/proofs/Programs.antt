@@ -1,12 +1,12 @@
 -- The rewritten classes of files, joined with the library of rewritten classes, are the rewritten program.
-use Rattle.std.proofs.Common.{◌≡◌, Bool, true, false, List, [], ◌∷◌, map, refl, sym, ap, ◌∙◌, if◌then◌else◌}
+use Rattle.std.proofs.Common.{◌≡◌, Bool, true, false, List, [], ◌∷◌, map, refl, ap, ◌∙◌, if◌then◌else◌}
 use Rattle.dj_names.specs.trusted.Types.{Name}
 use Rattle.dj_names.specs.Types.{in_sandbox}
 use Rattle.dj_names.specs.trusted.Library.{deterministic_library, stop_class}
 use Rattle.dj_names.specs.Library.{below_object, accounter_class, accounter_methods, sandbox_library}
 use Rattle.dj_model.specs.trusted.Program.{Program, Class, Code}
 use Rattle.dj_model.specs.trusted.Libraries.{library_class, is_name_before, inserted, joined, library_program}
-use Rattle.dj_model.specs.Program.{class_map, program_map}
+use Rattle.dj_model.specs.Program.{class_map}
 use Rattle.dj_groups.specs.Rewritten.{rewritten_code, rewritten}
 
 abbrev accounter : Class

@@ -1,7 +1,7 @@
 -- Labelled code in groups is well formed where the labelled code is, the calls have indexes, and no object is too large.
-use Rattle.std.proofs.Common.{◌≡◌, ℕ, zero, suc, ◌+◌, ◌-◌, ◌*◌, ◌^◌, ◌<◌, ◌≤◌, Bool, true, false, ℤ, pos, negsuc, unsigned_abs, List, [], ◌∷◌, ◌++◌, map, zip, filter, length, get_or, Option, Some, None, refl, sym, ap, subst, ◌∙◌, arith, ◌⊎◌, inl, inr, nat_lt, if◌then◌else◌, length-append}
-use Rattle.std.specs.Prelude.{◌<ℤ◌, ◌≤ℤ◌, ◌+ℤ◌, ◌-ℤ◌, ⊤, FitsSigned, AllPairs}
-use Rattle.std.specs.Int.{w16, w32}
+use Rattle.std.proofs.Common.{◌≡◌, ℕ, zero, suc, ◌+◌, ◌-◌, ◌^◌, ◌<◌, ◌≤◌, Bool, true, false, ℤ, pos, negsuc, List, [], ◌∷◌, ◌++◌, map, filter, length, get_or, refl, sym, ap, subst, ◌∙◌, arith, nat_lt, if◌then◌else◌, length-append}
+use Rattle.std.specs.Prelude.{◌<ℤ◌, ◌+ℤ◌, ◌-ℤ◌, ⊤, FitsSigned, AllPairs}
+use Rattle.std.specs.Int.{w32}
 use Rattle.std.specs.List.{flat_map, AllByRecursion}
 use Rattle.std.proofs.lemmas.Int.{ints}
 use Rattle.std.proofs.lemmas.List.{get_or-map}
@@ -10,17 +10,17 @@ use Rattle.dj_names.specs.declared.run.Element.TheVariants as elements
 use Rattle.dj_ops.specs.declared.instruction.Instr.{Instr}
 use Rattle.dj_ops.specs.declared.instruction.Instr.TheVariants as instrs
 use Rattle.dj_ops.specs.trusted.Forms.{form_of}
-use Rattle.dj_ops.specs.trusted.Instructions.{IsProper, IsTable, IsLookup}
+use Rattle.dj_ops.specs.trusted.Instructions.{IsProper}
 use Rattle.dj_labels.specs.declared.labelled.Protected.{Protected}
 use Rattle.dj_labels.specs.declared.labelled.Labelled.{Labelled}
-use Rattle.dj_labels.specs.trusted.Targets.{targets_of, with_targets}
+use Rattle.dj_labels.specs.trusted.Targets.{with_targets}
 use Rattle.dj_labels.specs.trusted.Labels.{IsNumber, HasNumbers, IsRange}
 use Rattle.dj_labels.specs.Labels.{IsWellFormed}
-use Rattle.dj_groups.specs.Groups.{Counter, Jumps, Invocations, Throws, Allocations, Arrays, Catches, Inserted, Copy, ObjectBytes, ElementBytes, Record, Own, Kept, Popped, Group, inserted, size, start, own, group_at, cut, is_some_range, pieces, spelled, regrouped}
+use Rattle.dj_groups.specs.Groups.{Counter, Jumps, Invocations, Throws, Allocations, Arrays, Catches, Inserted, Copy, ObjectBytes, ElementBytes, Record, Own, Kept, Popped, Group, inserted, start, own, group_at, cut, is_some_range, pieces, spelled, regrouped}
 use Rattle.dj_groups.specs.Rewritten.{place}
 use Rattle.dj_groups.specs.Laws.{FitsObject}
-use Rattle.dj_groups.specs.Grouped.{call_index, inserted_instr, new_target, own_instr, protected_pieces, labels_in_groups}
-use Rattle.dj_groups.proofs.GroupLaws.{start_zero, start_next, own_next, rises_to, length_spelled}
+use Rattle.dj_groups.specs.Grouped.{inserted_instr, new_target, own_instr, protected_pieces, labels_in_groups}
+use Rattle.dj_groups.proofs.GroupLaws.{own_next, rises_to, length_spelled}
 
 -- ---- lists
 

@@ -1,5 +1,5 @@
 -- The program that rewriting makes.
-use Rattle.std.specs.Prelude.{ℕ, ◌+◌, List, [], ◌∷◌, map, slice_get, Option, Some, None, pos, ℤ}
+use Rattle.std.specs.Prelude.{ℕ, ◌+◌, List, [], ◌∷◌, map, slice_get, Option, Some, None, pos}
 use Rattle.std.specs.Option.{option_map}
 use Rattle.std.specs.List.{flat_map}
 use Rattle.dj_names.specs.declared.run.Value.TheVariants as values
@@ -8,7 +8,7 @@ use Rattle.dj_names.specs.trusted.Types.{class_type}
 use Rattle.dj_names.specs.Types.{in_sandbox}
 use Rattle.dj_names.specs.trusted.Library.{LibraryMethod, stop_class}
 use Rattle.dj_names.specs.Library.{below_object, accounter_class, accounter_methods}
-use Rattle.dj_model.specs.trusted.Instructions.{Instruction, Named, Nothing, Push, Move, Dup, Pop, Invoke, Static, Branch, Goto, Switch, Other}
+use Rattle.dj_model.specs.trusted.Instructions.{Instruction, Nothing, Push, Move, Dup, Pop, Invoke, Static, Branch, Goto, Switch, Other}
 use Rattle.dj_model.specs.trusted.Program.{Program, Code, Range}
 use Rattle.dj_model.specs.trusted.Libraries.{library_class}
 use Rattle.dj_model.specs.Program.{code_map, program_map}
