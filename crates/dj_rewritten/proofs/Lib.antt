@@ -17,3 +17,4 @@ pub mod Methods
 pub mod Classes
 pub mod ReadBack
 pub mod Programs
+pub mod Sound
