@@ -28,8 +28,9 @@ use Rattle.dj_groups.specs.Rewritten.{rewritten_code}
 use Rattle.dj_groups.specs.Grouped.{labels_in_groups}
 use Rattle.dj_rewritten.specs.Pools.{appended_texts, first_index, rewritten_pool}
 use Rattle.dj_rewritten.specs.Files.{without_synchronized, new_desc, IsRewrittenCode, IsRewrittenBody, IsRewrittenMethod}
+use Rattle.dj_rewritten.specs.Rewritable.{HasGoodParts}
 use Rattle.dj_rewritten.proofs.Bodies.{bodies_filtered, body_read}
-use Rattle.dj_rewritten.proofs.Codes.{HasConstant, HasClass, rewritten_in}
+use Rattle.dj_rewritten.proofs.Codes.{rewritten_in}
 use Rattle.dj_rewritten.proofs.Fields.{IsKnown, name_read, desc_read_again, named_kept_too}
 use Rattle.dj_rewritten.proofs.Frames.{frames_moved}
 use Rattle.dj_rewritten.proofs.Methods.{length_map, as_many_groups, old_count, frames_formed, laid_cut, laid_count, laid_rise, laid_short, bodiless_kept}
@@ -76,13 +77,6 @@ named_left pool name (x ∷ xs) a e = go (is_named pool name x) refl e (named_le
   go false named e later = later e
 
 -- ---- methods
-
--- what is known of the code of an accepted file's method
-pub record HasGoodParts (pool : List Constant) (parts : CodeParts) : Type 0 where
-  pub constants : AllByRecursion (λ instr. HasConstant pool (index_of instr)) parts.labelled.code
-  pub classes : AllByRecursion (HasClass pool) parts.labelled.ranges
-  pub frames : List Frame
-  pub some : parts.frames ≡ Some frames
 
 module _ (written : WrittenIsStackMap) (formed : StackMapIsWellFormed) (program : Program) (pool : List Constant) (members : List ℕ)
     (linked : (i : ℕ) (k : Constant) → constant_at pool i ≡ Some k → IsLinked pool k) where

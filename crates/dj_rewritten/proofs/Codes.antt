@@ -26,18 +26,10 @@ use Rattle.dj_groups.specs.Rewritten.{inserted_instruction, own_instruction, ret
 use Rattle.dj_groups.specs.Grouped.{new_target, inserted_instr, own_instr, protected_pieces, labels_in_groups}
 use Rattle.dj_groups.proofs.GroupLaws.{map_regrouped, Becomes}
 use Rattle.dj_rewritten.specs.Pools.{appended_texts, first_index, rewritten_pool}
+use Rattle.dj_rewritten.specs.Rewritable.{HasConstant, HasClass}
 use Rattle.dj_rewritten.proofs.CodeLaws.{instruction_named, instruction_aimed}
 use Rattle.dj_rewritten.proofs.Naming.{inserted_named}
 use Rattle.dj_rewritten.proofs.Kept.{named_kept}
-
--- the index of an instruction is one of a constant, where it has one
-abbrev pub HasConstant : List Constant → Option ℕ → Type 0
-HasConstant pool None = ⊤
-HasConstant pool (Some index) = (k : Constant) × (constant_at pool index ≡ Some k)
-
--- so is that of a row's class, unless it is 0
-abbrev pub HasClass : List Constant → Protected → Type 0
-HasClass pool range = (nat_eq range.catch_type 0 ≡ true) ⊎ ((k : Constant) × (constant_at pool range.catch_type ≡ Some k))
 
 module _ (pool : List Constant) (members : List ℕ) (linked : (i : ℕ) (k : Constant) → constant_at pool i ≡ Some k → IsLinked pool k) where
   abbrev new : List Constant

@@ -18,3 +18,4 @@ pub mod Classes
 pub mod ReadBack
 pub mod Programs
 pub mod Sound
+pub mod Once

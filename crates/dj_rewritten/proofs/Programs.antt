@@ -1,5 +1,5 @@
 -- Rewritten files, read again, are the rewritten program.
-use Rattle.std.proofs.Common.{◌≡◌, List, [], ◌∷◌, map, sym, ap, subst, ◌∙◌}
+use Rattle.std.proofs.Common.{◌≡◌, List, [], ◌∷◌, map, sym, ap, subst, ◌∙◌, ◌⊎◌, inl, inr}
 use Rattle.std.specs.Prelude.{⊤}
 use Rattle.std.specs.List.{AllByRecursion}
 use Rattle.dj_names.specs.Types.{in_sandbox}
@@ -14,7 +14,11 @@ use Rattle.dj_program.specs.trusted.Programs.{AreSideBySide, IsClassIn, IsProgra
 use Rattle.dj_groups.specs.Rewritten.{rewritten_code, rewritten}
 use Rattle.dj_groups.proofs.Programs.{program_rewritten}
 use Rattle.dj_rewritten.specs.Files.{IsRewrittenFile}
-use Rattle.dj_rewritten.proofs.ReadBack.{IsRewritable, read_back}
+use Rattle.dj_rewritten.specs.Rewritable.{IsRewritable}
+use Rattle.dj_early_rules.specs.trusted.Malformed.{HasFaultyMethod}
+use Rattle.dj_rewritten.proofs.ReadBack.{linked, read_back}
+use Rattle.dj_rewritten.proofs.Sound.{file_good}
+use Rattle.dj_rewritten.proofs.Once.{one_program}
 
 module _ (written : WrittenIsStackMap) (formed : StackMapIsWellFormed) (program : Program) where
   abbrev other : Class → Class
@@ -39,3 +43,11 @@ module _ (written : WrittenIsStackMap) (formed : StackMapIsWellFormed) (program 
     is = ap rewritten h.is ∙ sym (program_rewritten h.classes)
         ∙ ap (λ (p : Program). joined (map (class_map in_sandbox (rewritten_code p)) h.classes) (library_program sandbox_library)) (sym h.is);
   }
+
+-- no method of a rewritten file is faulty
+pub files_good : (program : Program) (cs ds : List ClassFile) → AllByRecursion IsRewritable cs → AreSideBySide (IsRewrittenFile program) cs ds → AllByRecursion (λ d. HasFaultyMethod d → ⊥) ds
+files_good program [] [] good r = tt
+files_good program [] (d ∷ ds) good r = absurd r
+files_good program (c ∷ cs) [] good r = absurd r
+files_good program (c ∷ cs) (d ∷ ds) good r =
+    (file_good program c d (linked c.pool good.0.valid.pool) (λ fault. good.0.whole (inl fault)) r.0, files_good program cs ds good.1 r.1)

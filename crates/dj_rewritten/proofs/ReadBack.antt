@@ -33,8 +33,9 @@ use Rattle.dj_program.specs.trusted.Programs.{AreSideBySide, IsMethodIn, field_i
 use Rattle.dj_groups.specs.Rewritten.{rewritten_code}
 use Rattle.dj_rewritten.specs.Pools.{rewritten_pool}
 use Rattle.dj_rewritten.specs.Files.{rewritten_field, IsRewrittenMethod, IsRewrittenFile}
+use Rattle.dj_rewritten.specs.Rewritable.{HasGoodParts, IsRewritable}
 use Rattle.dj_rewritten.proofs.Heads.{class_read, interfaces_read}
-use Rattle.dj_rewritten.proofs.Classes.{HasGoodParts, method_read}
+use Rattle.dj_rewritten.proofs.Classes.{method_read}
 use Rattle.dj_rewritten.proofs.Fields.{IsKnown, HasValue, field_read}
 
 -- ---- each constant names what belongs there
@@ -135,12 +136,6 @@ module _ (pool : List Constant) (members : List ℕ) (links : (i : ℕ) (k : Con
       rw (one, fields_read fields (λ g (k, less, is). each g (suc k, omega (arith, less), is))) refl
 
 -- ---- the class
-
--- what rewriting needs of a class file; each accepted file has it
-pub record IsRewritable (c : ClassFile) : Type 0 where
-  pub valid : IsValid c
-  pub whole : IsFaulty c → ⊥
-  pub codes : (m : MemberInfo) → Contains c.methods m → (parts : CodeParts) → IsMethodCode c.pool m parts → HasGoodParts c.pool parts
 
 contains_map : {A B : Type 0} (f : A → B) (xs : List A) (x : A) → Contains xs x → Contains (map f xs) (f x)
 contains_map f [] x (k, less, is) = absurd (omega (arith, less))
