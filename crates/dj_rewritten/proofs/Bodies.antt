@@ -1,26 +1,23 @@
 -- The code of a rewritten method, read from its attribute.
-use Rattle.std.proofs.Common.{◌≡◌, ℕ, zero, suc, ◌+◌, ◌<◌, Bool, true, false, List, [], ◌∷◌, ◌++◌, map, filter, length, Option, Some, None, refl, sym, ap, subst, ◌∙◌, arith, ◌⊎◌, inl, inr, codes, if◌then◌else◌}
-use Rattle.std.specs.Prelude.{Contains, ⊤}
+use Rattle.std.proofs.Common.{◌≡◌, ℕ, ◌+◌, Bool, true, false, List, [], ◌∷◌, ◌++◌, map, filter, length, Option, Some, refl, sym, ap, subst, ◌∙◌, arith, codes, if◌then◌else◌}
+use Rattle.std.specs.Prelude.{Contains}
 use Rattle.std.specs.Option.{option_map}
-use Rattle.std.specs.List.{flat_map}
 use Rattle.dj_ops.specs.declared.frames.Frame.{Frame}
 use Rattle.dj_pool.specs.trusted.Pool.{Constant}
 use Rattle.dj_class.specs.trusted.ClassFile.{AttributeInfo, MemberInfo}
-use Rattle.dj_class.specs.trusted.Code.{CodeInfo, IsCodeInfo, IsCode, code_info_bytes}
-use Rattle.dj_labels.specs.declared.labelled.Labelled.{Labelled}
+use Rattle.dj_class.specs.trusted.Code.{CodeInfo, IsCodeInfo, code_info_bytes}
 use Rattle.dj_labels.specs.trusted.Labels.{IsCut, IsLabelled, addressed}
 use Rattle.dj_layout.specs.declared.laid.Laid.{Laid}
-use Rattle.dj_layout.specs.trusted.Layouts.{IsLaidOut}
 use Rattle.dj_frames.specs.trusted.StackMaps.{IsStackMap}
 use Rattle.dj_frames.specs.trusted.Written.{stack_map_bytes}
 use Rattle.dj_frames.specs.Moves.{moved_frame}
 use Rattle.dj_early_rules.specs.trusted.Attributes.{is_named, bodies_of, codes_of, maps_of}
-use Rattle.dj_early_rules.specs.trusted.Code.{IsCodeOf, HasFrames, AreFramesOf}
+use Rattle.dj_early_rules.specs.trusted.Code.{HasFrames, AreFramesOf}
 use Rattle.dj_model.specs.trusted.Program.{Program}
 use Rattle.dj_program.specs.trusted.Codes.{CodeParts, code_in, IsMethodCode}
 use Rattle.dj_groups.specs.Groups.{Group, groups_of, starts, owns}
 use Rattle.dj_groups.specs.Grouped.{labels_in_groups}
-use Rattle.dj_rewritten.specs.Files.{rewritten_map, frames_in, IsRewrittenCode, IsRewrittenBody}
+use Rattle.dj_rewritten.specs.Files.{rewritten_map, frames_in, IsRewrittenBody}
 
 -- the attributes of a name, where names are told alike
 pub same_bodies : (old new : List Constant) (name : List ℕ) (change : AttributeInfo → AttributeInfo) (attributes : List AttributeInfo)

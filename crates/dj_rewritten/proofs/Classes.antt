@@ -1,23 +1,15 @@
 -- A rewritten class, read again: its methods, its fields and its names.
-use Rattle.std.proofs.Common.{◌≡◌, ℕ, zero, suc, ◌+◌, ◌<◌, ◌≤◌, Bool, true, false, List, [], ◌∷◌, ◌++◌, map, filter, length, Option, Some, None, refl, sym, ap, subst, ◌∙◌, arith, ◌⊎◌, inl, inr, codes, if◌then◌else◌}
-use Rattle.std.specs.Prelude.{◌≢◌, Contains, ⊤, IsTrue, IsFalse}
-use Rattle.std.specs.Option.{option_map}
-use Rattle.std.specs.List.{AllByRecursion}
-use Rattle.std.specs.Int.Bits.{bit_and}
+use Rattle.std.proofs.Common.{◌≡◌, ℕ, zero, suc, ◌≤◌, Bool, true, false, List, [], ◌∷◌, map, filter, length, Some, refl, sym, ap, subst, ◌∙◌, arith, inl, inr, codes, if◌then◌else◌}
+use Rattle.std.specs.Prelude.{◌≢◌, Contains, IsTrue, IsFalse}
 use Rattle.dj_names.specs.Types.{in_sandbox, desc_map}
 use Rattle.dj_names.specs.trusted.Types.{Name}
-use Rattle.dj_ops.specs.declared.frames.Frame.{Frame}
-use Rattle.dj_ops.specs.declared.instruction.Instr.{Instr}
-use Rattle.dj_labels.specs.declared.labelled.Protected.{Protected}
 use Rattle.dj_pool.specs.trusted.Pool.{Constant, constant_at, IsLinked}
 use Rattle.dj_class.specs.trusted.ClassFile.{AttributeInfo, MemberInfo}
 use Rattle.dj_frames.specs.Laws.{WrittenIsStackMap, StackMapIsWellFormed}
-use Rattle.dj_frames.specs.StackMaps.{AreWellFormed}
 use Rattle.dj_frames.specs.Moves.{moved_frame}
-use Rattle.dj_early_rules.specs.trusted.Attributes.{is_named, bodies_of, codes_of}
-use Rattle.dj_early_rules.specs.trusted.Instructions.{index_of}
-use Rattle.dj_early_rules.specs.trusted.Malformed.{IsBodiless, IsFaultyMethod}
-use Rattle.dj_model.specs.trusted.Program.{Program, Method, Body, Abstract, Runs, Code}
+use Rattle.dj_early_rules.specs.trusted.Attributes.{is_named, codes_of}
+use Rattle.dj_early_rules.specs.trusted.Malformed.{IsFaultyMethod}
+use Rattle.dj_model.specs.trusted.Program.{Program, Method, Body, Runs, Code}
 use Rattle.dj_model.specs.Program.{method_map, body_map}
 use Rattle.dj_declarations.specs.trusted.Files.{is_bodiless, name_in, desc_in, declared_method}
 use Rattle.dj_program.specs.trusted.Codes.{CodeParts, code_in, IsMethodCode}
@@ -25,9 +17,8 @@ use Rattle.dj_program.specs.trusted.Programs.{AreSideBySide, IsBodyIn, IsMethodI
 use Rattle.dj_program.proofs.Once.{one_code_parts}
 use Rattle.dj_groups.specs.Groups.{Group, groups_of, starts, owns}
 use Rattle.dj_groups.specs.Rewritten.{rewritten_code}
-use Rattle.dj_groups.specs.Grouped.{labels_in_groups}
 use Rattle.dj_rewritten.specs.Pools.{appended_texts, first_index, rewritten_pool}
-use Rattle.dj_rewritten.specs.Files.{without_synchronized, new_desc, IsRewrittenCode, IsRewrittenBody, IsRewrittenMethod}
+use Rattle.dj_rewritten.specs.Files.{without_synchronized, IsRewrittenBody, IsRewrittenMethod}
 use Rattle.dj_rewritten.specs.Rewritable.{HasGoodParts}
 use Rattle.dj_rewritten.proofs.Bodies.{bodies_filtered, body_read}
 use Rattle.dj_rewritten.proofs.Codes.{rewritten_in}
@@ -97,10 +88,9 @@ module _ (written : WrittenIsStackMap) (formed : StackMapIsWellFormed) (program 
       let few : length body.code.info.code ≤ 65535 = omega (arith, body.code.own.is.valid.few_code) in
       let old = frames_formed formed pool m body.parts body.code few good.frames good.some in
       let moved = frames_moved gs laid.starts (laid_rise program first gs body.parts.labelled laid many body.rewritten.is_laid) (laid_short program first gs body.parts.labelled laid many body.rewritten.is_laid)
-          (laid_count program first gs body.parts.labelled laid many body.rewritten.is_laid) body.code.labels.starts good.frames
-          (old_count formed pool m body.parts body.code few ∙ sym many) old in
-      let same_name : a.name ≡ b.name = sym (ap (λ (x : AttributeInfo). x.name) body.is) in
-      (
+      (laid_count program first gs body.parts.labelled laid many body.rewritten.is_laid) body.code.labels.starts good.frames
+      (old_count formed pool m body.parts body.code few ∙ sym many) old in
+      let same_name : a.name ≡ b.name = sym (ap (λ (x : AttributeInfo). x.name) body.is) in (
         _,
         body_read program pool new first m n a b (named_code (codes "Code") a b same_name named) alone (λ x y e h. named_code (codes "StackMapTable") y x (sym e) h) body body.rewritten.valid
             (laid_cut program first gs body.parts.labelled laid many body.rewritten.is_laid) good.frames good.some

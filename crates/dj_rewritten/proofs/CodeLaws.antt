@@ -1,20 +1,17 @@
 -- The instructions of rewritten code name what the rewritten program has there.
-use Rattle.std.proofs.Common.{◌≡◌, ℕ, zero, suc, ◌+◌, ◌-◌, ◌≤◌, ◌<◌, Bool, true, false, ◌&&◌, ℤ, pos, unsigned_abs, List, [], ◌∷◌, ◌++◌, map, length, Option, Some, None, slice_get, option_and_then, refl, sym, ap, subst, ◌∙◌, arith, ◌⊎◌, inl, inr, if◌then◌else◌, nat_eq, nat_lt, nat_le, unwrap_or, cond}
-use Rattle.std.specs.Prelude.{IsSomeAnd, ⊤, ◌+ℤ◌}
-use Rattle.std.specs.Option.{option_map}
-use Rattle.dj_names.specs.declared.descriptor.Kind.TheVariants as kinds
+use Rattle.std.proofs.Common.{◌≡◌, ℕ, ◌-◌, Bool, true, false, ◌&&◌, ℤ, pos, unsigned_abs, List, [], ◌∷◌, map, refl, ap, ◌⊎◌, inl, inr, if◌then◌else◌, nat_eq, nat_lt, nat_le}
+use Rattle.std.specs.Prelude.{⊤, ◌+ℤ◌}
 use Rattle.dj_names.specs.declared.descriptor.Base.{Base}
 use Rattle.dj_names.specs.declared.run.Element.{Element}
-use Rattle.dj_names.specs.declared.run.Element.TheVariants as elements
 use Rattle.dj_names.specs.declared.run.Value.TheVariants as values
-use Rattle.dj_names.specs.trusted.Types.{Name, base_array, array_type}
-use Rattle.dj_names.specs.Types.{in_sandbox, type_map}
+use Rattle.dj_names.specs.trusted.Types.{base_array}
+use Rattle.dj_names.specs.Types.{in_sandbox}
 use Rattle.dj_ops.specs.declared.instruction.Instr.{Instr}
 use Rattle.dj_ops.specs.declared.instruction.Instr.TheVariants as instrs
 use Rattle.dj_labels.specs.trusted.Targets.{with_targets}
 use Rattle.dj_model.specs.trusted.Types.{Member}
 use Rattle.dj_model.specs.Types.{member_map}
-use Rattle.dj_model.specs.trusted.Instructions.{Named, Nothing, AnInt, ALong, AText, AClass, AField, AMethod, AnInterfaceMethod, Another, Instruction, Push, PushText, New, NewArray, CheckCast, InstanceOf, Other, Branch, Goto, Switch, Invoke, Interface}
+use Rattle.dj_model.specs.trusted.Instructions.{Named, Nothing, AnInt, ALong, AText, AClass, AField, AMethod, AnInterfaceMethod, Another, Instruction, Push, PushText, NewArray, Other, Switch}
 use Rattle.dj_model.specs.Instructions.{named_map, instruction_map}
 use Rattle.dj_model.specs.trusted.Opcodes.{Row, row_does, simple, constant_rows, store_rows, stack_rows, number_rows, bit_rows, last_rows, operand_does, local_rows, jump_rows, literal, member, member_does, field_rows, method_rows, interface_method_rows, interface_call, class_use, new_array, array_rows, table_pairs, lookup_pairs, instruction_of}
 use Rattle.dj_groups.specs.Rewritten.{retargeted}

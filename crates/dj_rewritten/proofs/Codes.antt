@@ -1,10 +1,8 @@
 -- Labelled code in groups is the rewritten program's code, once indexes are replaced by what they name.
-use Rattle.std.proofs.Common.{◌≡◌, ℕ, ◌+◌, List, [], ◌∷◌, ◌++◌, map, Option, Some, None, option_and_then, refl, sym, ap, subst, ◌∙◌, ◌⊎◌, inl, inr, nat_eq, if◌then◌else◌, Bool, true, false}
-use Rattle.std.specs.Prelude.{⊤}
+use Rattle.std.proofs.Common.{◌≡◌, ℕ, ◌+◌, List, [], ◌∷◌, map, Option, Some, None, refl, sym, ap, ◌∙◌, inl, inr, nat_eq, if◌then◌else◌, Bool, true, false}
 use Rattle.std.specs.Option.{option_map}
 use Rattle.std.specs.List.{flat_map, AllByRecursion}
 use Rattle.std.proofs.lemmas.List.{map-append}
-use Rattle.dj_names.specs.trusted.Types.{Name}
 use Rattle.dj_names.specs.Types.{in_sandbox}
 use Rattle.dj_ops.specs.declared.frames.Frame.{Frame}
 use Rattle.dj_ops.specs.declared.instruction.Instr.{Instr}
@@ -13,7 +11,7 @@ use Rattle.dj_labels.specs.declared.labelled.Protected.{Protected}
 use Rattle.dj_labels.specs.trusted.Targets.{with_targets}
 use Rattle.dj_pool.specs.trusted.Pool.{Constant, constant_at, IsLinked}
 use Rattle.dj_early_rules.specs.trusted.Instructions.{index_of}
-use Rattle.dj_model.specs.trusted.Instructions.{Named, Instruction, Move, Pop}
+use Rattle.dj_model.specs.trusted.Instructions.{Named, Instruction}
 use Rattle.dj_model.specs.Instructions.{named_map, instruction_map}
 use Rattle.dj_model.specs.trusted.Opcodes.{instruction_of, simple}
 use Rattle.dj_model.specs.trusted.Program.{Program, Code, Range}

@@ -1,6 +1,5 @@
 -- The fields and the heads of a rewritten class, read again.
-use Rattle.std.proofs.Common.{◌≡◌, ℕ, zero, suc, ◌+◌, ◌*◌, Bool, true, false, List, [], ◌∷◌, ◌++◌, map, filter, Option, Some, None, option_and_then, refl, sym, ap, ◌∙◌, codes, unwrap_or, nat_eq}
-use Rattle.std.specs.Option.{option_map}
+use Rattle.std.proofs.Common.{◌≡◌, ℕ, Bool, true, false, List, [], ◌∷◌, map, filter, Option, Some, None, refl, sym, ap, ◌∙◌, codes, unwrap_or, nat_eq}
 use Rattle.std.specs.List.{list_any, AllByRecursion}
 use Rattle.std.specs.Cmp.Lexicographic.{pointwise}
 use Rattle.dj_names.specs.declared.descriptor.Desc.{Desc}
@@ -16,11 +15,11 @@ use Rattle.dj_declarations.specs.trusted.Files.{desc_in, name_in}
 use Rattle.dj_program.specs.trusted.Naming.{units_in, constant_by, value_index, constant_of_body, constant_of_bodies, constant_in}
 use Rattle.dj_program.specs.trusted.Programs.{field_in_file}
 use Rattle.dj_rewritten.specs.Names.{renamed_desc}
-use Rattle.dj_rewritten.specs.Pools.{desc_need, needs, appended_texts, new_index, renamed_constant, rewritten_pool}
+use Rattle.dj_rewritten.specs.Pools.{desc_need, needs, appended_texts, renamed_constant, rewritten_pool}
 use Rattle.dj_rewritten.specs.Files.{new_desc, rewritten_field}
 use Rattle.dj_rewritten.proofs.NameLaws.{desc_renamed}
 use Rattle.dj_rewritten.proofs.PoolLaws.{constant_kept, text_kept, need_met, in_name, is_need}
-use Rattle.dj_rewritten.proofs.Kept.{There, there}
+use Rattle.dj_rewritten.proofs.Kept.{there}
 use Rattle.dj_rewritten.proofs.Bodies.{same_bodies, bodies_filtered}
 
 abbrev is_named_by : Name → Option Name → Bool

@@ -1,7 +1,6 @@
 -- Frames that are moved to groups are well formed under the new addresses.
-use Rattle.std.proofs.Common.{◌≡◌, ℕ, zero, suc, ◌+◌, ◌^◌, ◌<◌, ◌≤◌, List, [], ◌∷◌, ◌++◌, map, length, get_or, refl, sym, ap, subst, ◌∙◌, arith}
-use Rattle.std.specs.Prelude.{All, AllPairs, ⊤, slice_index}
-use Rattle.std.specs.List.{range_with_len}
+use Rattle.std.proofs.Common.{◌≡◌, ℕ, suc, ◌+◌, ◌^◌, ◌<◌, ◌≤◌, List, [], ◌∷◌, map, length, get_or, refl, sym, ap, subst, arith}
+use Rattle.std.specs.Prelude.{All, AllPairs, slice_index}
 use Rattle.std.specs.List.Sorted.{IsStrictlyIncreasing}
 use Rattle.std.proofs.lemmas.List.{map-append, get_or-map}
 use Rattle.std.proofs.lemmas.List.Elements.{All-map}
@@ -15,7 +14,7 @@ use Rattle.dj_frames.specs.trusted.StackMaps.{types_of, HasCounts, IsType}
 use Rattle.dj_frames.specs.StackMaps.{IsWellFormed, AreWellFormed}
 use Rattle.dj_frames.specs.Moves.{moved_type, moved_form, moved_frame}
 use Rattle.dj_groups.specs.Groups.{Group, start, own, starts, owns}
-use Rattle.dj_groups.proofs.GroupLaws.{start_next, own_next, rises_to}
+use Rattle.dj_groups.proofs.GroupLaws.{own_next, rises_to}
 use Rattle.dj_groups.proofs.WellFormed.{rises_strictly}
 
 length_map : {A B : Type 0} (f : A → B) (xs : List A) → length (map f xs) ≡ length xs

@@ -1,5 +1,5 @@
 -- The names of a rewritten class: its own, its superclass's, its interfaces'.
-use Rattle.std.proofs.Common.{◌≡◌, ◌≢◌, ℕ, zero, suc, List, [], ◌∷◌, ◌++◌, map, Option, Some, None, option_and_then, refl, sym, ap, ◌∙◌, ◌⊎◌, inl, inr, unwrap_or}
+use Rattle.std.proofs.Common.{◌≡◌, ℕ, List, [], ◌∷◌, ◌++◌, map, Option, Some, None, option_and_then, refl, sym, ap, ◌∙◌}
 use Rattle.std.specs.Prelude.{IsSomeAnd}
 use Rattle.std.specs.Option.{option_map}
 use Rattle.std.specs.List.{flat_map, AllByRecursion}
@@ -8,8 +8,8 @@ use Rattle.dj_names.specs.trusted.Names.{IsClassName}
 use Rattle.dj_names.specs.trusted.Types.{Name}
 use Rattle.dj_names.specs.Types.{in_sandbox, type_map}
 use Rattle.dj_pool.specs.trusted.Pool.{Constant, Class, constant_at, text_at, class_text_of, class_name_at}
-use Rattle.dj_class.specs.trusted.ClassFile.{ClassFile, NamesClass}
-use Rattle.dj_class.specs.trusted.Names.{this_name, names_in, interface_names}
+use Rattle.dj_class.specs.trusted.ClassFile.{NamesClass}
+use Rattle.dj_class.specs.trusted.Names.{names_in}
 use Rattle.dj_model.specs.trusted.Natives.{class_name}
 use Rattle.dj_rewritten.specs.Names.{renamed_class}
 use Rattle.dj_rewritten.specs.Pools.{rewritten_pool}

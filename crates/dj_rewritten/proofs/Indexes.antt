@@ -1,15 +1,13 @@
 -- Code in groups is as long, and its jumps reach as far, whatever the indexes of the accounter's methods are.
-use Rattle.std.proofs.Common.{◌≡◌, ℕ, zero, suc, ◌+◌, ◌<◌, ◌≤◌, ℤ, List, [], ◌∷◌, ◌++◌, map, zip, take, length, Some, None, slice_get, refl, sym, ap, subst, ◌∙◌}
+use Rattle.std.proofs.Common.{◌≡◌, ℕ, zero, suc, ◌+◌, ℤ, List, [], ◌∷◌, ◌++◌, map, zip, take, refl, ap, ◌∙◌}
 use Rattle.std.specs.Prelude.{⊤}
 use Rattle.std.specs.List.{AllByRecursion}
-use Rattle.dj_names.specs.declared.run.Element.TheVariants as elements
 use Rattle.dj_ops.specs.declared.instruction.Instr.{Instr}
-use Rattle.dj_ops.specs.declared.instruction.Instr.TheVariants as instrs
 use Rattle.dj_ops.specs.trusted.Instructions.{AreOffsets, length_at}
 use Rattle.dj_labels.specs.trusted.Targets.{with_targets}
 use Rattle.dj_layout.specs.trusted.Places.{starts_from, end_from}
 use Rattle.dj_groups.specs.Groups.{Inserted, Copy, ObjectBytes, ElementBytes, Record, Own, Group, inserted, spelled, regrouped}
-use Rattle.dj_groups.specs.Grouped.{inserted_instr, own_instr}
+use Rattle.dj_groups.specs.Grouped.{inserted_instr}
 
 -- both are as long at each address, and reach the same targets
 pub record IsAlike (x y : Instr) : Type 0 where

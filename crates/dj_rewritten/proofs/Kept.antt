@@ -1,19 +1,19 @@
 -- An index of the original constants names the same as before, with `sandbox/` before each class's name.
-use Rattle.std.proofs.Common.{◌≡◌, ℕ, zero, suc, List, [], ◌∷◌, ◌++◌, map, Option, Some, None, option_and_then, refl, sym, ap, subst, ◌∙◌, ◌⊎◌, inl, inr, unwrap_or}
+use Rattle.std.proofs.Common.{◌≡◌, ℕ, List, [], Option, Some, None, option_and_then, refl, sym, ap, ◌∙◌, inl, inr, unwrap_or}
 use Rattle.std.specs.Prelude.{IsSomeAnd, ⊤}
 use Rattle.std.specs.Option.{option_map}
 use Rattle.dj_names.specs.declared.descriptor.Ty.{Ty}
 use Rattle.dj_names.specs.declared.descriptor.Desc.{Desc}
 use Rattle.dj_names.specs.declared.descriptor.Desc.TheVariants as descs
 use Rattle.dj_names.specs.trusted.Types.{Name}
-use Rattle.dj_names.specs.Types.{in_sandbox, type_map, desc_map}
+use Rattle.dj_names.specs.Types.{in_sandbox, type_map}
 use Rattle.dj_names.specs.trusted.Descriptors.{Describes, IsFieldDescriptor, IsMethodDescriptor}
-use Rattle.dj_pool.specs.trusted.Pool.{Constant, Utf8, Integer, Float, Long, Double, Class, Text, Field, Method, InterfaceMethod, NameAndType, Handle, MethodType, Dynamic, Hole, constant_at, text_of, text_at, class_text_of, class_name_at, names_of, name_and_type_at, desc_at, both, IsClassText, NamesText, NamesAnyClass, NamesDesc, AreNames, IsLinked}
+use Rattle.dj_pool.specs.trusted.Pool.{Constant, Utf8, Integer, Float, Long, Double, Class, Text, Field, Method, InterfaceMethod, NameAndType, Handle, MethodType, Dynamic, Hole, constant_at, text_at, class_text_of, names_of, name_and_type_at, both, IsClassText, NamesAnyClass, NamesDesc, AreNames, IsLinked}
 use Rattle.dj_model.specs.trusted.Types.{Member}
 use Rattle.dj_model.specs.Types.{member_map}
-use Rattle.dj_model.specs.trusted.Instructions.{Named, AnInt, ALong, AText, AClass, AField, AMethod, AnInterfaceMethod, Another}
+use Rattle.dj_model.specs.trusted.Instructions.{Named, AText, AClass, AField, AMethod, AnInterfaceMethod}
 use Rattle.dj_model.specs.Instructions.{named_map}
-use Rattle.dj_declarations.specs.trusted.Files.{type_in, desc_in, name_in}
+use Rattle.dj_declarations.specs.trusted.Files.{type_in, desc_in}
 use Rattle.dj_program.specs.trusted.Naming.{units_in, named_at, named_by, named_or_another, member_in, member_from}
 use Rattle.dj_rewritten.specs.Names.{renamed_class, renamed_desc}
 use Rattle.dj_rewritten.specs.Pools.{appended_texts, renamed_constant, rewritten_pool}

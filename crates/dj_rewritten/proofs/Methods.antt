@@ -1,9 +1,8 @@
 -- The methods of a rewritten class, read again.
-use Rattle.std.proofs.Common.{◌≡◌, ℕ, zero, suc, ◌+◌, ◌^◌, ◌<◌, ◌≤◌, Bool, true, false, List, [], ◌∷◌, ◌++◌, map, filter, length, get_or, Option, Some, None, refl, sym, ap, subst, ◌∙◌, arith, ◌⊎◌, inl, inr, codes, nat_eq}
-use Rattle.std.specs.Prelude.{All, AllPairs, Contains, ⊤, IsTrue, IsFalse, slice_index}
+use Rattle.std.proofs.Common.{◌≡◌, ℕ, suc, ◌+◌, ◌^◌, ◌<◌, ◌≤◌, Bool, List, [], ◌∷◌, map, length, Option, Some, refl, sym, ap, subst, ◌∙◌, arith, nat_eq}
+use Rattle.std.specs.Prelude.{All}
 use Rattle.std.specs.Int.{bit_at}
 use Rattle.std.specs.Int.Bits.{bit_and}
-use Rattle.std.specs.Option.{option_map}
 use Rattle.std.specs.List.{AllByRecursion}
 use Rattle.std.specs.List.Sorted.{IsStrictlyIncreasing}
 use Rattle.std.proofs.lemmas.Nat.Bits.{bit_at_and}
@@ -11,28 +10,25 @@ use Rattle.std.proofs.lemmas.List.Elements.{All-from_recursion}
 use Rattle.dj_ops.specs.declared.frames.Frame.{Frame}
 use Rattle.dj_ops.specs.declared.instruction.Instr.{Instr}
 use Rattle.dj_labels.specs.declared.labelled.Labelled.{Labelled}
-use Rattle.dj_labels.specs.trusted.Labels.{IsCut, IsLabelled, address_of, addressed}
+use Rattle.dj_labels.specs.trusted.Labels.{IsCut, address_of, addressed}
 use Rattle.dj_labels.specs.Passes.{IsRising}
-use Rattle.dj_labels.proofs.Cuts.{whole_ends, SameCut, one_cut, as_many, starts_rise, starts_within}
+use Rattle.dj_labels.proofs.Cuts.{whole_ends, one_cut, as_many, starts_rise, starts_within}
 use Rattle.dj_layout.specs.declared.laid.Laid.{Laid}
 use Rattle.dj_layout.specs.trusted.Layouts.{IsLaidOut}
-use Rattle.dj_layout.specs.trusted.Places.{starts_from}
 use Rattle.dj_layout.proofs.Standing.{same_places}
 use Rattle.dj_frames.specs.trusted.StackMaps.{IsStackMap}
-use Rattle.dj_frames.specs.StackMaps.{IsWellFormed, AreWellFormed}
-use Rattle.dj_frames.specs.Laws.{WrittenIsStackMap, StackMapIsWellFormed}
-use Rattle.dj_frames.specs.Moves.{moved_frame}
-use Rattle.dj_pool.specs.trusted.Pool.{Constant, constant_at, IsLinked}
-use Rattle.dj_class.specs.trusted.ClassFile.{AttributeInfo, MemberInfo}
+use Rattle.dj_frames.specs.StackMaps.{AreWellFormed}
+use Rattle.dj_frames.specs.Laws.{StackMapIsWellFormed}
+use Rattle.dj_pool.specs.trusted.Pool.{Constant}
+use Rattle.dj_class.specs.trusted.ClassFile.{MemberInfo}
 use Rattle.dj_early_rules.specs.trusted.Attributes.{maps_of}
 use Rattle.dj_early_rules.specs.trusted.Code.{HasFrames, AreFramesOf}
-use Rattle.dj_model.specs.trusted.Program.{Program, has_flag, is_abstract}
+use Rattle.dj_model.specs.trusted.Program.{Program, has_flag}
 use Rattle.dj_declarations.specs.trusted.Files.{is_bodiless}
 use Rattle.dj_program.specs.trusted.Codes.{CodeParts, code_in, IsMethodCode}
-use Rattle.dj_groups.specs.Groups.{Group, groups_from, groups_of, start, starts, owns, regrouped}
+use Rattle.dj_groups.specs.Groups.{Group, groups_from, groups_of, start, starts}
 use Rattle.dj_groups.specs.Grouped.{inserted_instr, own_instr, labels_in_groups}
 use Rattle.dj_groups.proofs.WellFormed.{length_regrouped}
-use Rattle.dj_rewritten.proofs.Frames.{frames_moved}
 
 -- ---- lists
 
@@ -83,7 +79,9 @@ module _ (formed : StackMapIsWellFormed) (pool : List Constant) (m : MemberInfo)
 
   none_formed : AreWellFormed old []
   none_formed = record {
-    starts_rise = rise; addresses = short; count = omega arith;
+    starts_rise = rise;
+    addresses = short;
+    count = omega arith;
     frames_rise = λ i j d before within. absurd (omega (arith, within));
     each = λ i d within. absurd (omega (arith, within));
   }

@@ -1,27 +1,22 @@
 -- What the indexes of a rewritten class name.
-use Rattle.std.proofs.Common.{◌≡◌, ℕ, zero, suc, ◌+◌, ◌*◌, ◌≤◌, ◌<◌, Bool, true, false, ℤ, pos, List, [], ◌∷◌, ◌++◌, map, length, Option, Some, None, slice_get, get_or, option_and_then, refl, sym, ap, subst, ◌∙◌, arith, length-append, ◌⊎◌, inl, inr, unwrap_or, codes}
-use Rattle.std.specs.Prelude.{IsSomeAnd, ⊤}
+use Rattle.std.proofs.Common.{◌≡◌, ℕ, suc, ◌+◌, ◌*◌, List, [], map, length, Option, Some, None, slice_get, get_or, option_and_then, refl, ap, ◌∙◌, arith, length-append}
 use Rattle.std.specs.Option.{option_map}
-use Rattle.dj_names.specs.trusted.Types.{Name, class_type}
 use Rattle.dj_names.specs.trusted.Library.{LibraryMethod}
 use Rattle.dj_names.specs.Library.{accounter_class, accounter_methods}
-use Rattle.dj_names.specs.Types.{in_sandbox, type_map, desc_map}
 use Rattle.dj_names.specs.declared.run.Element.TheVariants as elements
 use Rattle.dj_names.specs.trusted.NameReading.{reads_class_name}
 use Rattle.dj_names.specs.trusted.DescReading.{desc_read, method_read, params_read, type_read, dims_read, of_read, class_read, name_read, return_read, field_read}
 use Rattle.dj_names.specs.trusted.Descriptors.{desc_text}
-use Rattle.dj_ops.specs.declared.instruction.Instr.{Instr}
-use Rattle.dj_ops.specs.declared.instruction.Instr.TheVariants as instrs
-use Rattle.dj_pool.specs.trusted.Pool.{Constant, Utf8, Class, NameAndType, Method, constant_at, text_of, text_at, class_text_of, class_name_at, names_of, name_and_type_at, both}
-use Rattle.dj_model.specs.trusted.Types.{Member, no_parameters}
-use Rattle.dj_model.specs.trusted.Instructions.{Named, AMethod, Instruction, Invoke, Static}
+use Rattle.dj_pool.specs.trusted.Pool.{Constant, Utf8, NameAndType, Method, constant_at, text_of, text_at, class_text_of, class_name_at, names_of, name_and_type_at, both}
+use Rattle.dj_model.specs.trusted.Types.{no_parameters}
+use Rattle.dj_model.specs.trusted.Instructions.{AMethod}
 use Rattle.dj_model.specs.trusted.Opcodes.{instruction_of, simple, member}
-use Rattle.dj_declarations.specs.trusted.Files.{type_in, desc_in, name_in}
-use Rattle.dj_program.specs.trusted.Naming.{named_at, named_by, named_or_another, member_in, member_from, instruction_in}
-use Rattle.dj_groups.specs.Groups.{Counter, Jumps, Invocations, Throws, Allocations, Arrays, Catches, Inserted, Copy, ObjectBytes, ElementBytes, Record}
-use Rattle.dj_groups.specs.Rewritten.{place, call_of, inserted_instruction}
-use Rattle.dj_groups.specs.Grouped.{call_index, inserted_instr}
-use Rattle.dj_rewritten.specs.Pools.{renamed_constant, renamed_pool, appended_texts, method_constants, accounter_constants, first_index, rewritten_pool}
+use Rattle.dj_declarations.specs.trusted.Files.{type_in, desc_in}
+use Rattle.dj_program.specs.trusted.Naming.{named_at, named_by, named_or_another, member_from, instruction_in}
+use Rattle.dj_groups.specs.Groups.{Jumps, Invocations, Throws, Allocations, Arrays, Catches, Inserted, Copy, ObjectBytes, ElementBytes, Record}
+use Rattle.dj_groups.specs.Rewritten.{inserted_instruction}
+use Rattle.dj_groups.specs.Grouped.{inserted_instr}
+use Rattle.dj_rewritten.specs.Pools.{renamed_constant, renamed_pool, appended_texts, accounter_constants, first_index, rewritten_pool}
 use Rattle.dj_rewritten.proofs.PoolLaws.{slice_get_right, length_map}
 
 abbrev row : ℕ → LibraryMethod

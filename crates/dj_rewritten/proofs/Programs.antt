@@ -1,6 +1,5 @@
 -- Rewritten files, read again, are the rewritten program.
-use Rattle.std.proofs.Common.{◌≡◌, List, [], ◌∷◌, map, sym, ap, subst, ◌∙◌, ◌⊎◌, inl, inr}
-use Rattle.std.specs.Prelude.{⊤}
+use Rattle.std.proofs.Common.{List, [], ◌∷◌, map, sym, ap, ◌∙◌, inl}
 use Rattle.std.specs.List.{AllByRecursion}
 use Rattle.dj_names.specs.Types.{in_sandbox}
 use Rattle.dj_names.specs.trusted.Library.{deterministic_library}
@@ -18,7 +17,6 @@ use Rattle.dj_rewritten.specs.Rewritable.{IsRewritable}
 use Rattle.dj_early_rules.specs.trusted.Malformed.{HasFaultyMethod}
 use Rattle.dj_rewritten.proofs.ReadBack.{linked, read_back}
 use Rattle.dj_rewritten.proofs.Sound.{file_good}
-use Rattle.dj_rewritten.proofs.Once.{one_program}
 
 module _ (written : WrittenIsStackMap) (formed : StackMapIsWellFormed) (program : Program) where
   abbrev other : Class → Class

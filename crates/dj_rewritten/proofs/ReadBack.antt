@@ -1,23 +1,23 @@
 -- A rewritten class file, read again, is the class with the other names and the rewritten code.
-use Rattle.std.proofs.Common.{◌≡◌, ℕ, zero, suc, ◌+◌, ◌*◌, ◌^◌, ◌<◌, ◌≤◌, Bool, true, false, ◌&&◌, ◌||◌, cond, List, [], ◌∷◌, ◌++◌, map, filter, length, Option, Some, None, slice_get, option_and_then, refl, sym, ap, subst, ◌∙◌, arith, ◌⊎◌, inl, inr, codes, nat_eq, unwrap_or}
+use Rattle.std.proofs.Common.{◌≡◌, ℕ, zero, suc, ◌^◌, ◌<◌, Bool, true, false, ◌||◌, cond, List, [], ◌∷◌, ◌++◌, map, Option, Some, None, slice_get, refl, sym, ap, subst, ◌∙◌, arith, ◌⊎◌, inl, inr, unwrap_or}
 use Rattle.std.specs.Prelude.{Contains, ⊤, IsSomeAnd}
 use Rattle.std.specs.Option.{option_map}
-use Rattle.std.specs.List.{AllByRecursion, list_any, flat_map}
+use Rattle.std.specs.List.{AllByRecursion, list_any}
 use Rattle.std.specs.Cmp.Lexicographic.{bytes_decides}
 use Rattle.std.proofs.lemmas.Bool.{eq-eqb}
 use Rattle.std.proofs.lemmas.Option.{same_Some, none-some}
 use Rattle.std.proofs.lemmas.List.Folds.{list_any-append}
 use Rattle.dj_cursor.specs.trusted.Spelling.{u2}
 use Rattle.dj_names.specs.declared.descriptor.Desc.TheVariants as descs
-use Rattle.dj_names.specs.trusted.Types.{Name, same_name}
+use Rattle.dj_names.specs.trusted.Types.{Name}
 use Rattle.dj_names.specs.Types.{in_sandbox}
 use Rattle.dj_names.specs.trusted.Names.{IsUnqualifiedName, IsMethodName}
 use Rattle.dj_names.specs.trusted.Descriptors.{IsFieldDescriptor, IsMethodDescriptor}
 use Rattle.dj_pool.specs.trusted.Pool.{Constant, Hole, takes_two, indexed, constant_at, text_at, class_name_at, IsLinked, IsConstant, IsPool}
-use Rattle.dj_class.specs.trusted.ClassFile.{MemberInfo, ClassFile, IsField, IsMethod, IsValid, NamesClass}
-use Rattle.dj_class.specs.trusted.Names.{this_name, interface_names}
+use Rattle.dj_class.specs.trusted.ClassFile.{MemberInfo, ClassFile, IsField, IsMethod, NamesClass}
+use Rattle.dj_class.specs.trusted.Names.{this_name}
 use Rattle.dj_early_rules.specs.trusted.Attributes.{values_of}
-use Rattle.dj_early_rules.specs.trusted.Malformed.{IsValueFor, IsFaultyField, IsFaultyMethod, IsFaulty}
+use Rattle.dj_early_rules.specs.trusted.Malformed.{IsValueFor, IsFaultyField}
 use Rattle.dj_program.specs.trusted.Naming.{value_index}
 use Rattle.dj_rewritten.specs.Pools.{Need, desc_need, needs_from, needs}
 use Rattle.dj_rewritten.specs.Files.{desc_indexes}
@@ -28,12 +28,11 @@ use Rattle.dj_frames.specs.Laws.{WrittenIsStackMap, StackMapIsWellFormed}
 use Rattle.dj_model.specs.trusted.Program.{Program, Class, Method, Code}
 use Rattle.dj_model.specs.Program.{class_map, method_map, field_map}
 use Rattle.dj_declarations.specs.trusted.Files.{declared_class}
-use Rattle.dj_program.specs.trusted.Codes.{CodeParts, IsMethodCode}
 use Rattle.dj_program.specs.trusted.Programs.{AreSideBySide, IsMethodIn, field_in_file, IsClassIn}
 use Rattle.dj_groups.specs.Rewritten.{rewritten_code}
 use Rattle.dj_rewritten.specs.Pools.{rewritten_pool}
 use Rattle.dj_rewritten.specs.Files.{rewritten_field, IsRewrittenMethod, IsRewrittenFile}
-use Rattle.dj_rewritten.specs.Rewritable.{HasGoodParts, IsRewritable}
+use Rattle.dj_rewritten.specs.Rewritable.{IsRewritable}
 use Rattle.dj_rewritten.proofs.Heads.{class_read, interfaces_read}
 use Rattle.dj_rewritten.proofs.Classes.{method_read}
 use Rattle.dj_rewritten.proofs.Fields.{IsKnown, HasValue, field_read}
@@ -120,11 +119,10 @@ module _ (pool : List Constant) (members : List ℕ) (links : (i : ℕ) (k : Con
 
   values : (f : MemberInfo) → (IsFaultyField pool f → ⊥) → (bodies : List (List ℕ)) → ((body : List ℕ) → Contains bodies body → Contains (values_of pool f) body) → AllByRecursion (HasValue pool members links) bodies
   values f sound [] within = tt
-  values f sound (body ∷ bodies) within =
-      (
-        has_value f.desc body (λ never. sound (inr (body, within body (0, omega arith, refl), never))),
-        values f sound bodies (λ other (k, less, is). within other (suc k, omega (arith, less), is)),
-      )
+  values f sound (body ∷ bodies) within = (
+    has_value f.desc body (λ never. sound (inr (body, within body (0, omega arith, refl), never))),
+    values f sound bodies (λ other (k, less, is). within other (suc k, omega (arith, less), is)),
+  )
 
   -- each field, read again
   pub fields_read : (fields : List MemberInfo) → ((f : MemberInfo) → Contains fields f → IsField pool f × Contains members f.desc × (IsFaultyField pool f → ⊥))
@@ -178,8 +176,7 @@ module _ (written : WrittenIsStackMap) (formed : StackMapIsWellFormed) (program 
   methods_read (m ∷ ms) [] methods within r h = absurd r
   methods_read (m ∷ ms) (n ∷ ns) [] within r h = absurd h
   methods_read (m ∷ ms) (n ∷ ns) (x ∷ methods) within r h =
-      let own : Contains c.methods m = within m (0, omega arith, refl) in
-      (
+      let own : Contains c.methods m = within m (0, omega arith, refl) in (
         method_read written formed program c.pool members links m n x
             (method_known c.pool members links m (each_valid (IsMethod c.pool) c.methods m good.valid.methods own) (contains_right (map (λ (f : MemberInfo). f.desc) c.fields) (map (λ (f : MemberInfo). f.desc) c.methods) m.desc (contains_map (λ (f : MemberInfo). f.desc) c.methods m own)))
             (λ fault. good.whole (inl (m, own, fault))) (good.codes m own) r.0 h.0,

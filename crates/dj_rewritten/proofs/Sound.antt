@@ -1,13 +1,12 @@
 -- A rewritten file has no faulty method.
-use Rattle.std.proofs.Common.{◌≡◌, ℕ, zero, suc, ◌+◌, ◌*◌, ◌<◌, ◌≤◌, Bool, true, false, List, [], ◌∷◌, ◌++◌, map, filter, length, get_or, Some, refl, sym, ap, subst, ◌∙◌, arith, ◌⊎◌, inl, inr, codes, if◌then◌else◌}
-use Rattle.std.specs.Prelude.{◌≢◌, Contains, ⊤}
+use Rattle.std.proofs.Common.{◌≡◌, ℕ, zero, suc, ◌≤◌, Bool, true, false, List, [], ◌∷◌, map, filter, length, Some, refl, sym, ap, subst, ◌∙◌, arith, inl, inr, codes, if◌then◌else◌}
+use Rattle.std.specs.Prelude.{Contains}
 use Rattle.std.specs.Int.Bits.{bit_and}
 use Rattle.std.proofs.lemmas.Nat.{and_assoc}
 use Rattle.dj_names.specs.trusted.Types.{Name}
 use Rattle.dj_pool.specs.trusted.Pool.{Constant, constant_at, IsLinked}
-use Rattle.dj_class.specs.trusted.Access as access
 use Rattle.dj_class.specs.trusted.ClassFile.{AttributeInfo, MemberInfo, ClassFile}
-use Rattle.dj_class.specs.trusted.Code.{CodeInfo, IsCode, code_info_bytes}
+use Rattle.dj_class.specs.trusted.Code.{CodeInfo, IsCode}
 use Rattle.dj_early_rules.specs.trusted.Attributes.{is_named, bodies_of, codes_of, maps_of}
 use Rattle.dj_early_rules.specs.trusted.Malformed.{IsBodiless, IsFaultyMethod, IsFaultyBody, IsFaultyCode, HasFaultyMethod}
 use Rattle.dj_class.proofs.CodeLaws.{one_code}
@@ -102,6 +101,7 @@ module _ (program : Program) (pool : List Constant) (members : List ℕ) (links 
             (λ a h. named_again (codes "StackMapTable") a (rewritten_map gs s.rewritten.laid.starts s.parts.frames a) refl h))
             ∙ length_map (λ (a : AttributeInfo). (rewritten_map gs s.rewritten.laid.starts s.parts.frames a).body) maps
             ∙ sym (ap length (bodies_filtered pool (codes "StackMapTable") s.code.info.attributes) ∙ length_map (λ (a : AttributeInfo). a.body) maps)
+
         by_fault : IsFaultyCode new s.new → ⊥
         by_fault (inl unlabelled) =
             unlabelled (labels_in_groups first gs s.parts.labelled)

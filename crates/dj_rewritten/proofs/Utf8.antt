@@ -1,6 +1,6 @@
 -- A text with `sandbox/` before each class's name is modified UTF-8 where the text is.
-use Rattle.std.proofs.Common.{◌≡◌, ℕ, zero, suc, ◌+◌, ◌*◌, ◌/◌, ◌%◌, ◌≤◌, ◌<◌, ◌^◌, Bool, true, false, ◌&&◌, List, [], ◌∷◌, ◌++◌, refl, sym, ap, subst, ◌∙◌, append_assoc, replicate, arith, ◌⊎◌, inl, inr, nat_le, if◌then◌else◌}
-use Rattle.std.specs.List.{flat_map, AllByRecursion}
+use Rattle.std.proofs.Common.{◌≡◌, ℕ, zero, suc, ◌+◌, ◌/◌, ◌%◌, ◌≤◌, ◌<◌, ◌^◌, Bool, true, false, ◌&&◌, List, [], ◌∷◌, ◌++◌, refl, sym, ap, subst, ◌∙◌, append_assoc, replicate, arith, nat_le, if◌then◌else◌}
+use Rattle.std.specs.List.{AllByRecursion}
 use Rattle.std.proofs.lemmas.Grind.{flat_map-append}
 use Rattle.std.proofs.lemmas.Bool.{leb-true}
 use Rattle.dj_names.specs.declared.descriptor.Base.{Base}
@@ -11,7 +11,7 @@ use Rattle.dj_names.specs.declared.descriptor.Ty.{Ty}
 use Rattle.dj_names.specs.trusted.Types.{of_map}
 use Rattle.dj_names.specs.Types.{type_map, in_sandbox, sandbox_prefix}
 use Rattle.dj_names.specs.trusted.Descriptors.{base_letter, of_text, type_text}
-use Rattle.dj_names.specs.trusted.ModifiedUtf8.{unit_text, units_text, SpellsUnits, IsModifiedUtf8}
+use Rattle.dj_names.specs.trusted.ModifiedUtf8.{unit_text, units_text, IsModifiedUtf8}
 
 -- a unit is its own byte, or two or three bytes that are above 127
 data UnitText (u : ℕ) (text : List ℕ) : Type 0 where

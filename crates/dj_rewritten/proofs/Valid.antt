@@ -1,17 +1,17 @@
 -- The constants of a rewritten class name what belongs in their places.
-use Rattle.std.proofs.Common.{◌≡◌, ℕ, List, [], ◌∷◌, map, Option, Some, None, option_and_then, refl, sym, ap, subst, ◌∙◌, ◌⊎◌, inl, inr, unwrap_or}
+use Rattle.std.proofs.Common.{◌≡◌, ℕ, List, Option, Some, None, option_and_then, refl, sym, ap, subst, ◌∙◌, inl, inr}
 use Rattle.std.specs.Prelude.{IsSomeAnd, ⊤}
 use Rattle.dj_names.specs.declared.descriptor.Desc.TheVariants as shapes
 use Rattle.dj_names.specs.trusted.Types.{Name}
-use Rattle.dj_names.specs.Types.{in_sandbox, desc_map, type_map}
+use Rattle.dj_names.specs.Types.{in_sandbox, type_map}
 use Rattle.dj_names.specs.trusted.Names.{IsUnqualifiedName, IsMethodName}
-use Rattle.dj_names.specs.trusted.Descriptors.{Describes, IsFieldDescriptor, IsMethodDescriptor}
-use Rattle.dj_pool.specs.trusted.Pool.{Constant, Utf8, Integer, Float, Long, Double, Class, Text, Field, Method, InterfaceMethod, NameAndType, Handle, MethodType, Dynamic, Hole, constant_at, text_of, text_at, class_text_of, class_name_at, names_of, member_of, desc_at, IsClassText, NamesText, NamesAnyClass, NamesMember, NamesDesc, AreNames, IsLinked}
+use Rattle.dj_names.specs.trusted.Descriptors.{IsFieldDescriptor, IsMethodDescriptor}
+use Rattle.dj_pool.specs.trusted.Pool.{Constant, Utf8, Integer, Float, Long, Double, Class, Text, Field, Method, InterfaceMethod, NameAndType, Handle, MethodType, Dynamic, Hole, constant_at, text_at, class_text_of, names_of, member_of, desc_at, IsClassText, NamesText, NamesAnyClass, NamesMember, NamesDesc, IsLinked}
 use Rattle.dj_rewritten.specs.Names.{renamed_class, renamed_desc}
 use Rattle.dj_rewritten.specs.Pools.{class_need, desc_need, new_index, appended_texts, renamed_constant, rewritten_pool}
 use Rattle.dj_rewritten.proofs.NameLaws.{renamed_class_text, renamed_describes}
 use Rattle.dj_rewritten.proofs.PoolLaws.{constant_kept, text_kept, need_met, class_is_needed, desc_is_needed, type_is_needed, in_name}
-use Rattle.dj_rewritten.proofs.Kept.{There, there}
+use Rattle.dj_rewritten.proofs.Kept.{there}
 
 pub field_renamed : (text : Name) → IsFieldDescriptor text → IsFieldDescriptor (renamed_desc text)
 field_renamed text h = (type_map in_sandbox h.0, renamed_describes text (shapes.Field h.0) h.1)

@@ -1,24 +1,21 @@
--- Rewritten class files.
-use Rattle.std.specs.Prelude.{◌≡◌, ℕ, ◌+◌, ◌-◌, ◌*◌, ◌≤◌, ◌<◌, ◌⊎◌, Bool, List, [], ◌∷◌, ◌++◌, map, filter, length, Option, Some, None, codes, nat_eq, if◌then◌else◌, slice_index, drop, take, IsTrue, IsFalse, Contains}
+-- Rewritten class files: the version, the flags and the order of everything stay; of attributes stay ConstantValue, Code and StackMapTable.
+use Rattle.std.specs.Prelude.{◌≡◌, ℕ, ◌+◌, List, [], ◌++◌, map, filter, Option, Some, None, codes}
 use Rattle.std.specs.Int.Bits.{bit_and}
-use Rattle.std.specs.List.{flat_map}
 use Rattle.dj_ops.specs.declared.frames.Frame.{Frame}
 use Rattle.dj_pool.specs.trusted.Pool.{Constant}
-use Rattle.dj_class.specs.trusted.ClassFile.{AttributeInfo, MemberInfo, ClassFile}
+use Rattle.dj_class.specs.trusted.ClassFile.{AttributeInfo, MemberInfo, ClassFile, IsValid}
 use Rattle.dj_class.specs.trusted.Code.{CodeInfo, IsCodeInfo, code_info_bytes}
-use Rattle.dj_labels.specs.declared.labelled.Labelled.{Labelled}
 use Rattle.dj_layout.specs.declared.laid.Laid.{Laid}
 use Rattle.dj_layout.specs.trusted.Layouts.{IsLaidOut}
 use Rattle.dj_frames.specs.trusted.Written.{stack_map_bytes}
 use Rattle.dj_early_rules.specs.trusted.Attributes.{is_named}
 use Rattle.dj_model.specs.trusted.Program.{Program}
-use Rattle.dj_declarations.specs.trusted.Files.{is_bodiless}
 use Rattle.dj_program.specs.trusted.Codes.{CodeParts, code_in, IsMethodCode}
 use Rattle.dj_program.specs.trusted.Programs.{AreSideBySide}
 use Rattle.dj_frames.specs.Moves.{moved_frame}
 use Rattle.dj_groups.specs.Groups.{Group, groups_of, starts, owns}
 use Rattle.dj_groups.specs.Grouped.{labels_in_groups}
-use Rattle.dj_rewritten.specs.Pools.{Need, desc_need, new_index, appended_texts, first_index, rewritten_pool}
+use Rattle.dj_rewritten.specs.Pools.{desc_need, new_index, appended_texts, first_index, rewritten_pool}
 
 -- ---- code
 
@@ -94,3 +91,5 @@ pub record IsRewrittenFile (program : Program) (c : ClassFile) (d : ClassFile) :
     methods = methods;
     attributes = [];
   }
+  -- its numbers, its texts and its counts fit
+  pub valid : IsValid d

@@ -1,8 +1,5 @@
-use Rattle.std.proofs.Common.{inl}
 use Rattle.dj_names.specs.Library.{sandbox_library}
 use Rattle.dj_groups.specs.Rewritten.{rewritten}
-use Rattle.dj_rewritten.proofs.ReadBack.{linked, read_back}
-use Rattle.dj_rewritten.proofs.Sound.{file_good}
 use Rattle.dj_rewritten.proofs.Programs.{program_read, files_good}
 use Rattle.dj_rewritten.proofs.Once.{one_program}
 use Rattle.dj_rewritten.proofs.laws.no_other_program.Goals as goal
