@@ -19,3 +19,4 @@ pub mod ReadBack
 pub mod Programs
 pub mod Sound
 pub mod Once
+mod SizeFacts
