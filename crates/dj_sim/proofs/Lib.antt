@@ -4,3 +4,6 @@ pub mod Effects
 pub mod Steps
 pub mod Ready
 pub mod Initialises
+pub mod Stops
+pub mod Pays
+pub mod Payments

@@ -5,7 +5,9 @@ use Rattle.std.specs.List.{list_any}
 use Rattle.std.proofs.lemmas.List.{length-map}
 use Rattle.std.proofs.lemmas.Bool.Decides.{nat_tests}
 use Rattle.dj_groups.specs.Groups.{Inserted, Own, Group, inserted, group_at, plain_group, start, own, cut, is_some_range, pieces, spelled, regrouped}
+use Rattle.dj_groups.specs.Rewritten.{inserted_instruction}
 use Rattle.dj_groups.specs.Laws.{is_in, keeps}
+use Rattle.dj_sim.specs.Simulation.{part_at}
 use Rattle.dj_groups.proofs.GroupLaws.{start_next, own_next, at_group, in_pieces, rises_to}
 use Rattle.dj_groups.proofs.WellFormed.{length_regrouped}
 pub use Rattle.dj_groups.proofs.GroupLaws.{either}
@@ -26,7 +28,7 @@ nothing_past [] n e = refl
 nothing_past (x ∷ xs) zero e = absurd (omega (arith, e))
 nothing_past (x ∷ xs) (suc n) e = nothing_past xs n (omega (arith, e))
 
-something_within : {A : Type 0} (xs : List A) (n : ℕ) → n < length xs → (x : A) × (slice_get xs n ≡ Some x)
+pub something_within : {A : Type 0} (xs : List A) (n : ℕ) → n < length xs → (x : A) × (slice_get xs n ≡ Some x)
 something_within [] n e = absurd (omega (arith, e))
 something_within (x ∷ xs) zero e = (x, refl)
 something_within (x ∷ xs) (suc n) e = something_within xs n (omega (arith, e))
@@ -49,6 +51,10 @@ starts_follow gs a b l = rises_to gs a b l
 -- an instruction itself is after all that comes before it
 pub own_follows : (gs : List Group) (a b : ℕ) → a < b → own gs a < start gs b
 own_follows gs a b l = omega (arith, own_next gs a, rises_to gs (suc a) b l)
+
+-- the instruction itself comes after what is inserted
+pub own_is : (gs : List Group) (k : ℕ) → own gs k ≡ start gs k + length (part_at gs k)
+own_is gs k = omega (arith, length-map (inserted (group_at gs k)) inserted_instruction)
 
 -- ---- instructions
 

@@ -1,8 +1,9 @@
 -- States of a metered run, and of the plain run of the rewritten program.
-use Rattle.std.specs.Prelude.{◌≡◌, ℕ, ◌≤◌, Bool, true, false, List, [], ◌∷◌, map, Option, Some, None, ⊤}
+use Rattle.std.specs.Prelude.{◌≡◌, ℕ, suc, ◌+◌, ◌*◌, ◌≤◌, Bool, true, false, List, [], ◌∷◌, map, length, Option, Some, None, ⊤}
 use Rattle.dj_names.specs.declared.descriptor.Ty.{Ty}
 use Rattle.dj_names.specs.declared.run.Costs.{Costs}
 use Rattle.dj_names.specs.declared.run.Outcome.{Outcome}
+use Rattle.dj_names.specs.declared.run.Outcome.TheVariants as outcomes
 use Rattle.dj_names.specs.declared.run.Thresholds.{Thresholds}
 use Rattle.dj_names.specs.trusted.Heaps.{Object, class_of}
 use Rattle.dj_names.specs.Heaps.{heap_map}
@@ -17,7 +18,8 @@ use Rattle.dj_model.specs.trusted.State.{Terms, Accounted, Frame, State, Way, To
 use Rattle.dj_model.specs.trusted.Effects.{effect}
 use Rattle.dj_model.specs.trusted.Initialisation.{mark, Initialised, Ready, Waits, Fails}
 use Rattle.dj_model.specs.trusted.Step.{StepAnswer, Went, Ended, IllFormed, part_of}
-use Rattle.dj_model.specs.trusted.Runs.{Finished, from_start, steps}
+use Rattle.dj_model.specs.trusted.Charging.{Charged, Fine, Over}
+use Rattle.dj_model.specs.trusted.Runs.{Going, Finished, from_start, steps}
 use Rattle.dj_model.specs.Mapping.{outcome_map}
 use Rattle.dj_model.specs.Runs.{metered_terms}
 use Rattle.dj_model.specs.Standing.{IsAmong}
@@ -115,6 +117,18 @@ plain_terms most = record { limit = None; counting = Accounted most }
 abbrev pub EndsWithin : Program → Thresholds → ℕ → StepAnswer → Outcome → Costs → Type 0
 EndsWithin program most bound a outcome costs =
     (n : ℕ) × (n ≤ bound) × (t : State) × (from_start (steps program sandbox_prefix (plain_terms most) n) a ≡ Finished outcome t n) × (t.account.costs ≡ costs)
+
+-- each frame is one of a method of the original program
+abbrev pub AreOriginal : List (Frame Declared) → Type 0
+AreOriginal [] = ⊤
+AreOriginal (y ∷ ys) = ((m : Declared) × (y.method ≡ declared_map in_sandbox m)) × AreOriginal ys
+
+-- in the plain run of R the charges are added in this many steps, and the top frame is paid; or the run ends
+abbrev pub PaidImage : Program → Program → Thresholds → ℕ → Bool → State → Frame Declared → List (Frame Declared) → Charged → Type 0
+PaidImage program R most k touched s x below (Fine account) = (now : Bool)
+    × (steps R sandbox_prefix (plain_terms most) k (state_image program touched s) ≡ Going (state_image program now (record s { account = account; frames = record x { paid = true } ∷ below })))
+PaidImage program R most k touched s x below (Over charge account) =
+    EndsWithin R most (k + 2 * suc (length below)) (Went (state_image program touched s)) (outcomes.Stopped charge) account.costs
 
 -- ---- answers
 
