@@ -7,3 +7,8 @@ pub mod Initialises
 pub mod Stops
 pub mod Pays
 pub mod Payments
+pub mod Counting
+pub mod Back
+pub mod Shapes
+pub mod Befores
+pub mod Bounded
