@@ -3,9 +3,9 @@ pub mod Acts
 pub mod Effects
 pub mod Steps
 pub mod Ready
-pub mod Initialises
-pub mod Stops
-pub mod Pays
+pub mod Initialising
+pub mod Unwinding
+pub mod PaidCalls
 pub mod Payments
 pub mod Counting
 pub mod Back

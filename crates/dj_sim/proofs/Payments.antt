@@ -36,9 +36,9 @@ use Rattle.dj_sim.specs.Simulation.{HasObject, AreOriginal, PaidImage, part_at, 
 use Rattle.dj_sim.proofs.Places.{past, own_is}
 use Rattle.dj_sim.proofs.Acts.{other, at, statics, code_image, frames_image, part_there}
 use Rattle.dj_sim.proofs.Ready.{two, flags_after, ready}
-use Rattle.dj_sim.proofs.Initialises.{mark_marked, flag_there, mark_there}
-use Rattle.dj_sim.proofs.Stops as stopping
-use Rattle.dj_sim.proofs.Pays as paying
+use Rattle.dj_sim.proofs.Initialising.{mark_marked, flag_there, mark_there}
+use Rattle.dj_sim.proofs.Unwinding as stopping
+use Rattle.dj_sim.proofs.PaidCalls as paying
 
 mark_set : (classes : Program) (class : Name) (flags : List Bool) → is_initialised classes flags class ≡ true → mark classes class flags ≡ flags
 unfolding is_initialised mark

@@ -1,5 +1,5 @@
 -- States of a metered run, and of the plain run of the rewritten program.
-use Rattle.std.specs.Prelude.{◌≡◌, ℕ, suc, ◌+◌, ◌*◌, ◌≤◌, Bool, true, false, List, [], ◌∷◌, map, length, Option, Some, None, ⊤}
+use Rattle.std.specs.Prelude.{◌≡◌, ℕ, suc, ◌+◌, ◌*◌, ◌<◌, ◌≤◌, Bool, true, false, List, [], ◌∷◌, map, length, Option, Some, None, ⊤}
 use Rattle.dj_names.specs.declared.descriptor.Ty.{Ty}
 use Rattle.dj_names.specs.declared.run.Costs.{Costs}
 use Rattle.dj_names.specs.declared.run.Outcome.{Outcome}
@@ -21,7 +21,7 @@ use Rattle.dj_model.specs.trusted.Step.{StepAnswer, Went, Ended, IllFormed, part
 use Rattle.dj_model.specs.trusted.Charging.{Charged, Fine, Over}
 use Rattle.dj_model.specs.trusted.Runs.{Going, Finished, from_start, steps}
 use Rattle.dj_model.specs.Mapping.{outcome_map}
-use Rattle.dj_model.specs.Runs.{metered_terms}
+use Rattle.dj_model.specs.Runs.{metered_terms, starts_handler}
 use Rattle.dj_model.specs.Standing.{IsAmong}
 use Rattle.dj_groups.specs.Groups.{Group, inserted, group_at, groups_of, start, own}
 use Rattle.dj_groups.specs.Rewritten.{inserted_instruction}
@@ -96,6 +96,10 @@ pub record HasObject (program : Program) : Type 0 where
   pub top : object.superclass ≡ None
   pub fields : object.fields ≡ []
   pub quiet : has_initialiser program (object_name []) ≡ false
+
+-- handlers are instructions
+abbrev pub AreHandlersWithin : Program → Type 0
+AreHandlersWithin program = (m : Declared) (code : Code) (k : ℕ) → code_of program m ≡ Some code → starts_handler (Some code) k ≡ true → k < length code.instructions
 
 -- the run goes on elsewhere only where the instruction may jump, as shape says
 abbrev pub JumpsAmong : Instruction → Flow → Type 0

@@ -1,2 +1,6 @@
-//! A metered run, and the plain run of the rewritten program: the laws that one simulates the other.
+//! The metered run of a program, and the plain run of the rewritten program: each turn of the one is so many steps of the other.
 #![tactic(auto)]
+
+mod laws;
+
+pub use laws::{act, initialises, pays, stops};

@@ -20,7 +20,7 @@ use Rattle.dj_model.specs.trusted.Program.{Program, code_of}
 use Rattle.dj_model.specs.trusted.State.{Account, Part, Next, Goes, Frame, State, instruction_in, goes}
 use Rattle.std.specs.Prelude.{⊤, if◌then◌else◌}
 use Rattle.dj_names.specs.declared.run.Costs.{Costs}
-use Rattle.dj_sim.proofs.Stops.{step_more}
+use Rattle.dj_sim.proofs.Unwinding.{step_more}
 use Rattle.dj_model.specs.trusted.Charging.{Charged, Fine, Over, added, passes, charge_after, charge_one}
 use Rattle.dj_model.specs.Effects.{array_charge}
 use Rattle.dj_model.specs.Charging.{Amount, then_charge, charge_all}

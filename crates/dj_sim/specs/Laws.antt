@@ -1,0 +1,48 @@
+-- Laws of the two runs: the metered run of a program, and the plain run of the rewritten program.
+use Rattle.std.specs.Prelude.{◌≡◌, ℕ, ◌*◌, Bool, true, false, List, [], ◌∷◌, length, Some}
+use Rattle.dj_names.specs.declared.run.Charge.{Charge}
+use Rattle.dj_names.specs.declared.run.Outcome.TheVariants as outcomes
+use Rattle.dj_names.specs.declared.run.Thresholds.{Thresholds}
+use Rattle.dj_names.specs.trusted.Types.{Name, class_type}
+use Rattle.dj_names.specs.trusted.Library.{stop_class}
+use Rattle.dj_names.specs.Types.{in_sandbox, sandbox_prefix}
+use Rattle.dj_model.specs.trusted.Types.{Declared, object_name}
+use Rattle.dj_model.specs.trusted.Instructions.{Instruction}
+use Rattle.dj_model.specs.trusted.Program.{Program, Code, code_of}
+use Rattle.dj_model.specs.trusted.State.{Terms, Frame, State, instruction_at}
+use Rattle.dj_model.specs.trusted.Performing.{class_at_number, is_instance}
+use Rattle.dj_model.specs.trusted.Effects.{used_class}
+use Rattle.dj_model.specs.trusted.Initialisation.{Ready, initialise}
+use Rattle.dj_model.specs.trusted.Step.{prepared, unwound, step}
+use Rattle.dj_model.specs.Charging.{charge_all}
+use Rattle.dj_model.specs.Runs.{amounts, metered_terms}
+use Rattle.dj_groups.specs.Groups.{groups_of}
+use Rattle.dj_groups.specs.Rewritten.{rewritten}
+use Rattle.dj_sim.specs.Paying.{Paying}
+use Rattle.dj_sim.specs.Simulation.{part_at, state_image, AreActing, HasObject, AreHandlersWithin, HasEffect, EndsWithin, AreOriginal, PaidImage, answer_image, initialised_image}
+
+-- The rewritten program initialises the class of another name as the program initialises the class, on the same terms.
+abbrev pub Initialises : Type 0
+Initialises = (program : Program) → HasObject program → (terms : Terms) (touched : Bool) (class : Name) (s : State)
+    → initialise (rewritten program) sandbox_prefix terms (in_sandbox class) (state_image program touched s) ≡ initialised_image program touched (initialise program [] terms class s)
+
+-- An instruction that is paid is one step of the rewritten program, on the same terms.
+abbrev pub Acts : Type 0
+Acts = (program : Program) → HasObject program → (most : Thresholds) (touched : Bool) (s : State) (x : Frame Declared) (below : List (Frame Declared)) (i : Instruction)
+    → s.frames ≡ x ∷ below → AreActing (x ∷ below) → instruction_at program x ≡ Some i
+    → ((t : State) → prepared program [] (metered_terms most) (used_class program [] i) s ≡ Ready t → HasEffect program most x i t)
+    → step (rewritten program) sandbox_prefix (metered_terms most) (state_image program touched s) ≡ answer_image program touched (step program [] (metered_terms most) s)
+
+-- What is inserted before an instruction adds the instruction's charges in as many steps as there are inserted, or the run ends by the one that passed its threshold.
+abbrev pub Pays : Type 0
+Pays = (program : Program) → HasObject program → AreHandlersWithin program → (most : Thresholds) (touched : Bool) (s : State) (x : Frame Declared) (below : List (Frame Declared)) (code : Code)
+    → s.frames ≡ x ∷ below → x.paid ≡ false → code_of program x.method ≡ Some code
+    → Paying (part_at (groups_of program code) x.number) x.operands (amounts program [] s)
+    → ((r : ℕ) → is_instance program [] s.heap r (class_type (object_name [])) ≡ true)
+    → PaidImage program (rewritten program) most (length (part_at (groups_of program code) x.number)) touched s x below (charge_all most (amounts program [] s) s.account)
+
+-- The object that stops a run leaves all frames, in at most two steps a frame.
+abbrev pub Stops : Type 0
+Stops = (program : Program) → HasObject program → AreHandlersWithin program → (most : Thresholds) (frames : List (Frame Declared)) → AreOriginal frames
+    → (r : State) (exception : ℕ) (charge : Charge) → r.account.exceeded ≡ Some charge → class_at_number r.heap exception ≡ class_type stop_class
+    → EndsWithin (rewritten program) most (2 * length frames) (unwound (rewritten program) sandbox_prefix r (class_type stop_class) exception frames) (outcomes.Stopped charge) r.account.costs
