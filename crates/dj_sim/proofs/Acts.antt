@@ -4,7 +4,6 @@ use Rattle.std.specs.List.{flat_map}
 use Rattle.std.specs.Option.{option_map}
 use Rattle.std.proofs.lemmas.List.{length-map}
 use Rattle.std.proofs.lemmas.Option.{none-some, slice_get-map}
-use Rattle.std.proofs.lemmas.Bool.Decides.{nat_tests}
 use Rattle.dj_names.specs.declared.descriptor.Desc.{Desc}
 use Rattle.dj_names.specs.declared.descriptor.Ty.{Ty}
 use Rattle.dj_names.specs.declared.run.Value.{Value}
@@ -43,7 +42,7 @@ use Rattle.dj_model.specs.trusted.Step.{StepAnswer, Went, Ended, catches, handle
 use Rattle.dj_model.specs.Runs.{starts_handler}
 use Rattle.dj_model.proofs.MappedNames as names
 use Rattle.dj_model.proofs.NameMaps.{sandbox_map, accounter_apart, prefix_at, prefix_statics}
-use Rattle.dj_groups.specs.Groups.{Group, Inserted, Own, own_of, group_at, groups_from, groups_of, group_of, start, own, pieces, regrouped}
+use Rattle.dj_groups.specs.Groups.{Group, own_of, group_at, groups_from, groups_of, group_of, start, own, pieces}
 use Rattle.dj_groups.specs.Rewritten.{inserted_instruction, own_instruction, range_pieces, in_groups, rewritten_code, rewritten}
 use Rattle.dj_groups.specs.Laws.{is_in}
 use Rattle.dj_groups.proofs.GroupLaws.{start_zero}

@@ -1,6 +1,5 @@
 -- The effect of an instruction in rewritten code: the same, at other places and under other names.
 use Rattle.std.proofs.Common.{◌≡◌, ℕ, Bool, true, false, ℤ, pos, List, [], ◌∷◌, map, Option, Some, None, nat_eq, refl, ap, subst, ◌∙◌, if◌then◌else◌}
-use Rattle.std.specs.Prelude.{⊤}
 use Rattle.std.specs.Option.{option_map}
 use Rattle.std.proofs.lemmas.Option.{none-some}
 use Rattle.dj_names.specs.declared.run.Value.{Value}

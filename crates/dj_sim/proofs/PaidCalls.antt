@@ -14,7 +14,7 @@ use Rattle.dj_names.specs.trusted.Values.{element_size}
 use Rattle.dj_names.specs.Library.{accounter_class}
 use Rattle.dj_names.specs.Types.{sandbox_prefix}
 use Rattle.dj_model.specs.trusted.Types.{Declared, object_name, is_stop}
-use Rattle.dj_model.specs.trusted.Instructions.{Instruction, Move, Dup}
+use Rattle.dj_model.specs.trusted.Instructions.{Instruction}
 use Rattle.dj_model.specs.trusted.Linking.{most_classes, chain_of, resolve_method}
 use Rattle.dj_model.specs.trusted.Program.{Program, code_of}
 use Rattle.dj_model.specs.trusted.State.{Account, Part, Next, Goes, Frame, State, instruction_in, goes}

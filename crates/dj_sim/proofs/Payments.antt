@@ -15,7 +15,6 @@ use Rattle.dj_names.specs.Library.{accounter_class}
 use Rattle.dj_names.specs.Types.{in_sandbox, sandbox_prefix, type_map}
 use Rattle.dj_model.specs.trusted.Types.{Declared, object_name, is_stop}
 use Rattle.dj_model.specs.Types.{declared_map}
-use Rattle.dj_model.specs.trusted.Instructions.{Instruction}
 use Rattle.dj_model.specs.trusted.Program.{Program, Code, code_of}
 use Rattle.dj_model.specs.trusted.Linking.{chain}
 use Rattle.dj_model.specs.trusted.State.{Account, Frame, State, instruction_in}

@@ -1,14 +1,14 @@
 -- Where the instructions of groups are, and which of them a range covers.
-use Rattle.std.proofs.Common.{◌≡◌, ℕ, zero, suc, ◌+◌, ◌-◌, ◌<◌, ◌≤◌, ◌&&◌, ◌||◌, not, Bool, true, false, List, [], ◌∷◌, ◌++◌, length, map, filter, Option, Some, None, nat_le, nat_lt, slice_get, refl, sym, ap, ◌∙◌, inl, inr, arith}
+use Rattle.std.proofs.Common.{◌≡◌, ℕ, zero, suc, ◌+◌, ◌-◌, ◌<◌, ◌≤◌, ◌&&◌, ◌||◌, not, Bool, true, false, List, [], ◌∷◌, ◌++◌, length, map, Some, None, nat_le, nat_lt, slice_get, refl, sym, ap, ◌∙◌, inl, inr, arith}
 use Rattle.std.specs.Option.{option_map}
 use Rattle.std.specs.List.{list_any}
 use Rattle.std.proofs.lemmas.List.{length-map}
 use Rattle.std.proofs.lemmas.Bool.Decides.{nat_tests}
-use Rattle.dj_groups.specs.Groups.{Inserted, Own, Group, inserted, group_at, plain_group, start, own, cut, is_some_range, pieces, spelled, regrouped}
+use Rattle.dj_groups.specs.Groups.{Inserted, Own, Group, inserted, group_at, plain_group, start, own, cut, pieces, spelled, regrouped}
 use Rattle.dj_groups.specs.Rewritten.{inserted_instruction}
-use Rattle.dj_groups.specs.Laws.{is_in, keeps}
+use Rattle.dj_groups.specs.Laws.{is_in}
 use Rattle.dj_sim.specs.Simulation.{part_at}
-use Rattle.dj_groups.proofs.GroupLaws.{start_next, own_next, at_group, in_pieces, rises_to}
+use Rattle.dj_groups.proofs.GroupLaws.{own_next, at_group, in_pieces, rises_to}
 use Rattle.dj_groups.proofs.WellFormed.{length_regrouped}
 pub use Rattle.dj_groups.proofs.GroupLaws.{either}
 

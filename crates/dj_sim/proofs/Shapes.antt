@@ -15,7 +15,6 @@ use Rattle.std.proofs.lemmas.List.Sums.{sum_by-cons}
 use Rattle.dj_names.specs.trusted.Types.{field_kind}
 use Rattle.dj_names.specs.Types.{in_sandbox, sandbox_prefix, type_map, desc_map}
 use Rattle.dj_model.specs.trusted.Instructions.{Instruction, Nop, Push, PushText, Load, Store, Increment, LoadElement, StoreElement, Move, Compute, Convert, Branch, Goto, Switch, Return, GetStatic, PutStatic, GetField, PutField, Invoke, New, NewArray, ArrayLength, Throw, CheckCast, InstanceOf, Monitor, Other, Mode, Static, Interface, Virtual, Special, Pop}
-use Rattle.dj_model.specs.Instructions.{instruction_map}
 use Rattle.dj_model.specs.trusted.Program.{Code}
 use Rattle.dj_model.specs.trusted.Numbers.{is_wide, left_kind, right_kind, given_kind, taken_kind, converted_kind, tested_kinds}
 use Rattle.dj_names.specs.trusted.Values.{value_kind}

@@ -6,14 +6,12 @@ use Rattle.dj_names.specs.trusted.Types.{Name}
 use Rattle.dj_names.specs.declared.run.Thresholds.{Thresholds}
 use Rattle.dj_names.specs.Types.{in_sandbox, sandbox_prefix}
 use Rattle.dj_model.specs.trusted.Instructions.{Instruction, Nop, Branch, Goto, Switch, GetStatic, Monitor}
-use Rattle.dj_model.specs.Instructions.{instruction_map}
 use Rattle.dj_model.specs.trusted.Program.{Program, code_of}
 use Rattle.dj_model.specs.trusted.State.{Frame, State, instruction_at, Effect}
 use Rattle.dj_model.specs.trusted.Types.{Declared}
 use Rattle.dj_model.specs.trusted.Effects.{effect, used_class}
 use Rattle.dj_model.specs.trusted.Initialisation.{Initialised, Ready, Waits, Fails, initialise}
 use Rattle.dj_model.specs.trusted.Step.{part_of, with_part, frame_with, settled, prepared, done, act, step_of, step}
-use Rattle.dj_model.specs.Mapping.{outcome_map}
 use Rattle.dj_model.specs.Runs.{metered_terms}
 use Rattle.dj_model.proofs.MappedEffects as effects
 use Rattle.dj_model.proofs.NameMaps.{sandbox_map}

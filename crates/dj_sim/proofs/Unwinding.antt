@@ -1,7 +1,6 @@
 -- The object that stops a run leaves all frames of rewritten code, in at most two steps a frame.
-use Rattle.std.proofs.Common.{◌≡◌, ℕ, zero, suc, ◌+◌, ◌-◌, ◌*◌, ◌<◌, ◌≤◌, ◌&&◌, ◌||◌, Bool, true, false, List, [], ◌∷◌, ◌++◌, map, length, Option, Some, None, nat_eq, slice_get, refl, sym, ap, ◌∙◌, if◌then◌else◌, inl, inr, arith}
-use Rattle.std.specs.Prelude.{⊤}
-use Rattle.std.specs.List.{flat_map, list_any}
+use Rattle.std.proofs.Common.{◌≡◌, ℕ, suc, ◌+◌, ◌*◌, ◌<◌, ◌≤◌, ◌&&◌, ◌||◌, Bool, true, false, List, [], ◌∷◌, map, length, Option, Some, None, nat_eq, slice_get, refl, sym, ap, ◌∙◌, if◌then◌else◌, inl, inr, arith}
+use Rattle.std.specs.List.{list_any}
 use Rattle.std.specs.Option.{option_map}
 use Rattle.std.proofs.lemmas.Option.{none-some}
 use Rattle.std.proofs.lemmas.Bool.Decides.{nat_tests}
@@ -18,7 +17,7 @@ use Rattle.dj_names.specs.Library.{accounter_class}
 use Rattle.dj_names.specs.Types.{in_sandbox, sandbox_prefix}
 use Rattle.dj_model.specs.trusted.Types.{Declared}
 use Rattle.dj_model.specs.Types.{declared_map}
-use Rattle.dj_model.specs.trusted.Instructions.{Instruction, Move, Dup}
+use Rattle.dj_model.specs.trusted.Instructions.{Instruction}
 use Rattle.dj_model.specs.trusted.Program.{Program, Code, Range, code_of, is_initialiser}
 use Rattle.dj_model.specs.trusted.Linking.{most_classes, chain_of, resolve_method, is_subtype, is_subclass}
 use Rattle.dj_model.specs.trusted.State.{Part, Next, Goes, Catch, Frame, State, instruction_in, goes}
