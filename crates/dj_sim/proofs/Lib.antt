@@ -12,3 +12,4 @@ pub mod Back
 pub mod Shapes
 pub mod Befores
 pub mod Bounded
+pub mod SoundTurns

@@ -36,7 +36,7 @@ something_within (x ∷ xs) (suc n) e = something_within xs n (omega (arith, e))
 -- ---- numbers
 
 -- past the end each group is of one instruction
-plain_past : (gs : List Group) (k : ℕ) → length gs ≤ k → group_at gs k ≡ plain_group
+pub plain_past : (gs : List Group) (k : ℕ) → length gs ≤ k → group_at gs k ≡ plain_group
 plain_past [] k e = refl
 plain_past (g ∷ gs) zero e = absurd (omega (arith, e))
 plain_past (g ∷ gs) (suc k) e = plain_past gs k (omega (arith, e))

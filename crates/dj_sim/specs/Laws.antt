@@ -1,5 +1,5 @@
 -- Laws of the two runs: the metered run of a program, and the plain run of the rewritten program.
-use Rattle.std.specs.Prelude.{◌≡◌, ℕ, ◌*◌, Bool, true, false, List, [], ◌∷◌, length, Some}
+use Rattle.std.specs.Prelude.{◌≡◌, ℕ, ◌*◌, ◌≤◌, Bool, true, false, List, [], ◌∷◌, length, Some}
 use Rattle.dj_names.specs.declared.run.Charge.{Charge}
 use Rattle.dj_names.specs.declared.run.Outcome.TheVariants as outcomes
 use Rattle.dj_names.specs.declared.run.Thresholds.{Thresholds}
@@ -16,10 +16,12 @@ use Rattle.dj_model.specs.trusted.Initialisation.{Ready, initialise}
 use Rattle.dj_model.specs.trusted.Step.{prepared, unwound, step}
 use Rattle.dj_model.specs.Charging.{charge_all}
 use Rattle.dj_model.specs.Runs.{amounts, metered_terms}
+use Rattle.dj_model.specs.Sound.{IsSound}
+use Rattle.dj_model.specs.Standing.{AsksNothing, AreStanding}
 use Rattle.dj_groups.specs.Groups.{groups_of}
 use Rattle.dj_groups.specs.Rewritten.{rewritten}
 use Rattle.dj_sim.specs.Paying.{Paying}
-use Rattle.dj_sim.specs.Simulation.{part_at, state_image, AreActing, HasObject, AreHandlersWithin, HasEffect, EndsWithin, AreOriginal, PaidImage, answer_image, initialised_image}
+use Rattle.dj_sim.specs.Simulation.{groups_in, part_at, state_image, AreActing, AreBelowObject, HasObject, AreHandlersWithin, HasEffect, EndsWithin, AreOriginal, PaidImage, answer_image, initialised_image}
 
 -- The rewritten program initialises the class of another name as the program initialises the class, on the same terms.
 abbrev pub Initialises : Type 0
@@ -46,3 +48,19 @@ abbrev pub Stops : Type 0
 Stops = (program : Program) → HasObject program → AreHandlersWithin program → (most : Thresholds) (frames : List (Frame Declared)) → AreOriginal frames
     → (r : State) (exception : ℕ) (charge : Charge) → r.account.exceeded ≡ Some charge → class_at_number r.heap exception ≡ class_type stop_class
     → EndsWithin (rewritten program) most (2 * length frames) (unwound (rewritten program) sandbox_prefix r (class_type stop_class) exception frames) (outcomes.Stopped charge) r.account.costs
+
+-- ---- sound programs
+
+-- In a sound program that asks nothing, each act of frames that have the kinds that shape says is one step of the rewritten program, on the same terms.
+abbrev pub SoundActs : Type 0
+SoundActs = (program : Program) → IsSound program [] → AsksNothing program → HasObject program → (most : Thresholds) (touched : Bool) (s : State) → AreStanding program s.frames → AreActing s.frames
+    → step (rewritten program) sandbox_prefix (metered_terms most) (state_image program touched s) ≡ answer_image program touched (step program [] (metered_terms most) s)
+
+-- In a sound program, what is inserted pays the charges of the top frame's next instruction, where each object's class is below Object. At most six instructions are inserted before one.
+pub record SoundPays : Type 0 where
+  pub pays : (program : Program) → IsSound program [] → HasObject program → (most : Thresholds) (touched : Bool) (s : State) (x : Frame Declared) (below : List (Frame Declared))
+      → s.frames ≡ x ∷ below → AreStanding program s.frames → x.paid ≡ false → AreBelowObject program s.heap.objects
+      → PaidImage program (rewritten program) most (length (part_at (groups_in program (code_of program x.method)) x.number)) touched s x below (charge_all most (amounts program [] s) s.account)
+  pub few : (program : Program) (code : Code) (number : ℕ) → length (part_at (groups_of program code) number) ≤ 6
+  -- so what laws on any program ask of handlers
+  pub handlers : (program : Program) → IsSound program [] → AreHandlersWithin program

@@ -1,4 +1,4 @@
-ghost use Rattle.dj_sim.specs.Laws.{Initialises, Acts, Pays, Stops};
+ghost use Rattle.dj_sim.specs.Laws.{Initialises, Acts, Pays, Stops, SoundActs, SoundPays};
 
 /// The rewritten program initialises a class as the program does.
 pub fn initialises()
@@ -18,4 +18,14 @@ pub fn pays()
 /// The object that stops a run leaves all frames.
 pub fn stops()
     ensures { Stops }
+{}
+
+/// In a sound program, frames that have the kinds that shape says meet what `act` asks.
+pub fn sound_act()
+    ensures { SoundActs }
+{}
+
+/// In a sound program, frames that have the kinds that shape says meet what `pays` asks.
+pub fn sound_pays()
+    ensures { SoundPays }
 {}
