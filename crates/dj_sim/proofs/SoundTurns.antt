@@ -144,8 +144,14 @@ few_inserted program code k = elim (either (nat_lt k (length code.instructions))
       let g : Group = group_of program (starts_handler (Some code) k) there.0 in
       let same : length (part_at (groups_of program code) k) ≡ length (map inserted_instruction (inserted g)) =
       ap (λ (h : Group). length (map inserted_instruction (inserted h))) (group_there program code k there.0 there.1) in
-      omega (arith, same, length-map (inserted g) inserted_instruction, length-append (arrival_parts (starts_handler (Some code) k)) (charge_of program there.0),
-      few_arrivals (starts_handler (Some code) k), few_charges program there.0)
+      omega (
+        arith,
+        same,
+        length-map (inserted g) inserted_instruction,
+        length-append (arrival_parts (starts_handler (Some code) k)) (charge_of program there.0),
+        few_arrivals (starts_handler (Some code) k),
+        few_charges program there.0,
+      )
 
 -- ---- the operands
 
