@@ -13,3 +13,4 @@ pub mod Shapes
 pub mod Befores
 pub mod Bounded
 pub mod SoundTurns
+pub mod Beginning

@@ -6,6 +6,7 @@ use Rattle.dj_names.specs.declared.run.Thresholds.{Thresholds}
 use Rattle.dj_names.specs.trusted.Types.{Name, class_type}
 use Rattle.dj_names.specs.trusted.Library.{stop_class}
 use Rattle.dj_names.specs.Types.{in_sandbox, sandbox_prefix}
+use Rattle.dj_edge.specs.declared.host.HostAnswer.{HostAnswer}
 use Rattle.dj_model.specs.trusted.Types.{Declared, object_name}
 use Rattle.dj_model.specs.trusted.Instructions.{Instruction}
 use Rattle.dj_model.specs.trusted.Program.{Program, Code, code_of}
@@ -14,6 +15,8 @@ use Rattle.dj_model.specs.trusted.Performing.{class_at_number, is_instance}
 use Rattle.dj_model.specs.trusted.Effects.{used_class}
 use Rattle.dj_model.specs.trusted.Initialisation.{Ready, initialise}
 use Rattle.dj_model.specs.trusted.Step.{prepared, unwound, step}
+use Rattle.dj_model.specs.trusted.Runs.{begin}
+use Rattle.dj_model.specs.Types.{declared_map}
 use Rattle.dj_model.specs.Charging.{charge_all}
 use Rattle.dj_model.specs.Runs.{amounts, metered_terms}
 use Rattle.dj_model.specs.Sound.{IsSound}
@@ -27,6 +30,11 @@ use Rattle.dj_sim.specs.Simulation.{groups_in, part_at, state_image, AreActing, 
 abbrev pub Initialises : Type 0
 Initialises = (program : Program) → HasObject program → (terms : Terms) (touched : Bool) (class : Name) (s : State)
     → initialise (rewritten program) sandbox_prefix terms (in_sandbox class) (state_image program touched s) ≡ initialised_image program touched (initialise program [] terms class s)
+
+-- So the runs begin alike, on the same terms.
+abbrev pub Begins : Type 0
+Begins = (program : Program) → HasObject program → (terms : Terms) (entry : Declared) (input : List ℕ) (answers : List HostAnswer)
+    → begin (rewritten program) sandbox_prefix terms (declared_map in_sandbox entry) input answers ≡ answer_image program false (begin program [] terms entry input answers)
 
 -- An instruction that is paid is one step of the rewritten program, on the same terms.
 abbrev pub Acts : Type 0

@@ -1,8 +1,13 @@
-ghost use Rattle.dj_sim.specs.Laws.{Initialises, Acts, Pays, Stops, SoundActs, SoundPays};
+ghost use Rattle.dj_sim.specs.Laws.{Initialises, Begins, Acts, Pays, Stops, SoundActs, SoundPays};
 
 /// The rewritten program initialises a class as the program does.
 pub fn initialises()
     ensures { Initialises }
+{}
+
+/// The plain run of the rewritten program begins as the metered run does.
+pub fn begins()
+    ensures { Begins }
 {}
 
 /// An instruction that is paid is one step of the rewritten program.
