@@ -14,3 +14,4 @@ pub mod Befores
 pub mod Bounded
 pub mod SoundTurns
 pub mod Beginning
+pub mod Waiting

@@ -7,7 +7,7 @@ use Rattle.dj_names.specs.trusted.Types.{Name, class_type}
 use Rattle.dj_names.specs.trusted.Library.{stop_class}
 use Rattle.dj_names.specs.Types.{in_sandbox, sandbox_prefix}
 use Rattle.dj_edge.specs.declared.host.HostAnswer.{HostAnswer}
-use Rattle.dj_model.specs.trusted.Types.{Declared, object_name}
+use Rattle.dj_model.specs.trusted.Types.{Prefix, Declared, object_name}
 use Rattle.dj_model.specs.trusted.Instructions.{Instruction}
 use Rattle.dj_model.specs.trusted.Program.{Program, Code, code_of}
 use Rattle.dj_model.specs.trusted.State.{Terms, Frame, State, instruction_at}
@@ -18,13 +18,14 @@ use Rattle.dj_model.specs.trusted.Step.{prepared, unwound, step}
 use Rattle.dj_model.specs.trusted.Runs.{begin}
 use Rattle.dj_model.specs.Types.{declared_map}
 use Rattle.dj_model.specs.Charging.{charge_all}
-use Rattle.dj_model.specs.Runs.{amounts, metered_terms}
+use Rattle.dj_model.specs.Runs.{amounts, metered_terms, turn}
 use Rattle.dj_model.specs.Sound.{IsSound}
 use Rattle.dj_model.specs.Standing.{AsksNothing, AreStanding}
 use Rattle.dj_groups.specs.Groups.{groups_of}
 use Rattle.dj_groups.specs.Rewritten.{rewritten}
 use Rattle.dj_sim.specs.Paying.{Paying}
-use Rattle.dj_sim.specs.Simulation.{groups_in, part_at, state_image, AreActing, AreBelowObject, HasObject, AreHandlersWithin, HasEffect, EndsWithin, AreOriginal, PaidImage, answer_image, initialised_image}
+use Rattle.dj_sim.specs.Waiting.{AnswerWaits, RunWaits}
+use Rattle.dj_sim.specs.Simulation.{groups_in, part_at, state_image, AreWaitingPaid, AreActing, AreBelowObject, HasObject, AreHandlersWithin, HasEffect, EndsWithin, AreOriginal, PaidImage, answer_image, initialised_image}
 
 -- The rewritten program initialises the class of another name as the program initialises the class, on the same terms.
 abbrev pub Initialises : Type 0
@@ -56,6 +57,12 @@ abbrev pub Stops : Type 0
 Stops = (program : Program) → HasObject program → AreHandlersWithin program → (most : Thresholds) (frames : List (Frame Declared)) → AreOriginal frames
     → (r : State) (exception : ℕ) (charge : Charge) → r.account.exceeded ≡ Some charge → class_at_number r.heap exception ≡ class_type stop_class
     → EndsWithin (rewritten program) most (2 * length frames) (unwound (rewritten program) sandbox_prefix r (class_type stop_class) exception frames) (outcomes.Stopped charge) r.account.costs
+
+-- Each frame that waits for one that isn't an initialiser's is paid when a metered run begins, and stays so.
+pub record KeepsWaiting : Type 0 where
+  pub begins : (program : Program) (prefix : Prefix) (terms : Terms) (entry : Declared) (input : List ℕ) (answers : List HostAnswer) → AnswerWaits (begin program prefix terms entry input answers)
+  pub steps : (program : Program) (prefix : Prefix) (terms : Terms) (s : State) → AreActing s.frames → AnswerWaits (step program prefix terms s)
+  pub turns : (program : Program) (most : Thresholds) (s : State) → AreWaitingPaid s.frames → RunWaits (turn program most s)
 
 -- ---- sound programs
 

@@ -1,4 +1,4 @@
-ghost use Rattle.dj_sim.specs.Laws.{Initialises, Begins, Acts, Pays, Stops, SoundActs, SoundPays};
+ghost use Rattle.dj_sim.specs.Laws.{Initialises, Begins, Acts, Pays, Stops, KeepsWaiting, SoundActs, SoundPays};
 
 /// The rewritten program initialises a class as the program does.
 pub fn initialises()
@@ -23,6 +23,11 @@ pub fn pays()
 /// The object that stops a run leaves all frames.
 pub fn stops()
     ensures { Stops }
+{}
+
+/// Each frame that waits for one that isn't an initialiser's stays paid.
+pub fn waiting_paid()
+    ensures { KeepsWaiting }
 {}
 
 /// In a sound program, frames that have the kinds that shape says meet what `act` asks.
