@@ -43,10 +43,10 @@ use Rattle.dj_model.specs.Runs.{starts_handler}
 use Rattle.dj_model.proofs.MappedNames as names
 use Rattle.dj_model.proofs.NameMaps.{sandbox_map, accounter_apart, prefix_at, prefix_statics}
 use Rattle.dj_groups.specs.Groups.{Group, own_of, group_at, groups_from, groups_of, group_of, start, own, pieces}
-use Rattle.dj_groups.specs.Rewritten.{inserted_instruction, own_instruction, range_pieces, in_groups, rewritten_code, rewritten}
+use Rattle.dj_groups.specs.Rewritten.{inserted_instruction, own_instruction, range_pieces, in_groups, rewritten_code}
 use Rattle.dj_groups.specs.Laws.{is_in}
 use Rattle.dj_groups.proofs.GroupLaws.{start_zero}
-use Rattle.dj_sim.specs.Simulation.{groups_in, part_at, place_in, frame_image, state_image, AreWaitingPaid, AreActing, answer_image, way_at, flow_image}
+use Rattle.dj_sim.specs.Simulation.{groups_in, part_at, place_in, frame_image, state_image, AreWaitingPaid, AreActing, answer_image}
 use Rattle.dj_sim.proofs.Places.{either, own_at, inserted_at, next_start, are_over, pieces_over_own}
 
 -- ---- rewritten code
@@ -70,13 +70,23 @@ ranges_of gs ranges = flat_map (range_pieces gs) (map (range_map in_sandbox) ran
 abbrev pub front : List Class
 front = library_class (below_object accounter_class accounter_methods) ∷ library_class (below_object stop_class []) ∷ []
 
+-- ---- where an effect goes on
+
+abbrev pub way_at : (ℕ → ℕ) → Way → Way
+way_at place (To number) = To (place number)
+way_at place way = way
+
+-- the same with targets at other places, and with the other names
+abbrev pub flow_image : (ℕ → ℕ) → Flow → Flow
+flow_image place (Goes way) = Goes (way_at place way)
+flow_image place (Catch exception) = Catch exception
+flow_image place Stop = Stop
+flow_image place (Call m arguments) = Call (declared_map in_sandbox m) arguments
+flow_image place (End outcome) = End outcome
+
 module _ (program : Program) where
   abbrev pub other : Program
   other = front ++ program_map in_sandbox (rewritten_code program) program
-
-  pub is_other : rewritten program ≡ other
-  unfolding rewritten
-  is_other = refl
 
   pub at : (name : Name) → class_at other (in_sandbox name) ≡ option_map (class_map in_sandbox (rewritten_code program)) (class_at program name)
   at name = prefix_at in_sandbox front (program_map in_sandbox (rewritten_code program) program) accounter_apart name
@@ -99,7 +109,7 @@ module _ (program : Program) where
   unfolding groups_of
   as_many_groups code = as_many (starts_handler (Some code)) 0 code.instructions
 
-  pub mapped_length : (code : Code) → length (groups_of program code) ≡ length (map (instruction_map in_sandbox) code.instructions)
+  mapped_length : (code : Code) → length (groups_of program code) ≡ length (map (instruction_map in_sandbox) code.instructions)
   mapped_length code = as_many_groups code ∙ sym (length-map code.instructions (instruction_map in_sandbox))
 
   group_from : (arrives : ℕ → Bool) (number : ℕ) (is : List Instruction) (k : ℕ) (i : Instruction) → slice_get is k ≡ Some i

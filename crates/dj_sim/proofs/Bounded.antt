@@ -10,7 +10,7 @@ use Rattle.dj_model.specs.trusted.Program.{Program, code_of, is_initialiser, has
 use Rattle.dj_model.specs.trusted.State.{Frame, State}
 use Rattle.dj_model.specs.trusted.Initialisation.{new_frame, is_initialised, mark}
 use Rattle.dj_model.specs.trusted.Step.{StepAnswer, Went, Ended, IllFormed, handler_of, at_handler, unwound, at_number, resumed}
-use Rattle.dj_sim.specs.Bounds.{code_length, left_in, is_pending, way, weight, spent, begun, arrived}
+use Rattle.dj_sim.proofs.Bounds.{code_length, left_in, is_pending, way, weight, spent, begun, arrived}
 use Rattle.dj_sim.proofs.Places.{either}
 
 module _ (program : Program) (short : (m : Declared) → code_length (code_of program m) < way) where

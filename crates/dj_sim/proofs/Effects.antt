@@ -18,8 +18,8 @@ use Rattle.dj_model.specs.Standing.{IsAmong}
 use Rattle.dj_model.proofs.MappedEffects as effects
 use Rattle.dj_model.proofs.NameMaps.{sandbox_map}
 use Rattle.dj_groups.specs.Rewritten.{rewritten_code}
-use Rattle.dj_sim.specs.Simulation.{JumpsAmong, way_at, flow_image}
-use Rattle.dj_sim.proofs.Acts.{moved_to, other, at, statics}
+use Rattle.dj_sim.specs.Simulation.{JumpsAmong}
+use Rattle.dj_sim.proofs.Acts.{moved_to, way_at, flow_image, other, at, statics}
 
 module _ (program : Program) (place : ℕ → ℕ) (terms : Terms) where
   abbrev pub effect_image : Effect → Effect

@@ -11,6 +11,7 @@ pub mod Counting
 pub mod Back
 pub mod Shapes
 pub mod Befores
+pub mod Bounds
 pub mod Bounded
 pub mod SoundTurns
 pub mod Beginning

@@ -24,14 +24,14 @@ use Rattle.dj_model.specs.trusted.Performing.{class_in, class_at_number, is_inst
 use Rattle.dj_model.specs.trusted.Initialisation.{is_initialised, mark, mark_all, not_initialised}
 use Rattle.dj_model.specs.trusted.Step.{Went, new_stop, stop_from, throw_stop_or}
 use Rattle.dj_model.specs.trusted.Runs.{Going, from_start, steps}
-use Rattle.dj_model.specs.Runs.{amounts, starts_handler}
+use Rattle.dj_model.specs.Runs.{amounts}
 use Rattle.dj_model.proofs.MappedHeaps.{class_of_mapped}
 use Rattle.dj_model.proofs.MappedMembers as members
 use Rattle.dj_model.proofs.NameMaps.{sandbox_map}
 use Rattle.dj_groups.specs.Groups.{Group, groups_of, start, own}
 use Rattle.dj_groups.specs.Rewritten.{in_groups, rewritten_code}
 use Rattle.dj_sim.specs.Paying.{Paying}
-use Rattle.dj_sim.specs.Simulation.{HasObject, AreOriginal, PaidImage, part_at, plain_terms, EndsWithin, flags_image, groups_in, place_in, frame_image, state_image}
+use Rattle.dj_sim.specs.Simulation.{HasObject, AreHandlersWithin, AreOriginal, PaidImage, part_at, plain_terms, EndsWithin, flags_image, groups_in, place_in, frame_image, state_image}
 use Rattle.dj_sim.proofs.Places.{past, own_is}
 use Rattle.dj_sim.proofs.Acts.{other, at, statics, code_image, frames_image, part_there}
 use Rattle.dj_sim.proofs.Ready.{two, flags_after, ready}
@@ -50,7 +50,7 @@ mark_set (c ∷ classes) class (flag ∷ flags) e = go (same_name c.name class) 
   go false e more = ap (λ rest. flag ∷ rest) (more e)
 
 module _ (program : Program) (base : HasObject program) (most : Thresholds)
-    (handled : (m : Declared) (code : Code) (k : ℕ) → code_of program m ≡ Some code → starts_handler (Some code) k ≡ true → k < length code.instructions) where
+    (handled : AreHandlersWithin program) where
   -- ---- flags
 
   after_image : (touched : Bool) (flags : List Bool)

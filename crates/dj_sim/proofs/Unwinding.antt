@@ -34,7 +34,7 @@ use Rattle.dj_model.specs.Program.{range_map}
 use Rattle.dj_groups.specs.Groups.{Group, charge_of, group_of, groups_of, start, inserted, group_at, own, pieces}
 use Rattle.dj_groups.specs.Rewritten.{inserted_instruction, in_groups, rewritten_code}
 use Rattle.dj_sim.specs.Paying.{copy, check_catch, record_throw}
-use Rattle.dj_sim.specs.Simulation.{part_at, plain_terms, EndsWithin, AreOriginal}
+use Rattle.dj_sim.specs.Simulation.{AreHandlersWithin, part_at, plain_terms, EndsWithin, AreOriginal}
 use Rattle.dj_sim.proofs.Places.{either, something_within, own_is, are_over, pieces_not_over}
 use Rattle.dj_sim.proofs.Acts.{other, code_image, ranges_of, in_range_pieces, group_there, part_there}
 use Rattle.dj_model.specs.Instructions.{named_map}
@@ -55,7 +55,7 @@ module _ (program : Program) (most : Thresholds)
     -- the accounter and Object are initialised, or have nothing to initialise: proved apart
     (flags : State → List Bool)
     -- handlers are instructions, as in every sound program
-    (handled : (m : Declared) (code : Code) (k : ℕ) → code_of program m ≡ Some code → starts_handler (Some code) k ≡ true → k < length code.instructions)
+    (handled : AreHandlersWithin program)
     (ready : (r : State) → initialise (other program) sandbox_prefix (plain_terms most) accounter_class r ≡ Ready (record r { initialised = flags r })) where
   -- ---- the handlers of rewritten code
 

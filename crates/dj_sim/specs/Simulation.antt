@@ -14,7 +14,7 @@ use Rattle.dj_model.specs.Types.{declared_map}
 use Rattle.dj_model.specs.trusted.Instructions.{Instruction, targets}
 use Rattle.dj_model.specs.trusted.Program.{Program, Class, Code, class_at, code_of, is_initialiser, has_initialiser}
 use Rattle.dj_model.specs.trusted.Linking.{is_subtype}
-use Rattle.dj_model.specs.trusted.State.{Terms, Accounted, Frame, State, Way, To, Flow, Goes, Catch, Stop, Call, End, Effect}
+use Rattle.dj_model.specs.trusted.State.{Terms, Accounted, Frame, State, To, Flow, Goes, Effect}
 use Rattle.dj_model.specs.trusted.Effects.{effect}
 use Rattle.dj_model.specs.trusted.Initialisation.{mark, Initialised, Ready, Waits, Fails}
 use Rattle.dj_model.specs.trusted.Step.{StepAnswer, Went, Ended, IllFormed, part_of}
@@ -145,15 +145,3 @@ abbrev pub initialised_image : Program → Bool → Initialised → Initialised
 initialised_image program touched (Ready s) = Ready (state_image program touched s)
 initialised_image program touched (Waits s) = Waits (state_image program touched s)
 initialised_image program touched (Fails outcome s) = Fails (outcome_map in_sandbox outcome) (state_image program touched s)
-
-abbrev pub way_at : (ℕ → ℕ) → Way → Way
-way_at place (To number) = To (place number)
-way_at place way = way
-
--- the same with targets at other places, and with the other names
-abbrev pub flow_image : (ℕ → ℕ) → Flow → Flow
-flow_image place (Goes way) = Goes (way_at place way)
-flow_image place (Catch exception) = Catch exception
-flow_image place Stop = Stop
-flow_image place (Call m arguments) = Call (declared_map in_sandbox m) arguments
-flow_image place (End outcome) = End outcome
