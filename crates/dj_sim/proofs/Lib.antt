@@ -16,3 +16,4 @@ pub mod Bounded
 pub mod SoundTurns
 pub mod Beginning
 pub mod Waiting
+mod Facts
