@@ -20,7 +20,7 @@ use Rattle.dj_model.specs.trusted.Types.{Declared, object_name, string_name, is_
 use Rattle.dj_model.specs.trusted.Instructions.{Instruction, New, NewArray}
 use Rattle.dj_model.specs.trusted.Program.{Program, Class, Field, Constant, Int, Long, Text as TextConstant, Unfit, class_at, fields_of, is_static, is_initialiser, code_of}
 use Rattle.dj_model.specs.trusted.Linking.{chain, static_place, interfaces_above, is_among, is_subclass, is_subtype}
-use Rattle.dj_model.specs.trusted.State.{Terms, Metered, Literal, Part, Frame, State, Next, To, Raise, Back, Flow, Goes, Catch, Stop, Call, End, Effect}
+use Rattle.dj_model.specs.trusted.State.{Terms, Metered, Literal, Part, Frame, State, Next, To, Raise, Back, Flow, Goes, Catch, Stop, Call, End, Effect, goes}
 use Rattle.dj_model.specs.trusted.Arrays.{OnHeap, make, make_elements, make_array, passes_limit}
 use Rattle.dj_model.specs.trusted.Charging.{Charged, Fine, Over, charge_one}
 use Rattle.dj_model.specs.trusted.Natives.{Answer, Returns, Raises, MakesText, KeepsText, MakesChars, SetsFields, SetsElements, Adds, Rethrows}
@@ -179,6 +179,10 @@ module _ (program : Program) (base : HasBase program) where
   raises_keep x None all = (all, tt)
   raises_keep x (Some raised) all = (all, tt)
 
+  rethrows_keep : (x : Part) (object : ℕ) (b : Bool) → AreBelow x.heap → Keeps (goes x (if b then Catch object else Goes Next))
+  rethrows_keep x object true all = (all, tt)
+  rethrows_keep x object false all = (all, tt)
+
   module _ (limit : Option ℕ) (most : Thresholds) where
     abbrev terms : Terms
     terms = terms_with limit (Metered most)
@@ -193,7 +197,7 @@ module _ (program : Program) (base : HasBase program) where
     performs x (SetsFields object vs) = λ all. (same_below x.heap.objects _ (fields_same x object vs) all, tt)
     performs x (SetsElements array contents raised) = λ all. raises_keep (set_elements x array contents) raised (same_below x.heap.objects _ (elements_same x array contents) all)
     performs x (Adds charge n) = λ all. adds_keep x (charge_one most x.account charge n) all
-    performs x (Rethrows object) = λ all. (all, either_way NotStopped (is_stop [] (class_at_number x.heap object)) _ _ tt tt)
+    performs x (Rethrows object) = λ all. rethrows_keep x object (is_stop [] (class_at_number x.heap object)) all
 
     literal_keeps : (heap : Heap Ty) (literals : List Literal) (units : List ℕ) → AreBelow heap → IfSome (with_literal limit [] heap literals units) (λ k. AreBelow k.heap)
     unfolding with_literal

@@ -28,7 +28,7 @@ use Rattle.dj_model.specs.trusted.Step.{StepAnswer, Went, Ended, IllFormed, hand
 use Rattle.dj_model.specs.trusted.Runs.{input_array, input_heap, empty_heap, start_state, begun, begin, Ran, Going, Finished, NoStep, one_more, then_steps, from_start, steps}
 use Rattle.dj_model.specs.Laws.{Grows, AnswerGrows}
 use Rattle.dj_model.proofs.Flows.{either_way}
-use Rattle.dj_model.proofs.Fits.{fields_fit}
+use Rattle.dj_model.proofs.Fits.{Fits, fields_fit}
 use Rattle.dj_model.proofs.EffectFits.{kept_fits, effect_fits}
 use Rattle.dj_model.proofs.StepFits.{steps_grow}
 use Rattle.dj_sim.specs.Counting.{terms_with}
@@ -204,7 +204,7 @@ module _ (program : Program) (prefix : Prefix) (limit : ℕ) (counting : Countin
   settled_above : (t : State) (f : Frame Declared) (below : List (Frame Declared)) (i : Instruction) → limit < t.heap.used
       → AnswerAbove limit (settled program prefix free t f below (effect program prefix free f.method.class i (part_of f t)))
   settled_above t f below i l = go (effect program prefix free f.method.class i (part_of f t)) (effect_fits program prefix free f.method.class i (part_of f t)) where
-    go : (e : Option Effect) → IfSome e _ → AnswerAbove limit (settled program prefix free t f below e)
+    go : (e : Option Effect) → IfSome e (Fits counting (part_of f t)) → AnswerAbove limit (settled program prefix free t f below e)
     go None k = tt
     go (Some e) k = settle_above (with_part t e.part) (frame_with f e.part) below e.flow (above_grown limit t.heap e.part.heap k.heap l)
 
@@ -440,11 +440,11 @@ module _ (program : Program) (prefix : Prefix) (limit : ℕ) (counting : Countin
   steps_above : (n : ℕ) (t : State) → limit < t.heap.used → RanAbove limit (steps program prefix free n t)
   unfolding steps
   steps_above zero t l = l
-  steps_above (suc n) t l = go (step program prefix free t) (grown_above t.heap (step program prefix free t) (steps_grow program prefix free t) l) where
-    go : (a : StepAnswer) → AnswerAbove limit a → RanAbove limit (then_steps (steps program prefix free n) a)
-    go (Went u) l = one_above (steps program prefix free n u) (steps_above n u l)
-    go (Ended outcome u) l = l
-    go IllFormed l = tt
+  steps_above (suc n) t l = go (step program prefix free t) (grown_above t.heap (step program prefix free t) (steps_grow program prefix free t) l) (λ u. steps_above n u) where
+    go : (a : StepAnswer) → AnswerAbove limit a → ((u : State) → limit < u.heap.used → RanAbove limit (steps program prefix free n u)) → RanAbove limit (then_steps (steps program prefix free n) a)
+    go (Went u) l more = one_above (steps program prefix free n u) (more u l)
+    go (Ended outcome u) l more = l
+    go IllFormed l more = tt
 
   then_limits : (n : ℕ) → ((t : State) → RanLimited limit (steps program prefix limited n t) (steps program prefix free n t)) → (a b : StepAnswer) → IsLimited limit a b
       → RanLimited limit (then_steps (steps program prefix limited n) a) (then_steps (steps program prefix free n) b)

@@ -14,7 +14,7 @@ use Rattle.dj_model.specs.trusted.Program.{Program, Code, code_of}
 use Rattle.dj_model.specs.trusted.State.{Frame, State}
 use Rattle.dj_model.specs.trusted.Charging.{Charged, Fine, Over, no_costs}
 use Rattle.dj_model.specs.trusted.Initialisation.{most_frames}
-use Rattle.dj_model.specs.trusted.Step.{StepAnswer, Went, Ended, IllFormed, step}
+use Rattle.dj_model.specs.trusted.Step.{StepAnswer, Went, Ended, IllFormed, stop_from, throw_stop_or, step}
 use Rattle.dj_model.specs.trusted.Runs.{Ran, Going, Finished, NoStep, Report, one_more, then_steps, from_start, steps, begin, report_of, taken_of, plain_run}
 use Rattle.dj_model.specs.Charging.{charge_all}
 use Rattle.dj_model.specs.Mapping.{outcome_map}
@@ -232,13 +232,14 @@ module _ (program : Program) (sound : IsSound program []) (base : HasBase progra
           let outcome_is : outcome_map in_sandbox outcome ≡ outcomes.Stopped th.charge = ap outcome_of both in
           let top : Frame Declared = record th.top { locals = th.locals; operands = th.operands } in
           let original : AreOriginal (th.top ∷ th.below) = subst AreOriginal th.frames (all_original program base.object (sound_pays.handlers program sound) most s.frames) in
-          let ends : EndsWithin (rewritten program) most (2 * suc (length th.below)) _ (outcomes.Stopped th.charge) th.end.account.costs =
+          let leaving : StepAnswer = throw_stop_or (rewritten program) sandbox_prefix (plain_terms most) (record th.end { frames = top ∷ th.below }) (stop_from sandbox_prefix 1 th.end.heap.objects) in
+          let ends : EndsWithin (rewritten program) most (2 * suc (length th.below)) leaving (outcomes.Stopped th.charge) th.end.account.costs =
           stop_leaves program base.object (sound_pays.handlers program sound) most th.end top th.below th.charge t.heap (ap (λ (u : State). u.heap) (sym end_is)) (original.0, original.1) th.exceeded in
           let deep : suc (length th.below) ≡ length s.frames = sym (ap length th.frames) ∙ length-map s.frames (frame_image program) in
           stops_after outcome t.account.costs (2 * suc (length th.below)) (omega (arith, deep, stands.few))
           (subst (λ (a : StepAnswer). EndsWithin (rewritten program) most (2 * suc (length th.below)) a (outcome_map in_sandbox outcome) t.account.costs) (sym (e ∙ th.thrown))
-          (subst (λ (o : Outcome). EndsWithin (rewritten program) most (2 * suc (length th.below)) _ o t.account.costs) (sym outcome_is)
-          (subst (λ (u : State). EndsWithin (rewritten program) most (2 * suc (length th.below)) _ (outcomes.Stopped th.charge) u.account.costs) (sym end_is) ends)))
+          (subst (λ (o : Outcome). EndsWithin (rewritten program) most (2 * suc (length th.below)) leaving o t.account.costs) (sym outcome_is)
+          (subst (λ (u : State). EndsWithin (rewritten program) most (2 * suc (length th.below)) leaving (outcomes.Stopped th.charge) u.account.costs) (sym end_is) ends)))
 
       acted : (a : StepAnswer) → RunGood (answer_run a) → step (rewritten program) sandbox_prefix (metered_terms most) image ≡ answer_image program touched a → After (suc n) (done + 1) (answer_run a)
       acted a good e = by a good e (counts.steps (rewritten program) sandbox_prefix None most image) where
