@@ -1,6 +1,6 @@
 -- The class of each object of a metered run is below Object.
 use Rattle.std.proofs.Common.{◌≡◌, ℕ, ◌+◌, Bool, true, false, ℤ, pos, negsuc, List, [], ◌∷◌, ◌++◌, map, length, replicate, reverse, Option, Some, None, nat_eq, nat_le, nat_lt, refl, sym, subst, inl, inr, arith, if◌then◌else◌}
-use Rattle.std.specs.Prelude.{⊤, IfSome, IsSome, not}
+use Rattle.std.specs.Prelude.{⊤, IfSome, IsSome, not, ◌&&◌}
 use Rattle.std.specs.Option.{option_map}
 use Rattle.std.proofs.lemmas.Bool.Decides.{nat_tests}
 use Rattle.dj_names.specs.declared.descriptor.Of.{Of}
@@ -19,7 +19,7 @@ use Rattle.dj_edge.specs.declared.host.HostAnswer.{HostAnswer}
 use Rattle.dj_model.specs.trusted.Types.{Declared, object_name, string_name, is_stop}
 use Rattle.dj_model.specs.trusted.Instructions.{Instruction, New, NewArray}
 use Rattle.dj_model.specs.trusted.Program.{Program, Class, Field, Constant, Int, Long, Text as TextConstant, Unfit, class_at, fields_of, is_static, is_initialiser, code_of}
-use Rattle.dj_model.specs.trusted.Linking.{chain, static_place, interfaces_above, is_among, is_subclass, is_subtype}
+use Rattle.dj_model.specs.trusted.Linking.{chain, static_place, interfaces_above, is_among, is_subclass, is_subtype, member_class}
 use Rattle.dj_model.specs.trusted.State.{Terms, Metered, Literal, Part, Frame, State, Next, To, Raise, Back, Flow, Goes, Catch, Stop, Call, End, Effect, goes}
 use Rattle.dj_model.specs.trusted.Arrays.{OnHeap, make, make_elements, make_array, passes_limit}
 use Rattle.dj_model.specs.trusted.Charging.{Charged, Fine, Over, charge_one}
@@ -232,13 +232,14 @@ module _ (program : Program) (base : HasBase program) where
     makes : (i : Instruction) (x : Part) → is_linked program [] i ≡ true → Makes program [] terms terms Related mild_keeps performs texts i x
     unfolding is_linked
     makes (New class) x linked = λ all.
-        let there = both_parts (is_class_of program class) _ linked in
-        let zero_dims = both_parts (nat_eq class.dims 0) _ there.1 in
-        make_keeps x (new_object program [] class) (new_below class there.0 zero_dims.0) all
+        let plain = both_parts (is_class_of program class && nat_eq class.dims 0 && not (same_name (member_class [] class) (string_name []))) (not (is_stop [] class)) linked in
+        let there = both_parts (is_class_of program class && nat_eq class.dims 0) (not (same_name (member_class [] class) (string_name []))) plain.0 in
+        let class_is = both_parts (is_class_of program class) (nat_eq class.dims 0) there.0 in
+        make_keeps x (new_object program [] class) (new_below class class_is.0 class_is.1) all
     makes (NewArray class element) x linked = λ all.
-        let there = both_parts (is_class_of program class) _ linked in
-        let dims = both_parts (not (nat_eq class.dims 0)) _ there.1 in
-        array_keeps x class element x.operands (array_below program class dims.0) all
+        let there = both_parts (is_class_of program class && not (nat_eq class.dims 0)) (nat_lt class.dims 256) linked in
+        let dims = both_parts (is_class_of program class) (not (nat_eq class.dims 0)) there.0 in
+        array_keeps x class element x.operands (array_below program class dims.1) all
     makes i x linked = tt
 
     effect_keeps : (own : Name) (i : Instruction) (x : Part) → is_linked program [] i ≡ true → AreBelow x.heap → KeepsSome (effect program [] terms own i x)
