@@ -21,19 +21,19 @@ use Rattle.dj_model.specs.trusted.Instructions.{Instruction, Push, NewArray, Mov
 use Rattle.dj_model.specs.trusted.Program.{Program, code_of, initialiser_of}
 use Rattle.dj_model.specs.trusted.Linking.{most_classes, chain_of, interfaces_above, interfaces_from, is_subclass, is_subtype}
 use Rattle.dj_model.specs.trusted.State.{Frame, State, To, Goes}
-use Rattle.dj_model.specs.trusted.Charging.{new_account}
+use Rattle.dj_model.specs.trusted.Charging.{Fine, new_account}
 use Rattle.dj_model.specs.trusted.Effects.{effect}
 use Rattle.dj_model.specs.trusted.Initialisation.{mark, Fails}
 use Rattle.dj_model.specs.trusted.Step.{Went, Ended}
-use Rattle.dj_model.specs.trusted.Runs.{Going, Finished, steps}
+use Rattle.dj_model.specs.trusted.Runs.{Ran, Going, Finished, NoStep, steps}
 use Rattle.dj_model.specs.Charging.{Amount}
 use Rattle.dj_model.specs.Effects.{one_jump, bytes}
 use Rattle.dj_model.specs.Libraries.{metered_program}
 use Rattle.dj_model.specs.Runs.{Underway}
-use Rattle.dj_model.specs.SmallRuns.{entry, verify_of, verify_with, catch_all, class_with, a_with, lang_name, usual}
+use Rattle.dj_model.specs.SmallRuns.{entry, verify_of, verify_with, catch_all, class_with, a_with, lang_name, costs, usual}
 use Rattle.dj_groups.specs.Groups.{Group, groups_of, start}
 use Rattle.dj_sim.specs.Paying.{copy, push_element, record_jump, record_array, record_throw, check_catch, Paying, none, arrived, jump as pays_jump, invocation, array, throw, allocation}
-use Rattle.dj_sim.specs.Simulation.{groups_in, part_at, place_in, frame_image, flags_image, state_image, AreWaitingPaid, AreActing, AreBelowObject, AreHandlersWithin, JumpsAmong, HasEffect, EndsWithin, AreOriginal, answer_image, initialised_image}
+use Rattle.dj_sim.specs.Simulation.{groups_in, part_at, place_in, frame_image, flags_image, state_image, AreWaitingPaid, AreActing, AreBelowObject, AreHandlersWithin, JumpsAmong, HasEffect, EndsWithin, AreOriginal, PaidImage, answer_image, initialised_image}
 use Rattle.dj_sim.specs.Waiting.{AnswerWaits, RunWaits}
 
 -- iconst_1, newarray byte, pop, goto 0; the pop is the handler of the two before it
@@ -205,6 +205,16 @@ ends_later s outcome c (zero, l, t, e, same) = absurd (let no : Going s ≡ Fini
 ends_later s outcome c (suc n, l, t, e, same) = absurd (omega (arith, l))
 
 -- ---- payments
+
+jumps_in : Ran → ℕ
+jumps_in (Going s) = s.account.costs.jump
+jumps_in (Finished outcome s n) = 0
+jumps_in NoStep = 0
+
+-- a charge isn't added in no steps
+paid_later : PaidImage loops loops usual 0 true (state_with (frame_at 3 false ∷ [])) (frame_at 3 false) [] (Fine (record { costs = costs 0 0 1 0; exceeded = None })) → ⊥
+unfolding steps jumps_in
+paid_later (now, e) = absurd (let no : 0 ≡ 1 = ap jumps_in e in omega (arith, no))
 
 pays_array : Paying (copy ∷ push_element elements.Byte ∷ record_array ∷ []) (values.Int (pos 3) ∷ []) (bytes 24)
 pays_array = array elements.Byte (pos 3) [] [] [] (none (values.Int (pos 3) ∷ []))

@@ -263,8 +263,7 @@ module _ (program : Program) (sound : IsSound program []) (base : HasBase progra
 
       pays_to : (k : ℕ) → k ≤ 6 → (c : Charged) → RunGood (paid_run s c) → PaidImage program (rewritten program) most k touched s x below c → After (suc n) (done + 0) (paid_run s c)
       pays_to k few (Fine account) good (now, goes) =
-          let one : one_if (top_is_paid (with_paid s.frames)) ≡ 1 = ap one_if paid_top in
-          (
+          let one : one_if (top_is_paid (with_paid s.frames)) ≡ 1 = ap one_if paid_top in (
             now,
             j + k,
             omega (arith, turned, one),
@@ -274,8 +273,7 @@ module _ (program : Program) (sound : IsSound program []) (base : HasBase progra
             good,
           )
       pays_to k few (Over charge account) good (m, within, u, ends, same) =
-          let deep : length s.frames ≡ suc (length below) = ap length frames in
-          (
+          let deep : length s.frames ≡ suc (length below) = ap length frames in (
             j + m,
             omega (arith, stepped, few, within, deep, stands.few),
             u,
@@ -361,8 +359,8 @@ module _ (program : Program) (sound : IsSound program []) (base : HasBase progra
             let later : N k ≡ Finished (outcome_map in_sandbox outcome) t j = from_start_stays (rewritten program) sandbox_prefix (plain_terms most) j k begun l (subst IsOver (sym finished) tt) ∙ finished in
             let none : taken_of [] t ≡ 0 = omega arith in
             ap (report_of [] k) later
-                ∙ (ap (λ c. Some (record { outcome = outcome_map in_sandbox outcome; costs = c; steps = j; taken = taken_of [] t })) same
-                ∙ ap (λ m. Some (record { outcome = outcome_map in_sandbox outcome; costs = costs; steps = j; taken = m })) none),
+            ∙ (ap (λ c. Some (record { outcome = outcome_map in_sandbox outcome; costs = c; steps = j; taken = taken_of [] t })) same
+            ∙ ap (λ m. Some (record { outcome = outcome_map in_sandbox outcome; costs = costs; steps = j; taken = m })) none),
       )
 
     weaker : (n done : ℕ) (r : Run) → RunFollows program most entry input n done r → back.Follows (rewritten program) sandbox_prefix (plain_terms most) begun (metered_run program entry input most) n r
@@ -381,8 +379,7 @@ module _ (program : Program) (sound : IsSound program []) (base : HasBase progra
           absurd (subst IsNotSpent (sym (ap (λ (r : Report). r.outcome) same)) unspent)
       go (Finished outcome s m) at e =
           let same : record { outcome = outcome; costs = s.account.costs; steps = m; taken = taken_of [] s } ≡ report = cc in
-          let found = back.back (rewritten program) sandbox_prefix (plain_terms most) begun (metered_run program entry input most) (λ n. weaker n (acts program entry input most n) (metered_run program entry input most n) (all n)) k m outcome s at in
-          (
+          let found = back.back (rewritten program) sandbox_prefix (plain_terms most) begun (metered_run program entry input most) (λ n. weaker n (acts program entry input most n) (metered_run program entry input most n) (all n)) k m outcome s at in (
             found.1,
             (found.0, found.2 ∙ ap (RunEnds found.1) (ap (λ (r : Report). r.costs) same)),
             found.3 ∙ ap (λ (r : Report). r.outcome) same,

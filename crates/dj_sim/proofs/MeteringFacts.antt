@@ -1,5 +1,5 @@
 -- Who counts, limits, classes below Object and whole runs, by plain values.
-use Rattle.std.proofs.Common.{◌≡◌, ℕ, true, List, [], ◌∷◌, map, Option, Some, None, codes, refl, inl, inr, arith}
+use Rattle.std.proofs.Common.{◌≡◌, ℕ, zero, true, false, List, [], ◌∷◌, map, Option, Some, None, codes, refl, inl, inr, arith}
 use Rattle.std.specs.Prelude.{IsSome}
 use Rattle.std.specs.List.{list_all}
 use Rattle.std.proofs.lemmas.Option.{none-some}
@@ -12,6 +12,8 @@ use Rattle.dj_names.specs.declared.run.Outcome.TheVariants as outcomes
 use Rattle.dj_names.specs.declared.run.Raised.{Raised}
 use Rattle.dj_names.specs.declared.run.Raised.TheVariants as raises
 use Rattle.dj_names.specs.declared.run.Thresholds.{Thresholds}
+use Rattle.dj_names.specs.trusted.Heaps.{Instance}
+use Rattle.dj_names.specs.trusted.Types.{class_type}
 use Rattle.dj_names.specs.trusted.Values.{raised_class}
 use Rattle.dj_names.specs.Types.{in_sandbox, sandbox_prefix}
 use Rattle.dj_model.specs.trusted.Types.{object_name}
@@ -30,7 +32,7 @@ use Rattle.dj_model.specs.trusted.State.{State, Uncounted}
 use Rattle.dj_model.specs.trusted.Effects.{effect, used_class}
 use Rattle.dj_model.specs.trusted.Initialisation.{is_initialised, mark, with_constants, constants_of, initialise}
 use Rattle.dj_model.specs.trusted.Step.{Went, Ended, IllFormed, unwound, settle, step}
-use Rattle.dj_model.specs.trusted.Runs.{Report, empty_heap, start_state, begin, steps, plain_run}
+use Rattle.dj_model.specs.trusted.Runs.{Report, Going, NoStep, empty_heap, start_state, begin, steps, plain_run}
 use Rattle.dj_model.specs.Charging.{charge_all}
 use Rattle.dj_model.specs.Effects.{pays}
 use Rattle.dj_model.specs.Libraries.{metered_program}
@@ -43,8 +45,8 @@ use Rattle.dj_groups.specs.Groups.{groups_of, start, cut}
 use Rattle.dj_groups.specs.Rewritten.{in_groups, rewritten_code, rewritten}
 use Rattle.dj_sim.specs.Simulation.{plain_terms}
 use Rattle.dj_sim.specs.Counting.{terms_with, IsThrown, CountsAs}
-use Rattle.dj_sim.specs.Limits.{IsFull, AnswerFull, AnswerAbove, IsLimited}
-use Rattle.dj_sim.specs.Objects.{HasBase}
+use Rattle.dj_sim.specs.Limits.{IsFull, AnswerFull, AnswerAbove, IsLimited, RanFull, RanAbove, RanLimited}
+use Rattle.dj_sim.specs.Objects.{HasBase, AnswerBelow, RunBelow}
 use Rattle.dj_sim.specs.Metering.{acts_from, acts, Stands, RunFollows, IsNotSpent, IsNotFull}
 use Rattle.dj_sim.proofs.Facts.{library_has_object}
 
@@ -82,7 +84,29 @@ not_limited : IsLimited 0 IllFormed (Went nothing_yet) → ⊥
 not_limited (inl e) = absurd cc
 not_limited (inr k) = k.0
 
+run_goes_full : RanFull 0 (Going nothing_yet) → ⊥
+run_goes_full k = k
+
+run_nothing_above : RanAbove 0 (Going nothing_yet) → ⊥
+run_nothing_above l = absurd (omega (arith, l))
+
+run_not_limited : RanLimited 0 NoStep (Going nothing_yet) → ⊥
+run_not_limited (inl e) = absurd cc
+run_not_limited (inr k) = k.0
+
 -- ---- classes below Object
+
+-- an object of a class that isn't there
+abbrev one_object : State
+one_object = record nothing_yet { heap = record { objects = Instance (class_type (codes "A")) [] ∷ []; used = 16 } }
+
+answer_elsewhere : AnswerBelow [] (Went one_object) → ⊥
+unfolding is_subtype is_subclass chain_of most_classes interfaces_above interfaces_from
+answer_elsewhere k = absurd (let no : false ≡ true = k.0 in cc)
+
+run_elsewhere : RunBelow [] (Underway one_object) → ⊥
+unfolding is_subtype is_subclass chain_of most_classes interfaces_above interfaces_from
+run_elsewhere k = absurd (let no : false ≡ true = k.0 in cc)
 
 all_below : list_all (λ (c : Class). is_among (chain (metered_program []) c.name) (object_name [])) (metered_program []) ≡ true
 unfolding metered_program chain_of most_classes
@@ -112,8 +136,12 @@ no_base : HasBase [] → ⊥
 no_base base = absurd (none-some base.object.object base.object.there)
 
 -- a class with nothing above it
-top_class : HasBase (record (class_with (codes "A") [] []) { superclass = None } ∷ []) → ⊥
-top_class base = absurd (none-some base.object.object base.object.there)
+abbrev lone_class : Class
+lone_class = record (class_with (codes "A") [] []) { superclass = None }
+
+lone_beside : HasBase (lone_class ∷ metered_program []) → ⊥
+unfolding metered_program chain_of most_classes
+lone_beside base = absurd (let no : false ≡ true = base.below lone_class (zero, omega arith, refl) in cc)
 
 -- ---- whole runs
 
