@@ -9,8 +9,6 @@ pub mod PaidCalls
 pub mod Payments
 pub mod Counting
 pub mod Back
-pub mod Shapes
-pub mod Befores
 pub mod Bounds
 pub mod Bounded
 pub mod SoundTurns
