@@ -17,7 +17,7 @@ use Rattle.dj_model.specs.Shape.{AllHold, HasShape}
 use Rattle.dj_model.specs.Runs.{starts_handler}
 use Rattle.dj_model.specs.Sound.{IsCode}
 use Rattle.dj_model.proofs.SoundLinks.{both_parts, later}
-use Rattle.dj_model.proofs.SoundFrames.{all_at, flow_stack}
+use Rattle.dj_model.proofs.SoundFrames.{all_at}
 use Rattle.dj_groups.specs.Groups.{Group, inserted, group_at, groups_of, start, own, pieces}
 use Rattle.dj_groups.specs.Rewritten.{inserted_instruction, own_instruction, range_pieces, in_groups, rewritten_code}
 use Rattle.dj_groups.specs.Laws.{is_in, keeps}
@@ -26,6 +26,7 @@ use Rattle.dj_groups.proofs.WellFormed.{length_regrouped, rises_strictly}
 use Rattle.dj_sim.specs.Simulation.{part_at}
 use Rattle.dj_sim.proofs.Places.{either, own_is, next_start, starts_follow}
 use Rattle.dj_sim.proofs.Acts.{regrouped_instruction, piece_of, ranges_of, as_many_groups, group_there, itself_at}
+use Rattle.dj_sim.proofs.SoundTurns.{handler_stack}
 use Rattle.dj_sim_sound.proofs.Lists.{or_right, first_or, not_or, implied, all_from, all_append, any_from, some_of_all, mapped_from}
 use Rattle.dj_sim_sound.proofs.Shapes.{after_more}
 use Rattle.dj_sim_sound.proofs.Befores.{at_start, same_start, placed_start, not_start, placed_inside, PassesAll, PassedAt, passed_at, ends_alike, targets_moved, stands_group, own_before, start_before}
@@ -75,23 +76,7 @@ piece_within gs from end k j p some within there over =
     let small : j < length (inserted g) + 1 = omega (arith, within, length-map (inserted g) inserted_instruction) in
     (both_parts (is_in k (from, end)) (keeps gs k j) (sym (in_pieces gs from end k j some small) ∙ any_from (is_in (start gs k + j)) (pieces gs from end) p there over)).0
 
--- ---- what is before an instruction with a frame
-
-handler_stack : (signature : Signature) (code : Code) (placed : List Placed) (n : ℕ) (before : Kinds) → is_handler_frame (placed_at placed n) ≡ true
-    → state_before signature code placed n ≡ Some before → before.stack ≡ kinds.Ref ∷ []
-unfolding state_before
-handler_stack signature code placed n before frame state = go (placed_at placed n) refl frame where
-  placed_is : (reported : Kinds) (m : ℕ) → placed_at placed m ≡ Some reported → state_before signature code placed m ≡ Some reported
-  placed_is reported zero e = rw e refl
-  placed_is reported (suc m) e = rw e refl
-
-  go : (o : Option Kinds) → placed_at placed n ≡ o → is_handler_frame o ≡ true → before.stack ≡ kinds.Ref ∷ []
-  go None e f = absurd (let no : false ≡ true = f in cc)
-  go (Some reported) e f =
-      let found : Some reported ≡ Some before = sym (placed_is reported n e) ∙ state in
-      let same : reported ≡ before = cc in
-      sym (ap (λ (k : Kinds). k.stack) same) ∙ flow_stack reported.stack (kinds.Ref ∷ []) f
-
+-- whether kinds flow into those of a frame depends on the local variables alone
 flow_alike : (a b : Kinds) (o : Option Kinds) → a.locals ≡ b.locals → locals_flow_to b o ≡ true → locals_flow_to a o ≡ true
 flow_alike a b None same e = refl
 flow_alike a b (Some reported) same e = rw same e
@@ -122,9 +107,11 @@ module _ (signature : Signature) (program : Program) (code : Code) (placed : Lis
   ranges_now test e = e
 
   arrived : (k : ℕ) (h : HoldsAt signature code placed k) → starts_handler (Some code) k ≡ true → (rest : List Kind) × (h.before.stack ≡ kinds.Ref ∷ rest)
-  arrived k h e =
-      ([], handler_stack signature code placed k h.before
-      (some_of_all (λ (range : Range). nat_eq k range.handler) (is_handler_frame (placed_at placed k)) code.ranges e h.handles) h.state)
+  arrived k h e = (
+    [],
+    handler_stack signature code placed k h.before
+        (some_of_all (λ (range : Range). nat_eq k range.handler) (is_handler_frame (placed_at placed k)) code.ranges e h.handles) h.state,
+  )
 
   part_passes : (k : ℕ) (b : Kinds) → k < length code.instructions → state_before signature code placed k ≡ Some b → PassesAll signature code_now (part_at gs k) b b
   unfolding rewritten_code in_groups

@@ -9,20 +9,13 @@ use Rattle.dj_model.specs.trusted.Instructions.{Instruction, Branch, Goto, Switc
 use Rattle.dj_model.specs.trusted.Program.{Program, Code}
 use Rattle.dj_model.specs.trusted.Values.{moved}
 use Rattle.dj_model.specs.trusted.Kinds.{Signature, Kinds, depth}
-use Rattle.dj_model.specs.trusted.Shape.{taken, leaving, with_result, after}
+use Rattle.dj_model.specs.trusted.Shape.{after}
 use Rattle.dj_groups.specs.Groups.{charge_of, inserted, group_of}
 use Rattle.dj_groups.specs.Rewritten.{inserted_instruction}
 use Rattle.dj_sim.specs.Paying.{copy, push_bytes, push_element, record_jump, record_invocation, record_throw, record_allocation, record_array, check_catch}
+use Rattle.dj_sim.proofs.SoundTurns.{taken_int}
 use Rattle.dj_sim_sound.proofs.Befores.{PassesAll, passes_both}
 use Rattle.dj_sim_sound.proofs.Fits.{Fits}
-
--- an int at the top where one is taken
-taken_int : (code : Code) (locals : List (Option Kind)) (stack : List Kind) (left : Kinds) → leaving code locals (with_result (Some kinds.Ref) (taken (kinds.Int ∷ []) stack)) ≡ Some left
-    → (below : List Kind) × (stack ≡ kinds.Int ∷ below)
-taken_int code locals [] left e = absurd (none-some left e)
-taken_int code locals (kinds.Int ∷ below) left e = (below, refl)
-taken_int code locals (kinds.Long ∷ below) left e = absurd (none-some left e)
-taken_int code locals (kinds.Ref ∷ below) left e = absurd (none-some left e)
 
 module _ (signature : Signature) (code now : Code) (room : now.max_stack ≡ code.max_stack + 2) where
   jump_passes : (b : Kinds) → Fits code b → PassesAll signature now (record_jump ∷ []) b b
@@ -101,7 +94,7 @@ module _ (signature : Signature) (code now : Code) (room : now.max_stack ≡ cod
   charge_passes program Throw b left fits e = throw_passes b fits
   charge_passes program (New class) b left fits e = allocation_passes _ b fits
   charge_passes program (NewArray class element) b left fits e =
-      let t = taken_int code b.locals b.stack left e in
+      let t = taken_int code b b.stack (Some kinds.Ref) left e in
       subst (λ (stack : List Kind). PassesAll signature now (copy ∷ push_element element ∷ record_array ∷ []) (record { locals = b.locals; stack = stack }) (record { locals = b.locals; stack = stack }))
       (sym t.1) (array_passes element b.locals t.0 (subst (λ (stack : List Kind). depth stack ≤ code.max_stack) t.1 fits))
   charge_passes program (Other op named) b left fits e = absurd (none-some left e)

@@ -7,3 +7,4 @@ pub mod Inserted
 pub mod Holds
 pub mod Codes
 pub mod Programs
+mod Facts

@@ -29,7 +29,7 @@ use Rattle.dj_sim_sound.proofs.Shapes.{signature_alike}
 use Rattle.dj_sim_sound.proofs.Holds.{shape_now}
 use Rattle.dj_sim_sound.proofs.Codes.{formed_now, static_kept, code_linked, code_caught}
 
-abbrev accounter : Class
+abbrev pub accounter : Class
 accounter = library_class (below_object accounter_class accounter_methods)
 
 abbrev stop : Class
