@@ -169,7 +169,7 @@ first_int (values.Long z ∷ rest) below e = absurd cc
 first_int (values.Ref x ∷ rest) below e = absurd cc
 
 -- where an int is taken there is one
-taken_int : (code : Code) (k : Kinds) (stack : List Kind) (result : Option Kind) (left : Kinds) → leaving code k.locals (with_result result (taken (kinds.Int ∷ []) stack)) ≡ Some left
+pub taken_int : (code : Code) (k : Kinds) (stack : List Kind) (result : Option Kind) (left : Kinds) → leaving code k.locals (with_result result (taken (kinds.Int ∷ []) stack)) ≡ Some left
     → (below : List Kind) × (stack ≡ kinds.Int ∷ below)
 taken_int code k [] None left e = absurd (none-some left e)
 taken_int code k [] (Some kind) left e = absurd (none-some left e)
@@ -199,7 +199,7 @@ any_handler (range ∷ ranges) k e = elim (either (nat_eq k range.handler)) [
   later (r, there, is) = (r, (suc there.0, omega (arith, there.1), there.2), is)
 
 -- before the first instruction of a handler there is one operand, a reference
-handler_stack : (signature : Signature) (code : Code) (placed : List Placed) (n : ℕ) (before : Kinds) → is_handler_frame (placed_at placed n) ≡ true
+pub handler_stack : (signature : Signature) (code : Code) (placed : List Placed) (n : ℕ) (before : Kinds) → is_handler_frame (placed_at placed n) ≡ true
     → state_before signature code placed n ≡ Some before → before.stack ≡ kinds.Ref ∷ []
 unfolding state_before
 handler_stack signature code placed n before frame state = go (placed_at placed n) refl frame where
