@@ -1,0 +1,9 @@
+pub mod ClassTexts
+pub mod NameLaws
+pub mod TextLaws
+pub mod PoolLaws
+pub mod Utf8
+pub mod Places
+pub mod Walking
+pub mod PoolTexts
+pub mod States

@@ -1,0 +1,4 @@
+pub mod Names
+pub mod Pools
+pub mod Refusals
+pub mod Renaming

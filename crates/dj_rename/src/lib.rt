@@ -1,0 +1,16 @@
+//! Class files' texts with `sandbox/` before each class's name, and pools of them.
+#![tactic(auto)]
+
+mod error;
+mod known;
+mod sought;
+mod spelled;
+mod text;
+mod texts;
+mod walk;
+mod wanted;
+
+pub use error::RenameError;
+pub use text::{plain_name, rename_desc, rename_name};
+pub use texts::Texts;
+pub use walk::rename_texts;
