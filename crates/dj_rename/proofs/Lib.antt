@@ -6,4 +6,9 @@ pub mod Utf8
 pub mod Places
 pub mod Walking
 pub mod PoolTexts
+pub mod Seeking
 pub mod States
+pub mod Appended
+pub mod Settled
+pub mod Halfway
+mod Facts

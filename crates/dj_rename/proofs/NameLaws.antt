@@ -11,7 +11,7 @@ use Rattle.dj_names.specs.trusted.Names.{IsClassName, IsUnqualifiedName, IsNameB
 use Rattle.dj_names.specs.trusted.Types.{Name, class_type, of_map}
 use Rattle.dj_names.specs.Types.{type_map, desc_map, in_sandbox, sandbox_prefix}
 use Rattle.dj_names.specs.trusted.DescReading.{desc_read}
-use Rattle.dj_names.specs.trusted.Descriptors.{NamesClass, IsType, IsDesc, Describes, IsArrayDescriptor, type_slots, type_text, desc_text}
+use Rattle.dj_names.specs.trusted.Descriptors.{NamesClass, IsType, IsDesc, Describes, IsFieldDescriptor, IsMethodDescriptor, IsArrayDescriptor, type_slots, type_text, desc_text}
 use Rattle.std.proofs.lemmas.List.Sums.{sum_by-cons}
 use Rattle.std.proofs.lemmas.Bool.{eqb-false, ne_eqb}
 use Rattle.dj_rename.proofs.ClassTexts.{desc_in_is, name_type, array_type}
@@ -114,3 +114,11 @@ renamed_class_text text (inl name) =
 renamed_class_text text (inr array) =
     subst (λ (ty : Ty). IsClassText (class_name (type_map in_sandbox ty))) (sym (array_type text array.0 array.1 array.2))
     (inr (type_map in_sandbox array.0, array.1, record { text_is = array_name array.0.dims array.0.of array.1; valid = sandbox_type array.0 array.2.valid }))
+
+-- ---- descriptors stay of their kind
+
+pub field_renamed : (text : Name) → IsFieldDescriptor text → IsFieldDescriptor (renamed_desc text)
+field_renamed text h = (type_map in_sandbox h.0, renamed_describes text (descs.Field h.0) h.1)
+
+pub method_renamed : (text : Name) → IsMethodDescriptor text → IsMethodDescriptor (renamed_desc text)
+method_renamed text h = let d = renamed_describes text (descs.Method h.0 h.1) h.2 in (_, _, d)

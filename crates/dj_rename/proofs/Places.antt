@@ -16,7 +16,7 @@ same_sym a b = elim (cases_Bool (same_name a b)) [
   | inl so ↦ so ∙ sym ((bytes_decides b a).1 (sym ((bytes_decides a b).0 so)))
   | inr other ↦ elim (cases_Bool (same_name b a)) [
     | inl so ↦ absurd (false≢true (sym other ∙ (bytes_decides a b).1 (sym ((bytes_decides b a).0 so))))
-    | inr no ↦ other ∙ sym no
+    | inr differ ↦ other ∙ sym differ
   ]
 ]
 

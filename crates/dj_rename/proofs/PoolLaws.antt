@@ -20,7 +20,7 @@ either : (b : Bool) → (b ≡ true) ⊎ (b ≡ false)
 either true = inl refl
 either false = inr refl
 
-same_is : (a b : Name) → same_name a b ≡ true → a ≡ b
+pub same_is : (a b : Name) → same_name a b ≡ true → a ≡ b
 same_is a b e = (bytes_decides a b).0 e
 
 is_same : (a : Name) → same_name a a ≡ true
@@ -253,3 +253,27 @@ module _ (pool : List Constant) (descs : List ℕ) where
       ∙ ap (λ (o : Option (List ℕ)). both o (text_at new (new_index pool texts (desc_need pool 0 desc)))) (text_kept name n s)
       ∙ ap (λ (o : Option (List ℕ)). both (Some n) o) (need_met (desc_need pool 0 desc) d (desc_is_needed i name desc h) t
           ∙ ap (λ (x : Name). Some (renamed_desc x)) (in_name desc d t))
+
+  -- the text of each need that is among them is appended
+  pub is_settled : (need : Need) → list_any (is_need need) (needs pool descs) ≡ true → is_changed pool need ≡ true → list_any (same_name need.text) (appended_texts pool descs) ≡ true
+  unfolding appended_texts
+  is_settled need among e = all_placed [] (changed_texts pool descs) need.text (is_among pool need (needs pool descs) among e)
+
+  desc_step : (list : List ℕ) (desc x : ℕ) (b : Bool) → nat_eq desc x ≡ b → (b ≡ false → list_any (is_need (desc_need pool desc desc)) (map (λ desc. desc_need pool desc desc) list) ≡ true)
+      → list_any (is_need (desc_need pool desc desc)) (map (λ desc. desc_need pool desc desc) (x ∷ list)) ≡ true
+  desc_step list desc x true e later =
+      let same : desc ≡ x = eqb-true desc x e in
+      or_left _ _ (subst (λ (y : ℕ). is_need (desc_need pool desc desc) (desc_need pool y y) ≡ true) same (one desc)) where
+    one : (d : ℕ) → is_need (desc_need pool d d) (desc_need pool d d) ≡ true
+    one d = rw (eq-eqb d d refl, is_same (renamed_desc (name_in pool d))) refl
+  desc_step list desc x false e later = or_true _ _ (later refl)
+
+  desc_among : (list : List ℕ) (desc : ℕ) → list_any (nat_eq desc) list ≡ true → list_any (is_need (desc_need pool desc desc)) (map (λ desc. desc_need pool desc desc) list) ≡ true
+  desc_among [] desc h = absurd cc
+  desc_among (x ∷ list) desc h = desc_step list desc x (nat_eq desc x) refl (λ e. desc_among list desc (sym (ap (λ (b : Bool). b || list_any (nat_eq desc) list) e) ∙ h))
+
+  pub member_is_needed : (desc : ℕ) → list_any (nat_eq desc) descs ≡ true → list_any (is_need (desc_need pool desc desc)) (needs pool descs) ≡ true
+  unfolding needs
+  member_is_needed desc h =
+      list_any-append (is_need (desc_need pool desc desc)) (needs_from pool 1 pool) (map (λ desc. desc_need pool desc desc) descs)
+      ∙ or_true _ _ (desc_among descs desc h)

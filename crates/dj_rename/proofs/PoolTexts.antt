@@ -1,5 +1,5 @@
 -- The texts of a valid pool that may get other ones.
-use Rattle.std.proofs.Common.{◌≡◌, ℕ, zero, suc, ◌+◌, ◌≤◌, ◌<◌, ◌^◌, Bool, true, false, cond, List, [], ◌∷◌, ◌++◌, take, length, Option, Some, None, slice_get, option_and_then, refl, sym, ap, subst, ◌∙◌, append_assoc, arith, ◌⊎◌, inl, inr}
+use Rattle.std.proofs.Common.{◌≡◌, ℕ, zero, suc, ◌+◌, ◌≤◌, ◌<◌, ◌^◌, Bool, true, false, cond, List, [], ◌∷◌, ◌++◌, take, drop, map, length, get_or, Option, Some, None, slice_get, option_and_then, refl, sym, ap, subst, ◌∙◌, append_assoc, arith, add-one, ◌⊎◌, inl, inr}
 use Rattle.std.specs.Prelude.{IsSomeAnd, ⊤}
 use Rattle.std.specs.List.{AllByRecursion}
 use Rattle.std.proofs.lemmas.List.{append-nil}
@@ -8,11 +8,15 @@ use Rattle.dj_names.specs.trusted.Types.{Name}
 use Rattle.dj_names.specs.trusted.ModifiedUtf8.{IsModifiedUtf8}
 use Rattle.dj_names.specs.trusted.Descriptors.{IsFieldDescriptor, IsMethodDescriptor}
 use Rattle.dj_pool.specs.trusted.Pool.{Constant, Utf8, Integer, Float, Long, Double, Class, Text, Field, Method, InterfaceMethod, NameAndType, Handle, MethodType, Dynamic, Hole, takes_two, indexed, constant_at, text_of, text_at, IsClassText, NamesText, AreNames, IsWhole, IsLinked, IsConstant, IsPool}
+use Rattle.dj_pool.specs.declared.pool.Entry.{Entry}
+use Rattle.dj_pool.specs.Views.{constant_of}
+use Rattle.dj_rename.specs.declared.error.RenameError.{RenameError}
 use Rattle.dj_rename.specs.declared.wanted.Wanted.{Wanted}
 use Rattle.dj_rename.specs.declared.wanted.Role.TheVariants as roles
-use Rattle.dj_rename.specs.Pools.{Need, need_of, needs_from, option_list}
+use Rattle.dj_rename.specs.Pools.{Need, need_of, needs_from, option_list, desc_need}
 use Rattle.dj_rename.specs.Refusals.{IsDescriptor}
-use Rattle.dj_rename.specs.Renaming.{IsRoleText, wanted_need, wanted_by, IsWanted}
+use Rattle.dj_rename.specs.Renaming.{IsRoleText, wanted_need, wanted_by, IsWanted, Steps, Refuses}
+use Rattle.dj_rename.proofs.Walking.{steps_join, refused_later, refused_sooner}
 
 -- ---- what is so of each constant is so at each index
 
@@ -161,5 +165,64 @@ needs_more pool (x ∷ ks) of zero at k h e =
     let here : of ≡ at = omega (arith, e) in
     append-nil (option_list (need_of pool of x)) ∙ ap (λ (n : ℕ). option_list (need_of pool n x)) here ∙ ap (λ (y : Constant). option_list (need_of pool at y)) same
 needs_more pool (x ∷ ks) of (suc i) at k h e =
-    ap (λ (l : List Need). option_list (need_of pool of x) ++ l) (needs_more pool ks (suc of) i at k h (omega (arith, e)))
+    let one : suc i + 1 ≡ suc (i + 1) = omega arith in
+    ap (λ (n : ℕ). needs_from pool of (take n (x ∷ ks))) one
+    ∙ ap (λ (l : List Need). option_list (need_of pool of x) ++ l) (needs_more pool ks (suc of) i at k h (omega (arith, e)))
     ∙ sym (append_assoc (option_list (need_of pool of x)) (needs_from pool (suc of) (take i ks)) (option_list (need_of pool at k)))
+
+needs_split : (pool ks : List Constant) (of i at : ℕ) (k : Constant) → slice_get ks i ≡ Some k → at ≡ of + i
+    → needs_from pool of ks ≡ (needs_from pool of (take i ks) ++ option_list (need_of pool at k)) ++ needs_from pool (suc at) (drop (suc i) ks)
+needs_split pool [] of i at k h e = absurd cc
+needs_split pool (x ∷ ks) of zero at k h e =
+    let same : x ≡ k = cc in
+    let here : of ≡ at = omega (arith, e) in
+    ap (λ (n : ℕ). option_list (need_of pool n x) ++ needs_from pool (suc n) ks) here ∙ ap (λ (y : Constant). option_list (need_of pool at y) ++ needs_from pool (suc at) ks) same
+needs_split pool (x ∷ ks) of (suc i) at k h e =
+    ap (λ (l : List Need). option_list (need_of pool of x) ++ l) (needs_split pool ks (suc of) i at k h (omega (arith, e)))
+    ∙ sym (append_assoc (option_list (need_of pool of x)) (needs_from pool (suc of) (take i ks) ++ option_list (need_of pool at k)) (needs_from pool (suc at) (drop (suc i) ks)))
+    ∙ ap (λ (l : List Need). l ++ needs_from pool (suc at) (drop (suc i) ks)) (sym (append_assoc (option_list (need_of pool of x)) (needs_from pool (suc of) (take i ks)) (option_list (need_of pool at k))))
+
+-- ---- as the code walks
+
+pub entry_at : (pool : List Constant) (list : List Entry) (i : ℕ) (other : Entry) → map constant_of list ≡ pool → i < length list → slice_get pool i ≡ Some (constant_of (get_or list i other))
+entry_at pool list i other same inside = sym (ap (λ (l : List Constant). slice_get l i) same) ∙ go list i inside where
+  go : (list : List Entry) (i : ℕ) → i < length list → slice_get (map constant_of list) i ≡ Some (constant_of (get_or list i other))
+  go [] i inside = absurd (omega (arith, inside))
+  go (x ∷ list) zero inside = refl
+  go (x ∷ list) (suc i) inside = go list i (omega (arith, inside))
+
+pub entry_after : (pool : List Constant) (list : List Entry) (i : ℕ) (other : Entry) → map constant_of list ≡ pool → i < length list → constant_at pool (i + 1) ≡ Some (constant_of (get_or list i other))
+entry_after pool list i other same inside = ap (constant_at pool) (add-one i) ∙ entry_at pool list i other same inside
+
+module _ (pool : List Constant) (texts mid : List Name) (i : ℕ) (k : Constant) (at : slice_get pool i ≡ Some k) (steps : Steps pool texts (needs_from pool 1 (take i pool)) mid) where
+  pub constants_refused : (e : RenameError) → Refuses pool mid (option_list (need_of pool (i + 1) k)) e → Refuses pool texts (needs_from pool 1 pool) e
+  constants_refused e fault =
+      let place : i + 1 ≡ 1 + i = omega arith in
+      subst (λ (l : List Need). Refuses pool texts l e) (sym (needs_split pool pool 1 i (i + 1) k at place))
+      (refused_sooner pool texts (needs_from pool 1 (take i pool) ++ option_list (need_of pool (i + 1) k)) (needs_from pool (suc (i + 1)) (drop (suc i) pool)) e
+      (refused_later pool texts mid (needs_from pool 1 (take i pool)) (option_list (need_of pool (i + 1) k)) e steps fault))
+
+  pub constants_further : (now : List Name) → Steps pool mid (option_list (need_of pool (i + 1) k)) now → Steps pool texts (needs_from pool 1 (take (i + 1) pool)) now
+  constants_further now more =
+      let place : i + 1 ≡ 1 + i = omega arith in
+      subst (λ (l : List Need). Steps pool texts l now) (sym (needs_more pool pool 1 i (i + 1) k at place))
+      (steps_join pool texts mid now (needs_from pool 1 (take i pool)) (option_list (need_of pool (i + 1) k)) steps more)
+
+split_map : (f : ℕ → Need) (xs : List ℕ) (i : ℕ) → i < length xs → map f xs ≡ (map f (take i xs) ++ f (get_or xs i 0) ∷ []) ++ map f (drop (suc i) xs)
+split_map f [] i h = absurd (omega (arith, h))
+split_map f (x ∷ xs) zero h = refl
+split_map f (x ∷ xs) (suc i) h = ap (λ (l : List Need). f x ∷ l) (split_map f xs i (omega (arith, h)))
+
+pub descs_refused : (pool : List Constant) (texts mid : List Name) (descs : List ℕ) (i : ℕ) (e : RenameError) → i < length descs → Steps pool texts (map (λ (desc : ℕ). desc_need pool desc desc) (take i descs)) mid
+    → Refuses pool mid (desc_need pool (get_or descs i 0) (get_or descs i 0) ∷ []) e → Refuses pool texts (map (λ (desc : ℕ). desc_need pool desc desc) descs) e
+descs_refused pool texts mid descs i e inside steps fault =
+    let f : ℕ → Need = λ desc. desc_need pool desc desc in
+    subst (λ (l : List Need). Refuses pool texts l e) (sym (split_map f descs i inside))
+    (refused_sooner pool texts (map f (take i descs) ++ f (get_or descs i 0) ∷ []) (map f (drop (suc i) descs)) e
+    (refused_later pool texts mid (map f (take i descs)) (f (get_or descs i 0) ∷ []) e steps fault))
+
+pub wanted_at : (pool : List Constant) (place : ℕ) (k : Constant) (w : Wanted) → IsPool pool → slice_get pool place ≡ Some k → Some w ≡ wanted_by (place + 1) k → IsWanted pool w
+wanted_at pool place k w valid at e = wanted_there pool (suc place) k w valid at (e ∙ ap (λ (i : ℕ). wanted_by i k) (add-one place))
+
+pub place_low : (pool : List Constant) (place : ℕ) (k : Constant) → IsPool pool → slice_get pool place ≡ Some k → place + 1 ≤ 65534
+place_low pool place k valid at = let below = slice_get_below pool place k at in let count = valid.count in omega (arith, below, count)

@@ -1,7 +1,7 @@
 -- What is known of the texts that were met.
 use Rattle.std.proofs.Common.{◌≡◌, ◌≢◌, ℕ, zero, suc, ◌+◌, ◌≤◌, ◌<◌, ◌^◌, Bool, true, false, List, [], ◌∷◌, ◌++◌, length, get_or, set, replicate, refl, sym, ap, subst, ◌∙◌, arith, inl, inr, length-set, get_or-set_same, get_or-set_other}
 use Rattle.std.specs.Prelude.{nat_eq}
-use Rattle.std.proofs.lemmas.Bool.{cases_Bool, eqb-true, eqb-false}
+use Rattle.std.proofs.lemmas.Bool.{cases_Bool, false≢true, eqb-true, eqb-false}
 use Rattle.std.proofs.lemmas.List.{append-nil}
 use Rattle.dj_names.specs.trusted.Types.{Name}
 use Rattle.dj_pool.specs.trusted.Pool.{Constant, NamesText, IsPool}
@@ -11,11 +11,11 @@ use Rattle.dj_rename.specs.declared.error.RenameError.TheVariants as errors
 use Rattle.dj_rename.specs.declared.wanted.Role.{Role}
 use Rattle.dj_rename.specs.declared.wanted.Role.TheVariants as roles
 use Rattle.dj_rename.specs.declared.wanted.Wanted.{Wanted}
-use Rattle.dj_rename.specs.Pools.{Need, is_changed, first_places, need_text, needs, appended_texts}
+use Rattle.dj_rename.specs.Pools.{Need, is_changed, first_places, need_text, needs, appended_texts, new_index}
 use Rattle.dj_rename.specs.Refusals.{refusal_from, refusal, AreAppended, RefusesTexts}
-use Rattle.dj_rename.specs.Renaming.{role_need, wanted_need, IsRoleText, IsWanted, IsPlaced, Tables, table, with_known, IsKnown, IsState, Steps, Refuses, Meets, changed_texts}
+use Rattle.dj_rename.specs.Renaming.{has_text, role_need, wanted_need, IsRoleText, IsWanted, IsSettled, IsPlaced, Tables, table, with_known, IsKnown, IsState, Steps, Refuses, Meets, changed_texts}
 use Rattle.dj_rename.proofs.PoolTexts.{index_below}
-use Rattle.dj_rename.proofs.Walking.{steps_settled, still_placed}
+use Rattle.dj_rename.proofs.Walking.{steps_settled, still_placed, settled_meets}
 
 pub table_below : (pool : List Constant) (texts : List Name) (tables : Tables) (w : Wanted) → IsState pool texts tables → IsWanted pool w → w.index < length (table w.role tables)
 table_below pool texts tables w state there =
@@ -74,11 +74,14 @@ module _ (pool : List Constant) (before now : List Name) where
 
 -- ---- at first nothing is known
 
-length_zeros : (n : ℕ) → length (replicate n 0) ≡ n
+abbrev zeros : ℕ → List ℕ
+zeros n = replicate n 0
+
+length_zeros : (n : ℕ) → length (zeros n) ≡ n
 length_zeros zero = refl
 length_zeros (suc n) = ap suc (length_zeros n)
 
-zeros_at : (n i : ℕ) → get_or (replicate n 0) i 0 ≡ 0
+zeros_at : (n i : ℕ) → get_or (zeros n) i 0 ≡ zero
 zeros_at zero i = refl
 zeros_at (suc n) zero = refl
 zeros_at (suc n) (suc i) = zeros_at n i
@@ -103,6 +106,19 @@ all_met pool descs now steps = record {
 
 pub not_met : (pool : List Constant) (descs : List ℕ) (e : RenameError) → Refuses pool [] (needs pool descs) e → RefusesTexts pool descs e
 unfolding refusal
-not_met pool descs errors.Memory no = tt
-not_met pool descs errors.Full no = ap (refusal_from pool []) (sym (append-nil (needs pool descs))) ∙ no []
-not_met pool descs (errors.Long of) no = ap (refusal_from pool []) (sym (append-nil (needs pool descs))) ∙ no []
+not_met pool descs errors.Memory fault = tt
+not_met pool descs errors.Full fault = ap (refusal_from pool []) (sym (append-nil (needs pool descs))) ∙ fault []
+not_met pool descs (errors.Long of) fault = ap (refusal_from pool []) (sym (append-nil (needs pool descs))) ∙ fault []
+
+-- ---- where all texts are there
+
+pub known_index : (pool : List Constant) (texts : List Name) (tables : Tables) (w : Wanted) → IsState pool texts tables → get_or (table w.role tables) w.index 0 ≢ 0
+    → get_or (table w.role tables) w.index 0 ≡ new_index pool texts (wanted_need pool w)
+known_index pool texts tables w state some = (state.known w.role w.index some).index_is
+
+pub state_found : (pool : List Constant) (texts : List Name) (tables : Tables) (w : Wanted) (new : ℕ) → IsState pool texts tables → IsWanted pool w → IsPlaced pool texts (wanted_need pool w) new
+    → IsState pool texts (with_known w.role w.index new tables)
+state_found pool texts tables w new state there placed = state_next pool texts texts tables w new state there (settled_meets pool texts (wanted_need pool w) new state.few placed)
+
+pub not_new : (pool : List Constant) (texts : List Name) (need : Need) → IsSettled pool texts need → is_changed pool need ≡ true → has_text texts need.text ≡ false → ⊥
+not_new pool texts need settled changed new = false≢true (sym new ∙ settled changed)

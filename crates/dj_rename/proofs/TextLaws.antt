@@ -27,7 +27,7 @@ name_there text (inl name) e = name
 name_there text (inr array) e = let yes = array_begins text array in absurd cc
 
 -- an array's text is the type's
-array_spelled : (ty : Ty) → 1 ≤ ty.dims → class_name ty ≡ type_text ty
+pub array_spelled : (ty : Ty) → 1 ≤ ty.dims → class_name ty ≡ type_text ty
 array_spelled ty some = go ty.dims some where
   go : (dims : ℕ) → 1 ≤ dims → class_name (record { dims = dims; of = ty.of }) ≡ type_text (record { dims = dims; of = ty.of })
   go zero some = absurd (omega arith)

@@ -1,5 +1,5 @@
 -- Needs that are met bring one list of texts to the next.
-use Rattle.std.proofs.Common.{◌≡◌, ◌≢◌, ℕ, zero, suc, ◌+◌, ◌≤◌, ◌<◌, Bool, true, false, ◌&&◌, not, List, [], ◌∷◌, ◌++◌, map, filter, length, get_or, replicate, Option, Some, None, refl, sym, ap, subst, ◌∙◌, append_assoc, arith, inl, inr, if◌then◌else◌, length-append}
+use Rattle.std.proofs.Common.{◌≡◌, ◌≢◌, ℕ, zero, suc, ◌+◌, ◌≤◌, ◌<◌, Bool, true, false, ◌&&◌, not, List, [], ◌∷◌, ◌++◌, map, filter, length, get_or, replicate, Option, Some, None, Result, Ok, Err, refl, sym, ap, subst, ◌∙◌, append_assoc, arith, inl, inr, if◌then◌else◌, length-append}
 use Rattle.std.specs.Prelude.{⊤, nat_lt}
 use Rattle.std.specs.List.{list_any}
 use Rattle.std.proofs.lemmas.Bool.{cases_Bool, false≢true, lt-ltb, le-ltb}
@@ -9,24 +9,24 @@ use Rattle.dj_pool.specs.trusted.Pool.{Constant}
 use Rattle.dj_pool.specs.Answers.{last_index}
 use Rattle.dj_rename.specs.declared.error.RenameError.{RenameError}
 use Rattle.dj_rename.specs.declared.error.RenameError.TheVariants as errors
-use Rattle.dj_rename.specs.Pools.{Need, is_changed, first_places, need_text, place_of, new_index}
+use Rattle.dj_rename.specs.Pools.{Need, is_changed, first_places, need_text, place_of, new_index, needs_from, needs, desc_need}
 use Rattle.dj_rename.specs.Refusals.{most_bytes, refusal_at, first_error, refusal_from}
-use Rattle.dj_rename.specs.Renaming.{has_text, IsSettled, IsPlaced, changed_texts, Steps, Refuses, Puts, Meets}
+use Rattle.dj_rename.specs.Renaming.{has_text, IsSettled, IsPlaced, changed_texts, Tables, Steps, Refuses, Walks, Puts, PutsText, Meets, MeetsOne}
 use Rattle.dj_rename.proofs.Places.{still_has, same_place, last_place, has_last}
 
 module _ (pool : List Constant) where
   -- ---- one need
 
-  with_need : (texts : List Name) (need : Need) (more : List Need) (b : Bool) → is_changed pool need ≡ b
+  pub with_need : (texts : List Name) (need : Need) (more : List Need) (b : Bool) → is_changed pool need ≡ b
       → first_places texts (changed_texts pool (need ∷ more)) ≡ first_places texts (map need_text (if b then need ∷ filter (is_changed pool) more else filter (is_changed pool) more))
   with_need texts need more b e = ap (λ (c : Bool). first_places texts (map need_text (if c then need ∷ filter (is_changed pool) more else filter (is_changed pool) more))) e
 
-  with_text : (texts : List Name) (text : Name) (more : List Name) (b : Bool) → has_text texts text ≡ b
+  pub with_text : (texts : List Name) (text : Name) (more : List Name) (b : Bool) → has_text texts text ≡ b
       → first_places texts (text ∷ more) ≡ (if b then first_places texts more else text ∷ first_places (texts ++ text ∷ []) more)
   unfolding first_places
   with_text texts text more b e = ap (λ (c : Bool). if c then first_places texts more else text ∷ first_places (texts ++ text ∷ []) more) e
 
-  at_need : (texts : List Name) (need : Need) (more : List Need) (b c : Bool) → is_changed pool need ≡ b → has_text texts need.text ≡ c
+  pub at_need : (texts : List Name) (need : Need) (more : List Need) (b c : Bool) → is_changed pool need ≡ b → has_text texts need.text ≡ c
       → refusal_from pool texts (need ∷ more)
         ≡ (if b && not c then first_error (refusal_at (length pool + length texts + 1) need) (refusal_from pool (texts ++ need.text ∷ []) more) else refusal_from pool texts more)
   unfolding refusal_from
@@ -59,9 +59,9 @@ module _ (pool : List Constant) where
 
   pub refused_new : (texts : List Name) (need : Need) (e : RenameError) → is_changed pool need ≡ true → has_text texts need.text ≡ false → refusal_at (length pool + length texts + 1) need ≡ Some e
       → (more : List Need) → refusal_from pool texts ((need ∷ []) ++ more) ≡ Some e
-  refused_new texts need e changed new no more =
+  refused_new texts need e changed new fault more =
       at_need texts need more true false changed new
-      ∙ ap (λ (o : Option RenameError). first_error o (refusal_from pool (texts ++ need.text ∷ []) more)) no
+      ∙ ap (λ (o : Option RenameError). first_error o (refusal_from pool (texts ++ need.text ∷ []) more)) fault
 
   -- ---- one after the other
 
@@ -143,3 +143,21 @@ module _ (pool : List Constant) where
   pub settled_meets : (texts : List Name) (need : Need) (index : ℕ) → length pool + length texts ≤ last_index → IsPlaced pool texts need index → Meets pool texts need texts index
   settled_meets texts need index few placed =
       record { steps = steps_settled texts need placed.settled; extra = []; more = sym (append-nil texts); placed = placed; few = few }
+
+  pub met_one : (texts now : List Name) (need : Need) (result : Result ℕ RenameError) → is_changed pool need ≡ true → has_text texts need.text ≡ false → PutsText pool texts need now result → MeetsOne pool texts need now result
+  met_one texts now need (Ok index) changed new put = put_meets texts now need index changed new put
+  met_one texts now need (Err errors.Full) changed new put = put_full texts need changed new put
+  met_one texts now need (Err (errors.Long of)) changed new put = put_long texts need of changed new put.0 put.1 put.2
+  met_one texts now need (Err errors.Memory) changed new put = tt
+
+  -- ---- the constants, and then the descriptors
+
+  pub all_walked : {A : Type 0} (descs : List ℕ) (before mid now : List Name) (tables : Tables) (result : Result A RenameError) → Steps pool before (needs_from pool 1 pool) mid
+      → Walks pool mid (map (λ (desc : ℕ). desc_need pool desc desc) descs) now tables result → Walks pool before (needs pool descs) now tables result
+  unfolding needs
+  all_walked descs before mid now tables (Ok x) steps w = (steps_join before mid now (needs_from pool 1 pool) (map (λ (desc : ℕ). desc_need pool desc desc) descs) steps w.0, w.1)
+  all_walked descs before mid now tables (Err e) steps w = refused_later before mid (needs_from pool 1 pool) (map (λ (desc : ℕ). desc_need pool desc desc) descs) e steps w
+
+  pub all_stopped : (descs : List ℕ) (before : List Name) (e : RenameError) → Refuses pool before (needs_from pool 1 pool) e → Refuses pool before (needs pool descs) e
+  unfolding needs
+  all_stopped descs before e w = refused_sooner before (needs_from pool 1 pool) (map (λ (desc : ℕ). desc_need pool desc desc) descs) e w

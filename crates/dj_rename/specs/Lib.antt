@@ -2,3 +2,4 @@ pub mod Names
 pub mod Pools
 pub mod Refusals
 pub mod Renaming
+pub mod Redirecting

@@ -3,6 +3,7 @@
 
 mod error;
 mod known;
+mod renamed;
 mod sought;
 mod spelled;
 mod text;
@@ -11,6 +12,7 @@ mod walk;
 mod wanted;
 
 pub use error::RenameError;
+pub use renamed::{Renamed, rename_pool};
 pub use text::{plain_name, rename_desc, rename_name};
 pub use texts::Texts;
 pub use walk::rename_texts;

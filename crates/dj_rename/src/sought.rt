@@ -28,6 +28,7 @@ fn index_of(pool: &Pool<'_>, place: usize) -> u16
 }
 
 // Where the renamed text stands that an old one gets.
+#[tactic(auto, using(crate::proofs::Seeking::stays_placed, crate::proofs::Seeking::found_placed, crate::proofs::Seeking::new_text))]
 fn placed(pool: &Pool<'_>, texts: &Texts, wanted: Wanted, old: &[u8], text: Name) -> Sought
     requires few { length pool.now + length texts.now ≤ last_index }
     requires old_is { name_in pool.now wanted.index ≡ old.now }

@@ -47,7 +47,7 @@ fn put_text(
 }
 
 // Puts the renamed text of an index last where it has to be and isn't there, and answers its index.
-#[tactic(auto, using(crate::proofs::Walking::put_meets, crate::proofs::Walking::put_full, crate::proofs::Walking::put_long, crate::proofs::Walking::settled_meets))]
+#[tactic(auto, using(crate::proofs::Walking::met_one))]
 fn meet_text(
     alloc: Global,
     pool: &Pool<'_>,
@@ -65,7 +65,7 @@ fn meet_text(
 }
 
 // The same, unless it was done for this index before.
-#[tactic(auto, using(crate::proofs::States::table_below, crate::proofs::States::known_steps, crate::proofs::States::state_next))]
+#[tactic(auto, using(crate::proofs::States::table_below, crate::proofs::States::known_steps))]
 fn meet(
     alloc: Global,
     pool: &Pool<'_>,
@@ -147,7 +147,6 @@ fn meet_descs(
 }
 
 // Puts the texts last that a class needs.
-#[tactic(auto, using(crate::proofs::Walking::steps_join, crate::proofs::Walking::refused_later, crate::proofs::Walking::refused_sooner))]
 fn meet_all(
     alloc: Global,
     pool: &Pool<'_>,
