@@ -45,7 +45,7 @@ good_constant : (pool : List Constant) → IsPool pool → (of at : ℕ) (k : Co
 good_constant pool valid of at k h = go (wanted_by of k) refl where
   go : (o : Option Wanted) → wanted_by of k ≡ o → AllByRecursion IsGood (option_list (need_of pool of k))
   go None e = subst (AllByRecursion IsGood) (sym (no_need pool of k (sym e))) tt
-  go (Some w) e = subst (AllByRecursion IsGood) (sym (need_is pool of k w (sym e))) (good_wanted pool valid w (wanted_there pool at of k w valid h (sym e)), tt)
+  go (Some w) e = subst (AllByRecursion IsGood) (sym (need_is pool of k w (sym e))) (good_wanted pool valid w (wanted_there pool of at k w valid h (sym e)), tt)
 
 good_from : (pool : List Constant) → IsPool pool → (ks : List Constant) (of from : ℕ) → ((i : ℕ) (k : Constant) → slice_get ks i ≡ Some k → constant_at pool (from + i) ≡ Some k)
     → AllByRecursion IsGood (needs_from pool of ks)

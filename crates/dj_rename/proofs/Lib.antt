@@ -11,4 +11,5 @@ pub mod States
 pub mod Appended
 pub mod Settled
 pub mod Halfway
+pub mod Undoing
 mod Facts

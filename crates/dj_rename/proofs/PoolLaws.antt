@@ -259,13 +259,14 @@ module _ (pool : List Constant) (descs : List ℕ) where
   unfolding appended_texts
   is_settled need among e = all_placed [] (changed_texts pool descs) need.text (is_among pool need (needs pool descs) among e)
 
+  desc_itself : (d : ℕ) → is_need (desc_need pool d d) (desc_need pool d d) ≡ true
+  desc_itself d = rw (eq-eqb d d refl, is_same (renamed_desc (name_in pool d))) refl
+
   desc_step : (list : List ℕ) (desc x : ℕ) (b : Bool) → nat_eq desc x ≡ b → (b ≡ false → list_any (is_need (desc_need pool desc desc)) (map (λ desc. desc_need pool desc desc) list) ≡ true)
       → list_any (is_need (desc_need pool desc desc)) (map (λ desc. desc_need pool desc desc) (x ∷ list)) ≡ true
   desc_step list desc x true e later =
       let same : desc ≡ x = eqb-true desc x e in
-      or_left _ _ (subst (λ (y : ℕ). is_need (desc_need pool desc desc) (desc_need pool y y) ≡ true) same (one desc)) where
-    one : (d : ℕ) → is_need (desc_need pool d d) (desc_need pool d d) ≡ true
-    one d = rw (eq-eqb d d refl, is_same (renamed_desc (name_in pool d))) refl
+      or_left _ _ (subst (λ (y : ℕ). is_need (desc_need pool desc desc) (desc_need pool y y) ≡ true) same (desc_itself desc))
   desc_step list desc x false e later = or_true _ _ (later refl)
 
   desc_among : (list : List ℕ) (desc : ℕ) → list_any (nat_eq desc) list ≡ true → list_any (is_need (desc_need pool desc desc)) (map (λ desc. desc_need pool desc desc) list) ≡ true

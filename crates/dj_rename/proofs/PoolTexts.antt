@@ -134,8 +134,8 @@ no_need pool of (Handle n m) e = refl
 no_need pool of (Dynamic b n) e = refl
 no_need pool of Hole e = refl
 
-pub wanted_there : (pool : List Constant) (of : ℕ) (k : Constant) (w : Wanted) → IsPool pool → constant_at pool of ≡ Some k → Some w ≡ wanted_by of k → IsWanted pool w
-wanted_there pool of k w valid at e = go k (linked_at pool valid of k at) e where
+pub wanted_there : (pool : List Constant) (of i : ℕ) (k : Constant) (w : Wanted) → IsPool pool → constant_at pool i ≡ Some k → Some w ≡ wanted_by of k → IsWanted pool w
+wanted_there pool of i k w valid at e = go k (linked_at pool valid i k at) e where
   go : (k : Constant) → IsLinked pool k → Some w ≡ wanted_by of k → IsWanted pool w
   go (Class n) l e = let same : record { of = of; index = n; role = roles.Class } ≡ w = cc in subst (IsWanted pool) same l
   go (NameAndType n d) l e = let same : record { of = of; index = d; role = roles.Desc } ≡ w = cc in subst (IsWanted pool) same (names_described pool n d l)
@@ -222,7 +222,7 @@ descs_refused pool texts mid descs i e inside steps fault =
     (refused_later pool texts mid (map f (take i descs)) (f (get_or descs i 0) ∷ []) e steps fault))
 
 pub wanted_at : (pool : List Constant) (place : ℕ) (k : Constant) (w : Wanted) → IsPool pool → slice_get pool place ≡ Some k → Some w ≡ wanted_by (place + 1) k → IsWanted pool w
-wanted_at pool place k w valid at e = wanted_there pool (suc place) k w valid at (e ∙ ap (λ (i : ℕ). wanted_by i k) (add-one place))
+wanted_at pool place k w valid at e = wanted_there pool (place + 1) (suc place) k w valid at e
 
 pub place_low : (pool : List Constant) (place : ℕ) (k : Constant) → IsPool pool → slice_get pool place ≡ Some k → place + 1 ≤ 65534
 place_low pool place k valid at = let below = slice_get_below pool place k at in let count = valid.count in omega (arith, below, count)

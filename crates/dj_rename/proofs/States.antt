@@ -1,10 +1,12 @@
 -- What is known of the texts that were met.
-use Rattle.std.proofs.Common.{◌≡◌, ◌≢◌, ℕ, zero, suc, ◌+◌, ◌≤◌, ◌<◌, ◌^◌, Bool, true, false, List, [], ◌∷◌, ◌++◌, length, get_or, set, replicate, refl, sym, ap, subst, ◌∙◌, arith, inl, inr, length-set, get_or-set_same, get_or-set_other}
+use Rattle.std.proofs.Common.{◌≡◌, ◌≢◌, ℕ, zero, suc, ◌+◌, ◌≤◌, ◌<◌, ◌^◌, Bool, true, false, List, [], ◌∷◌, ◌++◌, map, length, get_or, set, replicate, refl, sym, ap, subst, ◌∙◌, arith, inl, inr, length-set, get_or-set_same, get_or-set_other}
 use Rattle.std.specs.Prelude.{nat_eq}
 use Rattle.std.proofs.lemmas.Bool.{cases_Bool, false≢true, eqb-true, eqb-false}
 use Rattle.std.proofs.lemmas.List.{append-nil}
 use Rattle.dj_names.specs.trusted.Types.{Name}
 use Rattle.dj_pool.specs.trusted.Pool.{Constant, NamesText, IsPool}
+use Rattle.dj_pool.specs.declared.pool.Entry.{Entry}
+use Rattle.dj_pool.specs.Views.{constant_of}
 use Rattle.dj_pool.specs.Answers.{last_index}
 use Rattle.dj_rename.specs.declared.error.RenameError.{RenameError}
 use Rattle.dj_rename.specs.declared.error.RenameError.TheVariants as errors
@@ -15,7 +17,9 @@ use Rattle.dj_rename.specs.Pools.{Need, is_changed, first_places, need_text, nee
 use Rattle.dj_rename.specs.Refusals.{refusal_from, refusal, AreAppended, RefusesTexts}
 use Rattle.dj_rename.specs.Renaming.{has_text, role_need, wanted_need, IsRoleText, IsWanted, IsSettled, IsPlaced, Tables, table, with_known, IsKnown, IsState, Steps, Refuses, Meets, changed_texts}
 use Rattle.dj_rename.proofs.PoolTexts.{index_below}
-use Rattle.dj_rename.proofs.Walking.{steps_settled, still_placed, settled_meets}
+use Rattle.dj_rename.proofs.Walking.{index_when, steps_settled, still_placed, settled_meets}
+use Rattle.dj_rename.proofs.Places.{place_below}
+use Rattle.dj_rename.proofs.PoolLaws.{length_map}
 
 pub table_below : (pool : List Constant) (texts : List Name) (tables : Tables) (w : Wanted) → IsState pool texts tables → IsWanted pool w → w.index < length (table w.role tables)
 table_below pool texts tables w state there =
@@ -93,6 +97,26 @@ state_first pool texts tables few empty = record {
   long = λ role. ap length (empty role) ∙ length_zeros (length pool + 1);
   known = λ role i some. absurd (some (ap (λ (l : List ℕ). get_or l i 0) (empty role) ∙ zeros_at (length pool + 1) i));
 }
+
+pub state_start : (pool : List Constant) (texts : List Name) (tables : Tables) (list : List Entry) → map constant_of list ≡ pool → length pool + length texts ≤ last_index
+    → ((role : Role) → table role tables ≡ replicate (length list + 1) 0) → IsState pool texts tables
+state_start pool texts tables list same few empty =
+    let here = ap length same in
+    let there = length_map constant_of list in
+    let long : length list + 1 ≡ length pool + 1 = omega (arith, here, there) in
+    state_first pool texts tables few (λ role. empty role ∙ ap zeros long)
+
+-- the new index of a text fits
+pub index_fits : (pool : List Constant) (texts : List Name) (w : Wanted) → length pool + length texts ≤ last_index → IsWanted pool w → IsSettled pool texts (wanted_need pool w)
+    → new_index pool texts (wanted_need pool w) < 2 ^ 16
+index_fits pool texts w few there settled = go (is_changed pool (wanted_need pool w)) refl where
+  go : (b : Bool) → is_changed pool (wanted_need pool w) ≡ b → new_index pool texts (wanted_need pool w) < 2 ^ 16
+  go true e =
+      let below = place_below texts (wanted_need pool w).text (settled e) in
+      subst (λ (n : ℕ). n < 2 ^ 16) (sym (index_when pool texts (wanted_need pool w) true e)) (omega (arith, below, few))
+  go false e =
+      let below = index_below (IsRoleText w.role) pool w.index there in
+      subst (λ (n : ℕ). n < 2 ^ 16) (sym (index_when pool texts (wanted_need pool w) false e)) (omega (arith, below, few))
 
 -- ---- all needs
 

@@ -3,3 +3,4 @@ pub mod Pools
 pub mod Refusals
 pub mod Renaming
 pub mod Redirecting
+pub mod Laws

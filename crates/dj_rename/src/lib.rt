@@ -3,6 +3,7 @@
 
 mod error;
 mod known;
+mod laws;
 mod renamed;
 mod sought;
 mod spelled;
@@ -12,6 +13,7 @@ mod walk;
 mod wanted;
 
 pub use error::RenameError;
+pub use laws::{classes_in_sandbox, descs_in_sandbox, plain_undoes};
 pub use renamed::{Renamed, rename_pool};
 pub use text::{plain_name, rename_desc, rename_name};
 pub use texts::Texts;

@@ -72,7 +72,7 @@ fn with_texts<'t>(
 }
 
 // The index of the renamed text of an index.
-#[tactic(auto, using(crate::proofs::States::table_below, crate::proofs::States::known_index, crate::proofs::States::state_found, crate::proofs::States::not_new))]
+#[tactic(auto, using(crate::proofs::States::table_below, crate::proofs::States::known_index, crate::proofs::States::not_new))]
 fn renamed_index(
     alloc: Global,
     pool: &Pool<'_>,
@@ -113,7 +113,7 @@ fn redirect(now: &mut Pool<'_>, of: u16, index: u16) -> Result<(), RenameError>
 }
 
 // Gives the constant at a place its renamed text, where it names one.
-#[tactic(auto, using(crate::proofs::Halfway::may_at, crate::proofs::Halfway::next_at, crate::proofs::Halfway::past_at, crate::proofs::PoolTexts::wanted_at, crate::proofs::PoolTexts::place_low, crate::proofs::Settled::settled_at))]
+#[tactic(auto, using(crate::proofs::Halfway::may_at, crate::proofs::PoolTexts::wanted_at, crate::proofs::PoolTexts::place_low, crate::proofs::Settled::settled_at))]
 fn redirect_one(
     alloc: Global,
     pool: &Pool<'_>,
@@ -133,11 +133,13 @@ fn redirect_one(
     ensures err { IfErr result (λ e. e ≡ RenameError.Memory) }
 {
     let of = (place + 1) as u16;
-    let Some(wanted) = wanted_of(of, entry) else {
-        return Ok(());
-    };
-    let index = renamed_index(alloc, pool, texts, known, wanted)?;
-    redirect(now, of, index)
+    match wanted_of(of, entry) {
+        None => Ok(()),
+        Some(wanted) => {
+            let index = renamed_index(alloc, pool, texts, known, wanted)?;
+            redirect(now, of, index)
+        }
+    }
 }
 
 // Gives each constant its renamed text, where it names one.
@@ -188,9 +190,9 @@ fn new_descs(
     Ok(indexes)
 }
 
-#[tactic(auto, using(crate::proofs::Appended::appended_whole, crate::proofs::Appended::appended_few, crate::proofs::States::state_first, crate::proofs::Settled::are_settled, crate::proofs::Settled::descs_settled, crate::proofs::Halfway::renamed_from))]
 /// The constants of a class with its renamed texts after them, which are those of `rename_texts`; each constant of a class, a name and
 /// descriptor or a method's type names its renamed text. `descs` has the indexes of the members' descriptors.
+#[tactic(auto, using(crate::proofs::Settled::are_settled, crate::proofs::Halfway::renamed_from))]
 pub fn rename_pool<'t>(
     alloc: Global,
     pool: &Pool<'t>,

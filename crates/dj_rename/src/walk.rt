@@ -165,7 +165,7 @@ fn meet_all(
 
 /// The texts that are appended to a class's constants: those of its classes and descriptors with `sandbox/` before each class's
 /// name, where they differ, each once and in the order of need. `descs` has the indexes of its members' descriptors.
-#[tactic(auto, using(crate::proofs::States::state_first, crate::proofs::States::all_met, crate::proofs::States::not_met))]
+#[tactic(auto, using(crate::proofs::States::all_met, crate::proofs::States::not_met))]
 pub fn rename_texts(alloc: Global, pool: &Pool<'_>, descs: &[u16]) -> Result<Texts, RenameError>
     requires valid { IsPool pool.now }
     requires described { All (IsDescIndex pool.now) descs.now }
