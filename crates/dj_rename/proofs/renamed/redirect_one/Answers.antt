@@ -16,8 +16,8 @@ returns-in_ok-index-in-Some-clause-half c =
     let settled = settled_at c.args.pool.now c.args.texts.now c.args.place (c.args.place + 1) k c.in-Some.wanted c.requires.settled c.requires.at c.in-Some.ensures in
     let wanted = wanted_at c.args.pool.now c.args.place k c.in-Some.wanted c.requires.valid c.requires.at c.in-Some.ensures in
     let fits = index_fits c.args.pool.now c.args.texts.now c.in-Some.wanted c.requires.state.few wanted settled in
-    let low : c.in_ok-index.index < 2 ^ 16 = subst (λ (n : ℕ). n < 2 ^ 16) (sym c.in_ok-index.ensures.ok) fits in
+    let low : c.in_ok-index-in-Some.index < 2 ^ 16 = subst (λ (n : ℕ). n < 2 ^ 16) (sym c.in_ok-index-in-Some.ensures.ok) fits in
     on_ok_weaker c.redirect.result
-    (λ r. next_at c.args.pool.now c.args.texts.now c.args.place c.args.now.now k c.in-Some.wanted c.in_ok-index.index c.redirect.new.now c.requires.valid c.requires.half c.requires.at
-        c.in-Some.ensures c.in_ok-index.ensures.ok settled low r)
+    (λ r. next_at c.args.pool.now c.args.texts.now c.args.place c.args.now.now k c.in-Some.wanted c.in_ok-index-in-Some.index c.redirect.new.now c.requires.valid c.requires.half c.requires.at
+        c.in-Some.ensures c.in_ok-index-in-Some.ensures.ok settled low r)
     c.redirect.ensures.ok
