@@ -54,8 +54,8 @@ good_from pool valid (k ∷ ks) of from at =
     all_append (option_list (need_of pool of k)) (needs_from pool (suc of) ks)
     (good_constant pool valid of (from + 0) k (at 0 k refl))
     (good_from pool valid ks (suc of) (suc from) (λ i x h. subst (λ (n : ℕ). constant_at pool n ≡ Some x) (one_later from i) (at (suc i) x h))) where
-  one_later : (a b : ℕ) → a + suc b ≡ suc a + b
-  one_later a b = omega arith
+      one_later : (a b : ℕ) → a + suc b ≡ suc a + b
+      one_later a b = omega arith
 
 good_descs : (pool : List Constant) → IsPool pool → (descs : List ℕ) → AllByRecursion (IsDescIndex pool) descs → AllByRecursion IsGood (map (λ (desc : ℕ). desc_need pool desc desc) descs)
 good_descs pool valid [] all = tt
@@ -67,8 +67,8 @@ good_needs pool descs valid all =
     all_append (needs_from pool 1 pool) (map (λ (desc : ℕ). desc_need pool desc desc) descs)
     (good_from pool valid pool 1 1 (λ i k h. subst (λ (n : ℕ). constant_at pool n ≡ Some k) (one_more i) h))
     (good_descs pool valid descs all) where
-  one_more : (i : ℕ) → suc i ≡ 1 + i
-  one_more i = omega arith
+      one_more : (i : ℕ) → suc i ≡ 1 + i
+      one_more i = omega arith
 
 -- ---- and it fits
 

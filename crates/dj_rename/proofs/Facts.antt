@@ -42,7 +42,7 @@ row_texts = refl
 
 row_pool : renamed_pool row (codes "sandbox/A" ∷ codes "sandbox/java/lang/Object" ∷ [])
     ≡ Utf8 (codes "A") ∷ Class 8 ∷ Utf8 (codes "java/lang/Object") ∷ Class 9 ∷ Utf8 (codes "verify") ∷ Utf8 (codes "([B)[B") ∷ Utf8 (codes "Code")
-      ∷ Utf8 (codes "sandbox/A") ∷ Utf8 (codes "sandbox/java/lang/Object") ∷ []
+    ∷ Utf8 (codes "sandbox/A") ∷ Utf8 (codes "sandbox/java/lang/Object") ∷ []
 unfolding row renamed_pool renamed_class renamed_desc type_in desc_in desc_read method_read params_read type_read dims_read of_read class_read name_read reads_class_name return_read field_read
 row_pool = refl
 

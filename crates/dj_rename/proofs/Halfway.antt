@@ -78,7 +78,7 @@ utf8_pool pool (t ∷ texts) valid whole few =
     let one = ap length narrow in
     let grown = length-append pool (Utf8 t ∷ []) in
     let next : IsPool (pool ++ Utf8 t ∷ []) =
-        subst (λ (l : List Constant). IsPool (pool ++ l)) narrow (appended_is_pool pool (Utf8 t) valid (whole 0 (omega arith), tt) (omega (arith, few, one))) in
+    subst (λ (l : List Constant). IsPool (pool ++ l)) narrow (appended_is_pool pool (Utf8 t) valid (whole 0 (omega arith), tt) (omega (arith, few, one))) in
     subst IsPool (append_assoc pool (Utf8 t ∷ []) (map Utf8 texts)) (utf8_pool (pool ++ Utf8 t ∷ []) texts next (λ place h. whole (suc place) (omega (arith, h))) (omega (arith, few, grown)))
 
 pub half_first : (pool : List Constant) (texts : List Name) (now : List Constant) → IsPool pool → ((place : ℕ) → place < length texts → IsWhole (Utf8 (get_or texts place []))) → length pool + length texts ≤ last_index
@@ -140,9 +140,9 @@ module _ (pool : List Constant) (texts : List Name) (n : ℕ) (now : List Consta
   text_added place t h =
       ap (text_at now) (one_more (length pool) place)
       ∙ text_from (suc (length pool + place)) t
-          (ap (option_and_then text_of) (slice_get_right pool (map Utf8 texts) place (length pool + place) refl ∙ slice_get-map Utf8 texts place ∙ ap (option_map Utf8) h)) where
-    one_more : (a b : ℕ) → a + 1 + b ≡ suc (a + b)
-    one_more a b = omega arith
+      (ap (option_and_then text_of) (slice_get_right pool (map Utf8 texts) place (length pool + place) refl ∙ slice_get-map Utf8 texts place ∙ ap (option_map Utf8) h)) where
+        one_more : (a b : ℕ) → a + 1 + b ≡ suc (a + b)
+        one_more a b = omega arith
 
   not_false : (b : Bool) → not b ≡ false → b ≡ true
   not_false true e = refl
@@ -153,6 +153,7 @@ module _ (pool : List Constant) (texts : List Name) (n : ℕ) (now : List Consta
   need_now w index old is settled h = ap (text_at now) is ∙ go (is_changed pool (wanted_need pool w)) refl ∙ ap (λ (x : Name). Some (respelled w.role x)) name_is where
     name_is : name_in pool w.index ≡ old
     name_is = ap (λ (o : Option Name). unwrap_or o []) h
+
     go : (b : Bool) → is_changed pool (wanted_need pool w) ≡ b → text_at now (new_index pool texts (wanted_need pool w)) ≡ Some (wanted_need pool w).text
     go true e =
         ap (text_at now) (index_when pool texts (wanted_need pool w) true e)
@@ -216,6 +217,7 @@ module _ (pool : List Constant) (texts : List Name) (n : ℕ) (now : List Consta
       of_text t =
           let now_is = text_kept d t.value t.is in
           at_some P (text_at pool d) t.value t.is (subst (λ (o : Option Name). IsSomeAnd o P) now_is h)
+
       back : AreNames pool name d → NamesText P pool d
       back (inl fields) = let t = there IsFieldDescriptor (text_at pool d) fields.1 in of_text (record { value = t.value; is = t.is; such = tt })
       back (inr methods) = let t = there IsMethodDescriptor (text_at pool d) methods.1 in of_text (record { value = t.value; is = t.is; such = tt })

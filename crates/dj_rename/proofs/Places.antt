@@ -110,6 +110,7 @@ same_place (x ∷ texts) extra text h = elim (cases_Bool (same_name text x)) [
 ] where
   first : same_name text x ≡ true → (n : ℕ) → (if same_name x text then 0 else suc n) ≡ 0
   first so n = ap (λ (b : Bool). if b then 0 else suc n) (same_sym x text ∙ so)
+
   next : same_name text x ≡ false → (n : ℕ) → (if same_name x text then 0 else suc n) ≡ suc n
   next other n = ap (λ (b : Bool). if b then 0 else suc n) (same_sym x text ∙ other)
 

@@ -56,9 +56,9 @@ step_placed before x texts text false true k s one two =
 step_placed before x texts text false false k s one two =
     ap (λ (b : Bool). has before text || (b || has (first_places (before ++ x ∷ []) texts) text)) s
     ∙ merge (has before text) (has (first_places (before ++ x ∷ []) texts) text)
-        (ap (λ (b : Bool). b || has (first_places (before ++ x ∷ []) texts) text)
-            (sym (list_any-append (same_name text) before (x ∷ []) ∙ ap (λ (b : Bool). has before text || (b || false)) s))
-        ∙ two refl)
+    (ap (λ (b : Bool). b || has (first_places (before ++ x ∷ []) texts) text)
+    (sym (list_any-append (same_name text) before (x ∷ []) ∙ ap (λ (b : Bool). has before text || (b || false)) s))
+    ∙ two refl)
 
 skips : (b : Bool) (text : Name) (texts : List Name) → (b || has texts text) ≡ true → b ≡ false → has texts text ≡ true
 skips b text texts h e = sym (ap (λ (c : Bool). c || has texts text) e) ∙ h
@@ -68,8 +68,8 @@ unfolding first_places
 all_placed before [] text h = absurd cc
 all_placed before (x ∷ texts) text h =
     step_placed before x texts text (has before x) (same_name text x) refl refl
-        (λ e. all_placed before texts text (skips (same_name text x) text texts h e))
-        (λ e. all_placed (before ++ x ∷ []) texts text (skips (same_name text x) text texts h e))
+    (λ e. all_placed before texts text (skips (same_name text x) text texts h e))
+    (λ e. all_placed (before ++ x ∷ []) texts text (skips (same_name text x) text texts h e))
 
 step_at : (x : Name) (texts : List Name) (text : Name) (same other : Bool) → same_name x text ≡ same → same_name text x ≡ other
     → (other ≡ false → slice_get texts (place_of texts text) ≡ Some text) → slice_get (x ∷ texts) (if same then 0 else suc (place_of texts text)) ≡ Some text
@@ -172,12 +172,12 @@ module _ (pool : List Constant) (descs : List ℕ) where
   text_appended place text h =
       ap (λ (i : ℕ). option_and_then text_of (constant_at new i)) (one_more (length pool) place)
       ∙ ap (option_and_then text_of)
-          (slice_get_left (renamed_pool pool texts) (accounter_constants (first_index pool texts)) (length pool + place) (Utf8 text)
-          (slice_get_right (map (renamed_constant pool texts) pool) (map Utf8 texts) place (length pool + place)
-              (omega (arith, length_map (renamed_constant pool texts) pool))
-          ∙ slice_get-map Utf8 texts place ∙ ap (option_map Utf8) h)) where
-    one_more : (a b : ℕ) → a + 1 + b ≡ suc (a + b)
-    one_more a b = omega arith
+      (slice_get_left (renamed_pool pool texts) (accounter_constants (first_index pool texts)) (length pool + place) (Utf8 text)
+      (slice_get_right (map (renamed_constant pool texts) pool) (map Utf8 texts) place (length pool + place)
+      (omega (arith, length_map (renamed_constant pool texts) pool))
+      ∙ slice_get-map Utf8 texts place ∙ ap (option_map Utf8) h)) where
+        one_more : (a b : ℕ) → a + 1 + b ≡ suc (a + b)
+        one_more a b = omega arith
 
   -- so has an original one
   pub text_kept : (i : ℕ) (text : Name) → text_at pool i ≡ Some text → text_at new i ≡ Some text
@@ -209,6 +209,7 @@ module _ (pool : List Constant) (descs : List ℕ) where
   need_met need old among there = go (is_changed pool need) refl where
     name_is : name_in pool need.index ≡ old
     name_is = ap (λ (o : Option (List ℕ)). unwrap_or o []) there
+
     go : (b : Bool) → is_changed pool need ≡ b → text_at new (if b then length pool + 1 + place_of texts need.text else need.index) ≡ Some need.text
     go true e = text_appended (place_of texts need.text) need.text (placed_at texts need.text (all_placed [] (changed_texts pool descs) need.text (is_among pool need (needs pool descs) among e)))
     go false e = text_kept need.index old there ∙ ap (λ (x : Name). Some x) (sym (same_is need.text (name_in pool need.index) (not_false (same_name need.text (name_in pool need.index)) e) ∙ name_is))
@@ -252,7 +253,7 @@ module _ (pool : List Constant) (descs : List ℕ) where
       ap (λ (o : Option Constant). option_and_then (λ (x : ℕ × ℕ). both (text_at new x.0) (text_at new x.1)) (option_and_then names_of o)) (constant_kept i (NameAndType name desc) h)
       ∙ ap (λ (o : Option (List ℕ)). both o (text_at new (new_index pool texts (desc_need pool 0 desc)))) (text_kept name n s)
       ∙ ap (λ (o : Option (List ℕ)). both (Some n) o) (need_met (desc_need pool 0 desc) d (desc_is_needed i name desc h) t
-          ∙ ap (λ (x : Name). Some (renamed_desc x)) (in_name desc d t))
+      ∙ ap (λ (x : Name). Some (renamed_desc x)) (in_name desc d t))
 
   -- the text of each need that is among them is appended
   pub is_settled : (need : Need) → list_any (is_need need) (needs pool descs) ≡ true → is_changed pool need ≡ true → list_any (same_name need.text) (appended_texts pool descs) ≡ true

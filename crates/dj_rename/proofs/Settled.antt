@@ -46,10 +46,11 @@ module _ (pool : List Constant) (members : List ℕ) where
     settled_from : (list : List ℕ) → ((desc : ℕ) → list_any (nat_eq desc) list ≡ true → list_any (nat_eq desc) members ≡ true)
         → AllByRecursion (λ (desc : ℕ). IsSettled pool texts (desc_need pool desc desc)) list
     settled_from [] within = tt
-    settled_from (desc ∷ list) within =
-        (subst (λ (l : List Name). IsSettled pool l (desc_need pool desc desc)) (sym same)
-            (is_settled pool members (desc_need pool desc desc) (member_is_needed pool members desc (within desc (ap (λ (b : Bool). b || list_any (nat_eq desc) list) (eq-eqb desc desc refl))))),
-        settled_from list (λ d h. within d (later (nat_eq d desc) (list_any (nat_eq d) list) h))) where
+    settled_from (desc ∷ list) within = (
+      subst (λ (l : List Name). IsSettled pool l (desc_need pool desc desc)) (sym same)
+          (is_settled pool members (desc_need pool desc desc) (member_is_needed pool members desc (within desc (ap (λ (b : Bool). b || list_any (nat_eq desc) list) (eq-eqb desc desc refl))))),
+      settled_from list (λ d h. within d (later (nat_eq d desc) (list_any (nat_eq d) list) h)),
+    ) where
       later : (a b : Bool) → b ≡ true → (a || b) ≡ true
       later true b h = refl
       later false b h = h

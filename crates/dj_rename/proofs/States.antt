@@ -52,6 +52,7 @@ module _ (pool : List Constant) (before now : List Name) where
   state_next tables w new state there meets = go w.role (table_below pool before tables w state there) (record { settled = meets.placed.settled; index_is = meets.placed.index_is }) where
     old : (role : Role) (i : ℕ) → IsKnown pool now role i (get_or (table role tables) i 0)
     old role i = known_on meets.extra role i (get_or (table role tables) i 0) meets.more (state.known role i)
+
     go : (role : Role) → w.index < length (table role tables) → IsPlaced pool now (role_need pool role w.index w.index) new → IsState pool now (with_known role w.index new tables)
     go roles.Class inside placed = record {
       few = meets.few;

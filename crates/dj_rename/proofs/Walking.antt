@@ -28,7 +28,7 @@ module _ (pool : List Constant) where
 
   pub at_need : (texts : List Name) (need : Need) (more : List Need) (b c : Bool) → is_changed pool need ≡ b → has_text texts need.text ≡ c
       → refusal_from pool texts (need ∷ more)
-        ≡ (if b && not c then first_error (refusal_at (length pool + length texts + 1) need) (refusal_from pool (texts ++ need.text ∷ []) more) else refusal_from pool texts more)
+      ≡ (if b && not c then first_error (refusal_at (length pool + length texts + 1) need) (refusal_from pool (texts ++ need.text ∷ []) more) else refusal_from pool texts more)
   unfolding refusal_from
   at_need texts need more b c e h =
       ap (λ (x : Bool). if x && not (has_text texts need.text) then first_error (refusal_at (length pool + length texts + 1) need) (refusal_from pool (texts ++ need.text ∷ []) more) else refusal_from pool texts more) e

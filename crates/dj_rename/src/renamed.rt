@@ -53,11 +53,7 @@ fn append_texts<'t>(now: &mut Pool<'t>, texts: &'t Texts) -> Result<(), RenameEr
 
 // A copy of the constants with the texts after them.
 #[tactic(auto, using(crate::proofs::Halfway::half_first))]
-fn with_texts<'t>(
-    alloc: Global,
-    pool: &Pool<'t>,
-    texts: &'t Texts,
-) -> Result<Pool<'t>, RenameError>
+fn with_texts<'t>(alloc: Global, pool: &Pool<'t>, texts: &'t Texts) -> Result<Pool<'t>, RenameError>
     requires valid { IsPool pool.now }
     requires few { length pool.now + length texts.now ≤ last_index }
     requires whole { (place : ℕ) → place < length texts.now → IsWhole (Utf8 (get_or texts.now place [])) }

@@ -3,9 +3,7 @@ ghost use Rattle.std.specs.Prelude.{IsTrue};
 ghost use Rattle.dj_pool.specs.trusted.Pool.{IsClassText};
 ghost use Rattle.dj_rename.specs.Refusals.{IsDescriptor};
 
-use dj_names::{
-    is_array_descriptor, is_class_name, is_field_descriptor, is_method_descriptor,
-};
+use dj_names::{is_array_descriptor, is_class_name, is_field_descriptor, is_method_descriptor};
 use std::alloc::{AllocError, Global};
 
 /// Pieces that follow one another, each with how many times it stands there.

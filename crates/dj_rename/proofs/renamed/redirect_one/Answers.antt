@@ -19,5 +19,5 @@ returns-in_ok-index-in-Some-clause-half c =
     let low : c.in_ok-index-in-Some.index < 2 ^ 16 = subst (λ (n : ℕ). n < 2 ^ 16) (sym c.in_ok-index-in-Some.ensures.ok) fits in
     on_ok_weaker c.redirect.result
     (λ r. next_at c.args.pool.now c.args.texts.now c.args.place c.args.now.now k c.in-Some.wanted c.in_ok-index-in-Some.index c.redirect.new.now c.requires.valid c.requires.half c.requires.at
-        c.in-Some.ensures c.in_ok-index-in-Some.ensures.ok settled low r)
+    c.in-Some.ensures c.in_ok-index-in-Some.ensures.ok settled low r)
     c.redirect.ensures.ok

@@ -7,5 +7,5 @@ pub returns : goal.returns
 returns c =
     let absent = subst (λ l. has_text l c.args.text.now ≡ false) (sym c.self.view_is) c.requires in
     ap (map (λ text. text.items)) c.in_ok-insert.ensures.keys
-        ∙ (put_text c.self.inside.texts.keys (λ text. text.items) c.in_ok-copy.copy c.args.text.now c.in_ok-copy.ensures.items absent
-        ∙ ap (λ l. l ++ c.args.text.now ∷ []) c.self.view_is)
+    ∙ (put_text c.self.inside.texts.keys (λ text. text.items) c.in_ok-copy.copy c.args.text.now c.in_ok-copy.ensures.items absent
+    ∙ ap (λ l. l ++ c.args.text.now ∷ []) c.self.view_is)
