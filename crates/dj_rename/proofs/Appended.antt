@@ -1,20 +1,19 @@
 -- The appended texts are valid, and fit.
-use Rattle.std.proofs.Common.{◌≡◌, ℕ, zero, suc, ◌+◌, ◌≤◌, ◌<◌, ◌^◌, Bool, true, false, ◌&&◌, not, List, [], ◌∷◌, ◌++◌, map, filter, length, get_or, Option, Some, None, slice_get, option_and_then, refl, sym, ap, subst, ◌∙◌, arith, ◌⊎◌, inl, inr, if◌then◌else◌, unwrap_or, length-append}
-use Rattle.std.specs.Prelude.{IsSomeAnd, ⊤, nat_lt}
-use Rattle.std.specs.List.{AllByRecursion, list_any}
-use Rattle.std.proofs.lemmas.Bool.{cases_Bool, false≢true, ltb-false}
-use Rattle.dj_names.specs.trusted.Types.{Name, same_name}
+use Rattle.std.proofs.Common.{◌≡◌, ℕ, zero, suc, ◌+◌, ◌≤◌, ◌<◌, Bool, true, false, List, [], ◌∷◌, ◌++◌, map, length, get_or, Option, Some, None, slice_get, refl, sym, ap, subst, ◌∙◌, arith, if◌then◌else◌, unwrap_or, length-append}
+use Rattle.std.specs.Prelude.{IsSomeAnd, nat_lt}
+use Rattle.std.specs.List.{AllByRecursion}
+use Rattle.std.proofs.lemmas.Bool.{ltb-false}
+use Rattle.dj_names.specs.trusted.Types.{Name}
 use Rattle.dj_names.specs.trusted.ModifiedUtf8.{IsModifiedUtf8}
-use Rattle.dj_pool.specs.trusted.Pool.{Constant, Utf8, constant_at, text_of, text_at, NamesText, IsWhole, IsPool}
+use Rattle.dj_pool.specs.trusted.Pool.{Constant, Utf8, constant_at, text_at, IsWhole, IsPool}
 use Rattle.dj_pool.specs.Answers.{last_index}
-use Rattle.dj_declarations.specs.trusted.Files.{name_in}
 use Rattle.dj_rename.specs.declared.error.RenameError.{RenameError}
 use Rattle.dj_rename.specs.declared.error.RenameError.TheVariants as errors
 use Rattle.dj_rename.specs.declared.wanted.Role.{Role}
 use Rattle.dj_rename.specs.declared.wanted.Role.TheVariants as roles
 use Rattle.dj_rename.specs.declared.wanted.Wanted.{Wanted}
-use Rattle.dj_rename.specs.Pools.{Need, is_changed, first_places, need_text, need_of, needs_from, needs, option_list, desc_need, appended_texts}
-use Rattle.dj_rename.specs.Refusals.{most_bytes, refusal_at, first_error, refusal_from, refusal, AreAppended, IsDescIndex, IsDescriptor}
+use Rattle.dj_rename.specs.Pools.{Need, is_changed, first_places, need_of, needs_from, needs, option_list, desc_need, appended_texts}
+use Rattle.dj_rename.specs.Refusals.{most_bytes, refusal_at, first_error, refusal_from, refusal, AreAppended, IsDescIndex}
 use Rattle.dj_rename.specs.Renaming.{has_text, changed_texts, IsRoleText, respelled, wanted_by, wanted_need, IsWanted}
 use Rattle.dj_rename.proofs.Utf8.{renamed_class_stays, renamed_desc_stays}
 use Rattle.dj_rename.proofs.PoolTexts.{utf8_at, wanted_there, need_is, no_need}

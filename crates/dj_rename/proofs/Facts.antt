@@ -1,14 +1,13 @@
 -- Renamed texts and a renamed pool by plain values, each with something that it is not.
-use Rattle.std.proofs.Common.{◌≡◌, ℕ, true, false, List, [], ◌∷◌, ◌++◌, map, length, Option, Some, None, refl, codes}
+use Rattle.std.proofs.Common.{◌≡◌, List, [], ◌∷◌, map, length, Some, None, refl, codes}
 use Rattle.std.specs.Prelude.{slice_get}
-use Rattle.dj_names.specs.trusted.Types.{Name, same_name}
 use Rattle.dj_names.specs.trusted.NameReading.{reads_class_name}
 use Rattle.dj_names.specs.trusted.DescReading.{desc_read, method_read, params_read, type_read, dims_read, of_read, class_read, name_read, return_read, field_read}
 use Rattle.dj_pool.specs.trusted.Pool.{Constant, Utf8, Class, Text, NameAndType, Method}
 use Rattle.dj_declarations.specs.trusted.Files.{type_in, desc_in}
 use Rattle.dj_rename.specs.declared.error.RenameError.TheVariants as errors
 use Rattle.dj_rename.specs.Names.{renamed_class, renamed_desc, plain_text}
-use Rattle.dj_rename.specs.Pools.{Need, needs, first_places, appended_texts, place_of, renamed_pool, renamed_descs, accounter_constants, rewritten_pool}
+use Rattle.dj_rename.specs.Pools.{Need, needs, first_places, appended_texts, renamed_pool, renamed_descs, accounter_constants, rewritten_pool}
 use Rattle.dj_rename.specs.Refusals.{refusal_at, refusal_from, refusal}
 
 -- ---- one text

@@ -1,29 +1,27 @@
 -- One constant after the other gets its new text, and the pool stays valid.
-use Rattle.std.proofs.Common.{◌≡◌, ℕ, zero, suc, ◌+◌, ◌-◌, ◌≤◌, ◌<◌, ◌^◌, Bool, true, false, not, List, [], ◌∷◌, ◌++◌, map, take, drop, set, length, get_or, Option, Some, None, slice_get, option_and_then, refl, sym, ap, subst, ◌∙◌, append_assoc, arith, ◌⊎◌, inl, inr, if◌then◌else◌, unwrap_or, length-append, add-one}
+use Rattle.std.proofs.Common.{◌≡◌, ℕ, zero, suc, ◌+◌, ◌-◌, ◌≤◌, ◌<◌, ◌^◌, Bool, true, false, not, List, [], ◌∷◌, ◌++◌, map, take, drop, set, length, get_or, Option, Some, None, slice_get, option_and_then, refl, sym, ap, subst, ◌∙◌, append_assoc, arith, inl, inr, unwrap_or, length-append, add-one}
 use Rattle.std.specs.Prelude.{IsSomeAnd, ⊤}
 use Rattle.std.specs.Option.{option_map}
-use Rattle.std.proofs.lemmas.Bool.{cases_Bool, false≢true}
 use Rattle.std.proofs.lemmas.List.{append-nil}
 use Rattle.std.proofs.lemmas.Option.{slice_get-map}
 use Rattle.dj_names.specs.trusted.Types.{Name, same_name}
 use Rattle.dj_names.specs.trusted.Names.{IsUnqualifiedName, IsMethodName}
 use Rattle.dj_names.specs.trusted.Descriptors.{IsFieldDescriptor, IsMethodDescriptor}
-use Rattle.dj_pool.specs.trusted.Pool.{Constant, Utf8, Integer, Float, Long, Double, Class, Text, Field, Method, InterfaceMethod, NameAndType, Handle, MethodType, Dynamic, Hole, indexed, constant_at, text_of, text_at, names_of, desc_at, IsClassText, NamesText, NamesDesc, AreNames, IsWhole, IsLinked, IsConstant, IsPool}
+use Rattle.dj_pool.specs.trusted.Pool.{Constant, Utf8, Integer, Float, Long, Double, Class, Text, Field, Method, InterfaceMethod, NameAndType, Handle, MethodType, Dynamic, Hole, indexed, constant_at, text_of, text_at, names_of, IsClassText, NamesText, AreNames, IsWhole, IsLinked, IsPool}
 use Rattle.dj_pool.specs.Answers.{with_text, last_index, length_with, HasText, MayHaveText, Redirects}
 use Rattle.dj_pool.specs.Laws.{KeepsKind}
 use Rattle.dj_pool.proofs.ChangeLaws.{appended_is_pool, one_narrow}
 use Rattle.dj_pool.proofs.RedirectLaws.{redirected_is_pool}
 use Rattle.dj_declarations.specs.trusted.Files.{name_in}
-use Rattle.dj_rename.specs.declared.wanted.Role.{Role}
 use Rattle.dj_rename.specs.declared.wanted.Role.TheVariants as roles
 use Rattle.dj_rename.specs.declared.wanted.Wanted.{Wanted}
 use Rattle.dj_rename.specs.Names.{renamed_class, renamed_desc}
-use Rattle.dj_rename.specs.Pools.{Need, is_changed, need_text, place_of, new_index, renamed_constant, renamed_pool}
-use Rattle.dj_rename.specs.Renaming.{has_text, respelled, IsRoleText, wanted_by, wanted_need, IsWanted, IsSettled}
+use Rattle.dj_rename.specs.Pools.{is_changed, place_of, new_index, renamed_constant, renamed_pool}
+use Rattle.dj_rename.specs.Renaming.{respelled, wanted_by, wanted_need, IsSettled}
 use Rattle.dj_rename.specs.Redirecting.{half_renamed, IsHalfway}
 use Rattle.dj_rename.proofs.NameLaws.{renamed_class_text, field_renamed, method_renamed}
 use Rattle.dj_rename.proofs.PoolLaws.{placed_at, slice_get_left, slice_get_right, same_is}
-use Rattle.dj_rename.proofs.PoolTexts.{linked_at, wanted_there}
+use Rattle.dj_rename.proofs.PoolTexts.{linked_at}
 use Rattle.dj_rename.proofs.Walking.{index_when}
 
 -- ---- lists of which the first elements are changed

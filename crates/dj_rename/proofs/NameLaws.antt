@@ -1,24 +1,22 @@
 -- Renamed texts spell renamed types.
-use Rattle.std.proofs.Common.{◌≡◌, ℕ, zero, suc, ◌+◌, ◌≤◌, ◌<◌, Bool, true, false, List, [], ◌∷◌, ◌++◌, map, length, Option, Some, None, ◌≢◌, refl, sym, ap, subst, ◌∙◌, arith, ◌⊎◌, inl, inr, codes, sum_by, IfSome, if◌then◌else◌, nat_eq, unwrap_or}
+use Rattle.std.proofs.Common.{◌≡◌, ℕ, zero, suc, ◌+◌, ◌≤◌, false, List, [], ◌∷◌, ◌++◌, map, Option, Some, None, ◌≢◌, refl, sym, ap, subst, ◌∙◌, arith, inl, inr, codes, sum_by, IfSome, nat_eq}
 use Rattle.std.specs.Option.{option_map}
-use Rattle.std.specs.List.{AllByRecursion, join_with_byte, starts_with}
+use Rattle.std.specs.List.{AllByRecursion, join_with_byte}
 use Rattle.dj_names.specs.declared.descriptor.Of.{Of}
 use Rattle.dj_names.specs.declared.descriptor.Of.TheVariants as ofs
 use Rattle.dj_names.specs.declared.descriptor.Ty.{Ty}
 use Rattle.dj_names.specs.declared.descriptor.Desc.{Desc}
 use Rattle.dj_names.specs.declared.descriptor.Desc.TheVariants as descs
-use Rattle.dj_names.specs.trusted.Names.{IsClassName, IsUnqualifiedName, IsNameByte}
-use Rattle.dj_names.specs.trusted.Types.{Name, class_type, of_map}
-use Rattle.dj_names.specs.Types.{type_map, desc_map, in_sandbox, sandbox_prefix}
-use Rattle.dj_names.specs.trusted.DescReading.{desc_read}
-use Rattle.dj_names.specs.trusted.Descriptors.{NamesClass, IsType, IsDesc, Describes, IsFieldDescriptor, IsMethodDescriptor, IsArrayDescriptor, type_slots, type_text, desc_text}
+use Rattle.dj_names.specs.trusted.Names.{IsClassName, IsNameByte}
+use Rattle.dj_names.specs.trusted.Types.{Name, of_map}
+use Rattle.dj_names.specs.Types.{type_map, desc_map, in_sandbox}
+use Rattle.dj_names.specs.trusted.Descriptors.{NamesClass, IsType, IsDesc, Describes, IsFieldDescriptor, IsMethodDescriptor, type_slots, type_text, desc_text}
 use Rattle.std.proofs.lemmas.List.Sums.{sum_by-cons}
 use Rattle.std.proofs.lemmas.Bool.{eqb-false, ne_eqb}
 use Rattle.dj_rename.proofs.ClassTexts.{desc_in_is, name_type, array_type}
 use Rattle.dj_pool.specs.trusted.Pool.{IsClassText}
 use Rattle.dj_model.specs.trusted.Natives.{class_name}
-use Rattle.dj_model.specs.trusted.Types.{no_parameters}
-use Rattle.dj_declarations.specs.trusted.Files.{type_in, desc_in, field_type}
+use Rattle.dj_declarations.specs.trusted.Files.{type_in, desc_in}
 use Rattle.dj_rename.specs.Names.{renamed_class, renamed_desc}
 
 -- ---- valid names and types stay valid

@@ -1,6 +1,5 @@
 -- What the constants of a rewritten class name.
-use Rattle.std.proofs.Common.{◌≡◌, ℕ, zero, suc, ◌+◌, ◌≤◌, ◌<◌, Bool, true, false, not, ◌&&◌, ◌||◌, List, [], ◌∷◌, ◌++◌, map, filter, length, Option, Some, None, slice_get, option_and_then, refl, sym, ap, subst, ◌∙◌, arith, ◌⊎◌, inl, inr, if◌then◌else◌, nat_eq, unwrap_or}
-use Rattle.std.specs.Prelude.{IsSomeAnd}
+use Rattle.std.proofs.Common.{◌≡◌, ℕ, zero, suc, ◌+◌, Bool, true, false, not, ◌&&◌, ◌||◌, List, [], ◌∷◌, ◌++◌, map, filter, length, Option, Some, None, slice_get, option_and_then, refl, sym, ap, subst, ◌∙◌, arith, ◌⊎◌, inl, inr, if◌then◌else◌, nat_eq, unwrap_or}
 use Rattle.std.specs.Option.{option_map}
 use Rattle.std.specs.List.{list_any}
 use Rattle.std.specs.Cmp.Lexicographic.{bytes_decides}
@@ -8,10 +7,7 @@ use Rattle.std.proofs.lemmas.Bool.{eqb-true, eq-eqb}
 use Rattle.std.proofs.lemmas.Option.{slice_get-map}
 use Rattle.std.proofs.lemmas.List.Folds.{list_any-append}
 use Rattle.dj_names.specs.trusted.Types.{Name, same_name}
-use Rattle.dj_names.specs.Types.{in_sandbox, type_map, desc_map}
-use Rattle.dj_names.specs.trusted.Descriptors.{Describes}
-use Rattle.dj_pool.specs.trusted.Pool.{Constant, Utf8, Integer, Float, Long, Double, Class, Text, Field, Method, InterfaceMethod, NameAndType, Handle, MethodType, Dynamic, Hole, constant_at, text_of, text_at, class_text_of, class_name_at, names_of, name_and_type_at, both, IsClassText}
-use Rattle.dj_pool.specs.Answers.{with_text}
+use Rattle.dj_pool.specs.trusted.Pool.{Constant, Utf8, Integer, Float, Long, Double, Class, Text, Field, Method, InterfaceMethod, NameAndType, Handle, MethodType, Dynamic, Hole, constant_at, text_of, text_at, class_text_of, class_name_at, names_of, name_and_type_at, both}
 use Rattle.dj_declarations.specs.trusted.Files.{name_in}
 use Rattle.dj_rename.specs.Names.{renamed_class, renamed_desc}
 use Rattle.dj_rename.specs.Pools.{Need, class_need, desc_need, need_of, needs_from, needs, option_list, is_changed, first_places, need_text, appended_texts, place_of, new_index, renamed_constant, renamed_pool, accounter_constants, first_index, rewritten_pool}

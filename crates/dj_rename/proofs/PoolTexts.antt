@@ -1,5 +1,5 @@
 -- The texts of a valid pool that may get other ones.
-use Rattle.std.proofs.Common.{◌≡◌, ℕ, zero, suc, ◌+◌, ◌≤◌, ◌<◌, ◌^◌, Bool, true, false, cond, List, [], ◌∷◌, ◌++◌, take, drop, map, length, get_or, Option, Some, None, slice_get, option_and_then, refl, sym, ap, subst, ◌∙◌, append_assoc, arith, add-one, ◌⊎◌, inl, inr}
+use Rattle.std.proofs.Common.{◌≡◌, ℕ, zero, suc, ◌+◌, ◌≤◌, ◌<◌, Bool, true, false, cond, List, [], ◌∷◌, ◌++◌, take, drop, map, length, get_or, Option, Some, None, slice_get, option_and_then, refl, sym, ap, subst, ◌∙◌, append_assoc, arith, add-one, inl, inr}
 use Rattle.std.specs.Prelude.{IsSomeAnd, ⊤}
 use Rattle.std.specs.List.{AllByRecursion}
 use Rattle.std.proofs.lemmas.List.{append-nil}
@@ -7,7 +7,7 @@ use Rattle.dj_names.specs.declared.descriptor.Desc.TheVariants as descs
 use Rattle.dj_names.specs.trusted.Types.{Name}
 use Rattle.dj_names.specs.trusted.ModifiedUtf8.{IsModifiedUtf8}
 use Rattle.dj_names.specs.trusted.Descriptors.{IsFieldDescriptor, IsMethodDescriptor}
-use Rattle.dj_pool.specs.trusted.Pool.{Constant, Utf8, Integer, Float, Long, Double, Class, Text, Field, Method, InterfaceMethod, NameAndType, Handle, MethodType, Dynamic, Hole, takes_two, indexed, constant_at, text_of, text_at, IsClassText, NamesText, AreNames, IsWhole, IsLinked, IsConstant, IsPool}
+use Rattle.dj_pool.specs.trusted.Pool.{Constant, Utf8, Integer, Float, Long, Double, Class, Text, Field, Method, InterfaceMethod, NameAndType, Handle, MethodType, Dynamic, Hole, takes_two, indexed, constant_at, text_of, text_at, NamesText, AreNames, IsLinked, IsConstant, IsPool}
 use Rattle.dj_pool.specs.declared.pool.Entry.{Entry}
 use Rattle.dj_pool.specs.Views.{constant_of}
 use Rattle.dj_rename.specs.declared.error.RenameError.{RenameError}
@@ -15,7 +15,7 @@ use Rattle.dj_rename.specs.declared.wanted.Wanted.{Wanted}
 use Rattle.dj_rename.specs.declared.wanted.Role.TheVariants as roles
 use Rattle.dj_rename.specs.Pools.{Need, need_of, needs_from, option_list, desc_need}
 use Rattle.dj_rename.specs.Refusals.{IsDescriptor}
-use Rattle.dj_rename.specs.Renaming.{IsRoleText, wanted_need, wanted_by, IsWanted, Steps, Refuses}
+use Rattle.dj_rename.specs.Renaming.{wanted_need, wanted_by, IsWanted, Steps, Refuses}
 use Rattle.dj_rename.proofs.Walking.{steps_join, refused_later, refused_sooner}
 
 -- ---- what is so of each constant is so at each index

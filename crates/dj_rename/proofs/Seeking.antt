@@ -1,12 +1,11 @@
 -- Where the renamed text of an index stands, by the text itself.
-use Rattle.std.proofs.Common.{◌≡◌, ℕ, ◌+◌, Bool, true, false, not, List, length, refl, sym, ap, subst, ◌∙◌, if◌then◌else◌}
-use Rattle.std.proofs.lemmas.Bool.{false≢true}
+use Rattle.std.proofs.Common.{◌≡◌, ℕ, ◌+◌, Bool, true, false, not, List, length, sym, ap, subst, ◌∙◌}
 use Rattle.dj_names.specs.trusted.Types.{Name, same_name}
 use Rattle.dj_pool.specs.trusted.Pool.{Constant}
 use Rattle.dj_declarations.specs.trusted.Files.{name_in}
 use Rattle.dj_rename.specs.declared.wanted.Wanted.{Wanted}
-use Rattle.dj_rename.specs.Pools.{Need, is_changed, place_of, new_index}
-use Rattle.dj_rename.specs.Renaming.{has_text, respelled, wanted_need, IsSettled, IsPlaced}
+use Rattle.dj_rename.specs.Pools.{is_changed, place_of}
+use Rattle.dj_rename.specs.Renaming.{has_text, respelled, wanted_need, IsPlaced}
 use Rattle.dj_rename.proofs.Walking.{index_when}
 
 module _ (pool : List Constant) (texts : List Name) (w : Wanted) (old text : Name) (old_is : name_in pool w.index ≡ old) (text_is : text ≡ respelled w.role old) where

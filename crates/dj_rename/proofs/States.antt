@@ -1,10 +1,10 @@
 -- What is known of the texts that were met.
 use Rattle.std.proofs.Common.{◌≡◌, ◌≢◌, ℕ, zero, suc, ◌+◌, ◌≤◌, ◌<◌, ◌^◌, Bool, true, false, List, [], ◌∷◌, ◌++◌, map, length, get_or, set, replicate, refl, sym, ap, subst, ◌∙◌, arith, inl, inr, length-set, get_or-set_same, get_or-set_other}
 use Rattle.std.specs.Prelude.{nat_eq}
-use Rattle.std.proofs.lemmas.Bool.{cases_Bool, false≢true, eqb-true, eqb-false}
+use Rattle.std.proofs.lemmas.Bool.{cases_Bool, eqb-true, eqb-false}
 use Rattle.std.proofs.lemmas.List.{append-nil}
 use Rattle.dj_names.specs.trusted.Types.{Name}
-use Rattle.dj_pool.specs.trusted.Pool.{Constant, NamesText, IsPool}
+use Rattle.dj_pool.specs.trusted.Pool.{Constant}
 use Rattle.dj_pool.specs.declared.pool.Entry.{Entry}
 use Rattle.dj_pool.specs.Views.{constant_of}
 use Rattle.dj_pool.specs.Answers.{last_index}
@@ -13,7 +13,7 @@ use Rattle.dj_rename.specs.declared.error.RenameError.TheVariants as errors
 use Rattle.dj_rename.specs.declared.wanted.Role.{Role}
 use Rattle.dj_rename.specs.declared.wanted.Role.TheVariants as roles
 use Rattle.dj_rename.specs.declared.wanted.Wanted.{Wanted}
-use Rattle.dj_rename.specs.Pools.{Need, is_changed, first_places, need_text, needs, appended_texts, new_index}
+use Rattle.dj_rename.specs.Pools.{Need, is_changed, first_places, needs, appended_texts, new_index}
 use Rattle.dj_rename.specs.Refusals.{refusal_from, refusal, AreAppended, RefusesTexts}
 use Rattle.dj_rename.specs.Renaming.{has_text, role_need, wanted_need, IsRoleText, IsWanted, IsSettled, IsPlaced, Tables, table, with_known, IsKnown, IsState, Steps, Refuses, Meets, changed_texts}
 use Rattle.dj_rename.proofs.PoolTexts.{index_below}

@@ -1,14 +1,13 @@
 -- What a class's text is renamed to, by how it begins.
-use Rattle.std.proofs.Common.{◌≡◌, ℕ, zero, suc, ◌≤◌, Bool, true, false, List, [], ◌∷◌, refl, sym, ap, ◌∙◌, arith, ◌⊎◌, inl, inr, Option}
+use Rattle.std.proofs.Common.{◌≡◌, ℕ, zero, suc, ◌≤◌, true, false, List, [], ◌∷◌, refl, sym, ap, ◌∙◌, arith, inl, inr, Option}
 use Rattle.std.specs.Prelude.{nat_eq}
 use Rattle.std.specs.List.{starts_with}
 use Rattle.std.proofs.lemmas.Bool.{ne_eqb}
-use Rattle.dj_names.specs.declared.descriptor.Of.{Of}
 use Rattle.dj_names.specs.declared.descriptor.Ty.{Ty}
 use Rattle.dj_names.specs.declared.descriptor.Desc.{Desc}
 use Rattle.dj_names.specs.declared.descriptor.Desc.TheVariants as descs
 use Rattle.dj_names.specs.trusted.Names.{IsClassName}
-use Rattle.dj_names.specs.trusted.Types.{Name, of_map, class_type}
+use Rattle.dj_names.specs.trusted.Types.{Name}
 use Rattle.dj_names.specs.Types.{type_map, desc_map, in_sandbox, sandbox_prefix}
 use Rattle.dj_names.specs.trusted.Descriptors.{Describes, IsArrayDescriptor, type_text, desc_text}
 use Rattle.dj_pool.specs.trusted.Pool.{IsClassText}

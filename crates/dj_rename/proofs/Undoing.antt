@@ -1,14 +1,14 @@
 -- The laws of renamed texts.
-use Rattle.std.proofs.Common.{◌≡◌, ℕ, zero, suc, ◌≤◌, List, ◌++◌, refl, sym, ap, ◌∙◌, ◌⊎◌, inl, inr}
+use Rattle.std.proofs.Common.{◌≡◌, refl, sym, ap, ◌∙◌, inl, inr}
 use Rattle.dj_names.specs.declared.descriptor.Of.{Of}
 use Rattle.dj_names.specs.declared.descriptor.Of.TheVariants as ofs
 use Rattle.dj_names.specs.declared.descriptor.Ty.{Ty}
-use Rattle.dj_names.specs.trusted.Types.{Name, of_map}
+use Rattle.dj_names.specs.trusted.Types.{Name}
 use Rattle.dj_names.specs.Types.{type_map, desc_map, in_sandbox, sandbox_prefix}
 use Rattle.dj_pool.specs.trusted.Pool.{IsClassText}
-use Rattle.dj_model.specs.trusted.Natives.{class_name, plain_name, plain_class}
+use Rattle.dj_model.specs.trusted.Natives.{class_name, plain_class}
 use Rattle.dj_declarations.specs.trusted.Files.{type_in}
-use Rattle.dj_rename.specs.Names.{renamed_class, plain_text}
+use Rattle.dj_rename.specs.Names.{plain_text}
 use Rattle.dj_rename.specs.Laws.{ClassesInSandbox, DescsInSandbox, PlainUndoes}
 use Rattle.dj_rename.proofs.ClassTexts.{name_type, array_type}
 use Rattle.dj_rename.proofs.NameLaws.{type_renamed, desc_renamed, renamed_class_text, renamed_describes}

@@ -1,5 +1,4 @@
 -- Texts of classes and descriptors with `sandbox/` before each class's name, and without it.
-use Rattle.std.specs.Prelude.{ℕ, List}
 use Rattle.dj_names.specs.trusted.Types.{Name}
 use Rattle.dj_names.specs.trusted.Descriptors.{desc_text}
 use Rattle.dj_names.specs.Types.{type_map, desc_map, in_sandbox, sandbox_prefix}

@@ -1,12 +1,11 @@
 -- The constants of a rewritten class.
-use Rattle.std.specs.Prelude.{◌≡◌, ℕ, suc, ◌+◌, ◌≤◌, ◌<◌, ◌⊎◌, Bool, true, false, List, [], ◌∷◌, ◌++◌, map, filter, length, Option, Some, None, IfSome, nat_eq, if◌then◌else◌, not, unwrap_or}
-use Rattle.std.specs.Option.{option_map}
-use Rattle.std.specs.List.{flat_map, list_any, AllByRecursion}
+use Rattle.std.specs.Prelude.{ℕ, suc, ◌+◌, ◌≤◌, ◌<◌, Bool, List, [], ◌∷◌, ◌++◌, map, filter, length, Option, Some, None, if◌then◌else◌, not}
+use Rattle.std.specs.List.{list_any, AllByRecursion}
 use Rattle.dj_names.specs.trusted.Types.{Name, same_name}
 use Rattle.dj_names.specs.trusted.Descriptors.{desc_text}
 use Rattle.dj_names.specs.trusted.Library.{LibraryMethod}
 use Rattle.dj_names.specs.Library.{accounter_class, accounter_methods}
-use Rattle.dj_pool.specs.trusted.Pool.{Constant, Utf8, Class, NameAndType, MethodType, Method, text_at}
+use Rattle.dj_pool.specs.trusted.Pool.{Constant, Utf8, Class, NameAndType, MethodType, Method}
 use Rattle.dj_pool.specs.Answers.{with_text, last_index}
 use Rattle.dj_declarations.specs.trusted.Files.{name_in}
 use Rattle.dj_rename.specs.Names.{renamed_class, renamed_desc}

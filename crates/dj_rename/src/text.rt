@@ -1,7 +1,7 @@
 //! One text renamed.
-ghost use Rattle.std.specs.Prelude.{◌≡◌, ◌∷◌, [], ℕ, nat_eq, IfOk, IfErr};
+ghost use Rattle.std.specs.Prelude.{◌≡◌, ◌∷◌, [], nat_eq, IfOk, IfErr};
 ghost use Rattle.std.specs.List.{starts_with};
-ghost use Rattle.dj_names.specs.trusted.Descriptors.{Describes, IsArrayDescriptor};
+ghost use Rattle.dj_names.specs.trusted.Descriptors.{IsArrayDescriptor};
 ghost use Rattle.dj_pool.specs.trusted.Pool.{IsClassText};
 ghost use Rattle.dj_declarations.specs.trusted.Files.{desc_in, type_in};
 ghost use Rattle.dj_rename.specs.Names.{renamed_class, renamed_desc, plain_text};

@@ -1,5 +1,5 @@
 //! The texts that are appended to a pool, each once.
-ghost use Rattle.std.specs.Prelude.{◌≡◌, ◌<◌, ◌∷◌, [], ◌++◌, false, get_or, length, OnOk, OnErr};
+ghost use Rattle.std.specs.Prelude.{◌≡◌, ◌<◌, ◌∷◌, [], ◌++◌, false, get_or, length, OnOk};
 ghost use Rattle.dj_rename.specs.Renaming.{has_text, IsPlaceOf};
 
 use indexmap::IndexSet;

@@ -1,5 +1,5 @@
 use Rattle.std.proofs.Common.{sym, subst}
-use Rattle.dj_rename.specs.Renaming.{IsState, wanted_need}
+use Rattle.dj_rename.specs.Renaming.{IsState}
 use Rattle.dj_rename.proofs.States.{state_next}
 use Rattle.dj_rename.proofs.walk.meet.Goals as goal
 

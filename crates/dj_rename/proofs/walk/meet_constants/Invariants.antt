@@ -1,4 +1,4 @@
-use Rattle.std.proofs.Common.{◌≡◌, ℕ, map, take}
+use Rattle.std.proofs.Common.{take}
 use Rattle.dj_rename.specs.Pools.{needs_from}
 use Rattle.dj_rename.specs.Renaming.{Steps, IsState}
 use Rattle.dj_rename.proofs.walk.meet_constants.Given as goal

@@ -1,4 +1,4 @@
-use Rattle.std.proofs.Common.{◌≡◌, ℕ, map, take}
+use Rattle.std.proofs.Common.{ℕ, map, take}
 use Rattle.dj_rename.specs.Pools.{desc_need}
 use Rattle.dj_rename.specs.Renaming.{Steps, IsState}
 use Rattle.dj_rename.proofs.walk.meet_descs.Given as goal

@@ -1,4 +1,4 @@
-use Rattle.std.proofs.Common.{◌≡◌, ◌++◌, ◌∷◌, [], Bool, false, map, sym, ap, ◌∙◌, subst}
+use Rattle.std.proofs.Common.{◌≡◌, ◌++◌, ◌∷◌, [], false, map, sym, ap, ◌∙◌, subst}
 use Rattle.dj_rename.specs.Renaming.{has_text}
 use Rattle.dj_rename.proofs.Places.{put_text}
 use Rattle.dj_rename.proofs.texts.Texts.push.Goals as goal
