@@ -1,5 +1,6 @@
 -- Where the renamed text of an index stands, by the text itself.
 use Rattle.std.proofs.Common.{◌≡◌, ℕ, ◌+◌, Bool, true, false, not, List, length, sym, ap, subst, ◌∙◌}
+use Rattle.std.proofs.lemmas.Bool.{false≢true}
 use Rattle.dj_names.specs.trusted.Types.{Name, same_name}
 use Rattle.dj_pool.specs.trusted.Pool.{Constant}
 use Rattle.dj_declarations.specs.trusted.Files.{name_in}
