@@ -7,3 +7,6 @@ pub mod TargetFacts
 pub mod SpellingFacts
 pub mod CutFacts
 pub mod PartFacts
+pub mod MethodFacts
+pub mod WholeFacts
+mod RowFacts

@@ -1,8 +1,12 @@
 -- The next handler from a number on, and the pieces of a range by it.
-use Rattle.std.proofs.Common.{◌≡◌, ℕ, zero, suc, ◌+◌, ◌-◌, ◌<◌, ◌≤◌, ◌⊎◌, inl, inr, Bool, true, false, List, [], ◌∷◌, length, refl, sym, ap, subst, ◌∙◌, arith, if◌then◌else◌}
+use Rattle.std.proofs.Common.{◌≡◌, ℕ, zero, suc, ◌+◌, ◌-◌, ◌<◌, ◌≤◌, ◌⊎◌, inl, inr, Bool, true, false, List, [], ◌∷◌, length, get_or, set, refl, sym, ap, subst, ◌∙◌, arith, if◌then◌else◌}
+use Rattle.std.proofs.lemmas.List.{get_or-set_same, get_or-set_other}
 use Rattle.dj_groups.specs.Groups.{Group, start, own, group_at, cut}
+use Rattle.dj_emit.specs.declared.parts.GroupPart.{GroupPart}
+use Rattle.dj_emit.specs.Parts.{groups_seen}
 use Rattle.dj_emit.specs.Places.{IsNext}
 use Rattle.dj_emit.proofs.Orders.{split_le}
+use Rattle.dj_emit.proofs.Steps.{group_is, length_groups}
 
 pub next_end : (gs : List Group) → IsNext gs (length gs) (length gs)
 next_end gs = record { low = omega arith; high = omega arith; between = λ j low high. absurd (omega (arith, low, high)); there = λ less. absurd (omega (arith, less)) }
@@ -20,6 +24,34 @@ next_later gs k next is n = record {
   go : (j : ℕ) → j < next → (k ≡ j) ⊎ (k + 1 ≤ j) → (group_at gs j).arrives ≡ false
   go j high (inl e) = subst (λ (x : ℕ). (group_at gs x).arrives ≡ false) e is
   go j high (inr low) = n.between j low high
+
+next_by : (gs : List Group) (k later : ℕ) (b : Bool) → (group_at gs k).arrives ≡ b → k < length gs → IsNext gs (k + 1) later → IsNext gs k (if b then k else later)
+next_by gs k later true e within n = next_here gs k within e
+next_by gs k later false e within n = next_later gs k later e n
+
+-- ---- the table of these, from the end on
+
+pub table_more : (parts : List GroupPart) (nexts : List ℕ) (k x : ℕ) (d : GroupPart) → 0 < k → k ≤ length parts → length nexts ≡ length parts + 1
+    → ((j : ℕ) → k ≤ j → j ≤ length parts → IsNext (groups_seen parts) j (get_or nexts j 0))
+    → x ≡ (if (get_or parts (k - 1) d).arrives then k - 1 else get_or nexts (k - 1 + 1) 0)
+    → (j : ℕ) → k - 1 ≤ j → j ≤ length parts → IsNext (groups_seen parts) j (get_or (set nexts (k - 1) x) j 0)
+table_more parts nexts k x d some within all each is j low high = go (split_le (k - 1) j low) where
+  on : k - 1 + 1 ≡ k
+  on = omega (arith, some)
+
+  here : IsNext (groups_seen parts) (k - 1) x
+  here =
+      subst (IsNext (groups_seen parts) (k - 1)) (sym is)
+      (next_by (groups_seen parts) (k - 1) (get_or nexts (k - 1 + 1) 0) (get_or parts (k - 1) d).arrives (ap (λ (g : Group). g.arrives) (group_is parts (k - 1) d (omega (arith, some, within))))
+      (omega (arith, some, within, length_groups parts))
+      (each (k - 1 + 1) (omega (arith, on)) (omega (arith, on, within))))
+
+  go : (k - 1 ≡ j) ⊎ (k - 1 + 1 ≤ j) → IsNext (groups_seen parts) j (get_or (set nexts (k - 1) x) j 0)
+  go (inl e) =
+      subst (λ (y : ℕ). IsNext (groups_seen parts) y (get_or (set nexts (k - 1) x) y 0)) e
+      (subst (IsNext (groups_seen parts) (k - 1)) (sym (get_or-set_same nexts (k - 1) x 0 (omega (arith, some, within, all)))) here)
+  go (inr more) =
+      subst (IsNext (groups_seen parts) j) (sym (get_or-set_other nexts (k - 1) j x 0 (λ e. absurd (omega (arith, e, more))))) (each j (omega (arith, on, more)) high)
 
 -- ---- cuts
 

@@ -69,3 +69,8 @@ module _ (gs : List Group) where
 pub numbers_low : (n : ℕ) (targets : List ℤ) → AllByRecursion (IsNumber n) targets → AllByRecursion (IsNumber (n + 1)) targets
 numbers_low n [] h = tt
 numbers_low n (t ∷ ts) h = ((h.0.0, omega (arith, ints, h.0.1)), numbers_low n ts h.1)
+
+pub pair_number : (n : ℕ) (pairs : List (ℤ × ℤ)) (i : ℕ) (d : ℤ × ℤ) → AllByRecursion (IsNumber n) (map (λ pair. pair.1) pairs) → i < length pairs → IsNumber n (get_or pairs i d).1
+pair_number n [] i d h less = absurd (omega (arith, less))
+pair_number n (p ∷ ps) zero d h less = h.0
+pair_number n (p ∷ ps) (suc i) d h less = pair_number n ps i d h.1 (omega (arith, less))

@@ -55,7 +55,7 @@ IsCharge imaged method number instr (Err (errors.BigObject n)) =
 IsCharge imaged method number instr (Err errors.Memory) = ⊥
 
 abbrev pub ObjectAt : Imaged → ℕ → ℕ → Result Charge EmitError → Type 0
-ObjectAt imaged method number result = (index : ℕ) → slice_get (labelled_at imaged method).code number ≡ Some (instrs.Class 187 index) → IsCharge imaged method number (instrs.Class 187 index) result
+ObjectAt imaged method number result = (index : ℕ) → StandsAt imaged method number (instrs.Class 187 index) → IsCharge imaged method number (instrs.Class 187 index) result
 
 abbrev pub PartAt : Imaged → ℕ → ℕ → Instr → Bool → Result GroupPart EmitError → Type 0
 PartAt imaged method number instr arrives (Ok part) = group_seen part ≡ group_of (program_of imaged) arrives (named_at imaged method instr)

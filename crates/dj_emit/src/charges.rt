@@ -1,7 +1,7 @@
-ghost use Rattle.std.specs.Prelude.{◌≡◌, ◌&&◌, nat_le};
+ghost use Rattle.std.specs.Prelude.{◌≡◌};
 ghost use Rattle.dj_groups.specs.Groups.{other_charge};
 ghost use Rattle.dj_emit.specs.Parts.{charge_list};
-ghost use Rattle.dj_emit.specs.Charges.{array_list, is_monitor, jump_list, plain_list, simple_list};
+ghost use Rattle.dj_emit.specs.Charges.{array_list, is_monitor, is_new, jump_list, plain_list, simple_list};
 
 use crate::parts::{Charge, GroupPart};
 use dj_names::Element;
@@ -76,6 +76,16 @@ fn is_monitor_op(instr: &Instr) -> bool
 {
     match instr {
         Instr::Simple { op } => *op >= 194 && *op <= 195,
+        _ => false,
+    }
+}
+
+/// Whether it is `new`.
+pub(crate) fn makes_object(instr: &Instr) -> bool
+    ensures { result ≡ is_new instr.now }
+{
+    match instr {
+        Instr::Class { op, .. } => *op == 187,
         _ => false,
     }
 }

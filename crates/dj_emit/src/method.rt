@@ -8,12 +8,12 @@ ghost use Rattle.dj_emit.specs.Groups.{FitsSipush, HasGroups, IsRefusal, groups_
 ghost use Rattle.dj_emit.specs.Numbered.{IsCodeAt, IsNewAt, ObjectAt, PartAt, PartsAt, StandsAt};
 
 use crate::arrivals::arrivals;
-use crate::charges::plain_part;
+use crate::charges::{makes_object, plain_part};
 use crate::error::EmitError;
 use crate::parts::{Charge, GroupPart};
 use crate::size::ObjectSize;
 use crate::spelling::{Grouped, group_code};
-use dj_image::{Body, Image, MethodId, Operand};
+use dj_image::{Body, Image, MethodCode, MethodId, Operand};
 use dj_labels::Labelled;
 use dj_ops::Instr;
 use std::alloc::Global;
@@ -45,15 +45,15 @@ fn group_part(
     requires { StandsAt image.now method.number number instr.now }
     ensures { PartAt image.now method.number number instr.now arrives result }
 {
-    let part = plain_part(instr, arrives);
-    match instr {
-        Instr::Class { op: 187, .. } => Ok(GroupPart {
-            arrives: part.arrives,
-            charge: object_charge(image, method, number)?,
-            popped: part.popped,
-        }),
-        _ => Ok(part),
+    if !makes_object(instr) {
+        return Ok(plain_part(instr, arrives));
     }
+    let charge = object_charge(image, method, number)?;
+    Ok(GroupPart {
+        arrives,
+        charge,
+        popped: false,
+    })
 }
 
 // The groups of the method's code.
@@ -76,6 +76,19 @@ fn parts_of(
     Ok(parts)
 }
 
+// The code of a method that has some.
+fn code_of(image: &Image, method: MethodId) -> &MethodCode
+    requires there { method.number < length (all_methods (program_of image.now)) }
+    requires code { HasGroups image.now method.number }
+    ensures { IsCodeAt image.now method.number result.now.code }
+{
+    match image.body(method) {
+        Body::Code(code) => code,
+        Body::Native(_) => unreachable!(),
+        Body::Abstract => unreachable!(),
+    }
+}
+
 /// The code of a method in groups, with indexes of a pool that has the accounter's constants from `first` on.
 pub fn groups(
     alloc: Global,
@@ -92,9 +105,7 @@ pub fn groups(
     ensures fits { IfOk result (λ _. AllByRecursion FitsSipush (groups_at image.now method.number)) }
     ensures big { IfErr result (IsRefusal (groups_at image.now method.number)) }
 {
-    let Body::Code(code) = image.body(method) else {
-        unreachable!()
-    };
+    let code = code_of(image, method);
     let parts = parts_of(alloc, image, method, &code.code)?;
     Ok(group_code(alloc, first, parts, &code.code)?)
 }

@@ -1,4 +1,4 @@
-ghost use Rattle.std.specs.Prelude.{◌≡◌, ◌^◌, ◌<◌, length, IfOk};
+ghost use Rattle.std.specs.Prelude.{◌≡◌, ◌^◌, ◌<◌, length, IfOk, if◌then◌else◌};
 ghost use Rattle.dj_groups.specs.Groups.{starts, owns};
 ghost use Rattle.dj_emit.specs.Parts.{groups_seen};
 ghost use Rattle.dj_emit.specs.Places.{AreNexts, ArePlaces};
@@ -42,6 +42,13 @@ fn numbers_of(alloc: Global, groups: &[GroupPart]) -> Result<Numbers, AllocError
     Ok(Numbers { start, own })
 }
 
+// The next from a number on, where this one is the next after it.
+fn next_at(arrives: bool, number: u32, later: u32) -> u32
+    ensures { result ≡ (if arrives then number else later) }
+{
+    if arrives { number } else { later }
+}
+
 // For each number the next from it on whose instruction is the first of a handler, or the end.
 fn nexts_of(alloc: Global, groups: &[GroupPart]) -> Result<Vec<u32>, AllocError>
     requires { length groups.now < 2 ^ 16 }
@@ -51,11 +58,7 @@ fn nexts_of(alloc: Global, groups: &[GroupPart]) -> Result<Vec<u32>, AllocError>
     let mut k = groups.len();
     while k > 0 {
         k -= 1;
-        next[k] = if groups[k].arrives {
-            k as u32
-        } else {
-            next[k + 1]
-        };
+        next[k] = next_at(groups[k].arrives, k as u32, next[k + 1]);
     }
     Ok(next)
 }

@@ -1,11 +1,11 @@
-ghost use Rattle.std.specs.Prelude.{◌≡◌, ◌+◌, ◌++◌, ◌<◌, ◌^◌, true, length, map, IfOk, OnOk};
-ghost use Rattle.std.specs.List.{AllByRecursion, flat_map};
-ghost use Rattle.dj_labels.specs.trusted.Labels.{HasNumbers, address_of};
+ghost use Rattle.std.specs.Prelude.{◌≡◌, ◌+◌, ◌∷◌, [], ◌++◌, ◌<◌, ◌^◌, length, map, IfOk, OnOk};
+ghost use Rattle.std.specs.List.{AllByRecursion};
+ghost use Rattle.dj_labels.specs.trusted.Labels.{HasNumbers};
 ghost use Rattle.dj_labels.specs.Labels.{IsWellFormed};
 ghost use Rattle.dj_names.specs.trusted.Values.{element_size};
 ghost use Rattle.dj_groups.specs.Groups.{arrival, regrouped, spelled, start, starts, owns};
 ghost use Rattle.dj_groups.specs.Grouped.{call_index, element_push, inserted_instr, own_instr, labels_in_groups};
-ghost use Rattle.dj_emit.specs.Parts.{charge_list, group_seen, groups_seen};
+ghost use Rattle.dj_emit.specs.Parts.{charge_list, group_seen, groups_seen, own_by};
 ghost use Rattle.dj_emit.specs.Places.{ArePlaces};
 ghost use Rattle.dj_emit.specs.Aimed.{own_aimed};
 ghost use Rattle.dj_emit.specs.Spelled.{counter_seen};
@@ -73,10 +73,13 @@ fn push_bytes(element: Element) -> Instr
 }
 
 // What is inserted before the first instruction of a handler.
-fn put_arrival(out: &mut Instrs, first: u16) -> Result<(), AllocError>
+fn put_arrival(out: &mut Instrs, first: u16, arrives: bool) -> Result<(), AllocError>
     requires { first + 25 < 2 ^ 16 }
-    ensures { OnOk result (out.new ≡ out.old ++ map (inserted_instr first) (arrival true)) }
+    ensures { OnOk result (out.new ≡ out.old ++ map (inserted_instr first) (arrival arrives)) }
 {
+    if !arrives {
+        return Ok(());
+    }
     out.push(Instr::Simple { op: 89 })?;
     out.push(record_call(first, Counter::Catches))?;
     out.push(record_call(first, Counter::Throws))
@@ -113,6 +116,23 @@ fn put_charge(out: &mut Instrs, first: u16, charge: Charge) -> Result<(), AllocE
     }
 }
 
+// What becomes of the instruction itself.
+fn put_own(
+    alloc: Global,
+    out: &mut Instrs,
+    start: &[u32],
+    popped: bool,
+    instr: &Instr,
+) -> Result<(), AllocError>
+    requires { HasNumbers (length start.now) instr.now }
+    ensures { OnOk result (out.new ≡ out.old ++ own_aimed start.now (own_by popped) instr.now ∷ []) }
+{
+    if popped {
+        return out.push(Instr::Simple { op: 87 });
+    }
+    out.push(aimed(alloc, start, instr)?)
+}
+
 // The group of an instruction, as instructions.
 fn put_group(
     alloc: Global,
@@ -126,16 +146,9 @@ fn put_group(
     requires numbers { HasNumbers (length start.now) instr.now }
     ensures { OnOk result (out.new ≡ out.old ++ spelled (inserted_instr first) (own_aimed start.now) (group_seen part, instr.now)) }
 {
-    if part.arrives {
-        put_arrival(out, first)?;
-    }
+    put_arrival(out, first, part.arrives)?;
     put_charge(out, first, part.charge)?;
-    let own = if part.popped {
-        Instr::Simple { op: 87 }
-    } else {
-        aimed(alloc, start, instr)?
-    };
-    out.push(own)
+    put_own(alloc, out, start, part.popped, instr)
 }
 
 // All groups, as instructions.

@@ -1,4 +1,4 @@
-ghost use Rattle.std.specs.Prelude.{◌≡◌, ℤ, length, map, IfOk};
+ghost use Rattle.std.specs.Prelude.{◌≡◌, false, length, map, IfOk};
 ghost use Rattle.std.specs.List.{AllByRecursion};
 ghost use Rattle.dj_labels.specs.trusted.Labels.{IsNumber, HasNumbers, address_of};
 ghost use Rattle.dj_labels.specs.trusted.Targets.{with_targets};

@@ -1,7 +1,8 @@
 use Rattle.std.proofs.Common.{rules, ◌≡◌, ◌^◌, ◌<◌, length, map, IfOk, ℕ, ◌+◌, ◌-◌, ◌*◌, ◌≤◌, [], ◌∷◌, ◌++◌, arith, refl, sym, ap, ◌∙◌}
 use Rattle.std.specs.List.{range_with_len}
-use Rattle.dj_groups.specs.Groups.{start, own, starts, owns}
+use Rattle.dj_groups.specs.Groups.{inserted, start, own, starts, owns}
 use Rattle.dj_groups.proofs.GroupLaws.{start_zero}
+use Rattle.dj_emit.specs.declared.parts.GroupPart.{GroupPart}
 use Rattle.dj_emit.specs.Parts.{group_seen, groups_seen}
 use Rattle.dj_emit.proofs.Steps.{more, next_start, own_here, own_end, length_groups}
 use Rattle.dj_emit.proofs.places.numbers_of.Goals as goal
@@ -15,11 +16,12 @@ loop-group-preserved c =
     let h = c.inserted_count-inserted.ensures in
     let q = c.loop-group-test.true in
     let k = c.loop-group.group-index in
+    let few = h.is ∙ ap (λ (g : GroupPart). length (inserted (group_seen g))) c.group-item.is in
     record {
       starts = c.in_ok-push.ensures.items ∙ more (start (groups_seen c.args.groups.now)) c.loop-group.start.items k c.loop-group.at i.starts i.here;
       owns = c.in_ok-push-2.ensures.items ∙ more (own (groups_seen c.args.groups.now)) c.loop-group.own.items k (c.loop-group.at + c.inserted_count-inserted.result) i.owns
-          (own_here c.args.groups.now k c.loop-group.at c.inserted_count-inserted.result _ q i.here h.is);
-      here = next_start c.args.groups.now k c.loop-group.at c.inserted_count-inserted.result _ q i.here h.is;
+          (own_here c.args.groups.now k c.loop-group.at c.inserted_count-inserted.result c.group-item.result q i.here few);
+      here = next_start c.args.groups.now k c.loop-group.at c.inserted_count-inserted.result c.group-item.result q i.here few;
       low = omega (arith, i.low, h.few);
     }
 
