@@ -2,14 +2,17 @@
 use Rattle.std.proofs.Common.{◌≡◌, ℕ, zero, suc, ◌+◌, ◌<◌, List, [], ◌∷◌, ◌++◌, map, zip, take, length, get_or, refl, sym, ap, ap₂, subst, ◌∙◌, arith, append_assoc}
 use Rattle.std.specs.List.{flat_map}
 use Rattle.std.specs.List.{AllByRecursion}
-use Rattle.std.proofs.lemmas.List.{get_or-map, map-append}
+use Rattle.std.proofs.lemmas.List.{get_or-map, map-append, take_all}
 use Rattle.dj_ops.specs.declared.instruction.Instr.{Instr}
+use Rattle.dj_labels.specs.declared.labelled.Protected.{Protected}
+use Rattle.dj_labels.specs.declared.labelled.Labelled.{Labelled}
 use Rattle.dj_labels.specs.trusted.Labels.{HasNumbers}
 use Rattle.dj_groups.specs.Groups.{Inserted, Own, Group, arrival, inserted, start, starts, spelled, regrouped}
-use Rattle.dj_groups.specs.Grouped.{inserted_instr, own_instr}
+use Rattle.dj_groups.specs.Grouped.{inserted_instr, own_instr, protected_pieces, labels_in_groups}
 use Rattle.dj_emit.specs.declared.parts.GroupPart.{GroupPart}
 use Rattle.dj_emit.specs.Parts.{charge_list, own_by, group_seen, groups_seen}
 use Rattle.dj_emit.specs.Aimed.{own_aimed}
+use Rattle.dj_emit.specs.Spelled.{group_spelled, spelled_up_to}
 use Rattle.dj_emit.proofs.Orders.{all_at, length_map}
 use Rattle.dj_emit.proofs.TargetFacts.{own_same, length_starts, numbers_low}
 use Rattle.dj_labels.specs.trusted.Targets.{targets_of}
@@ -36,6 +39,9 @@ module _ {I : Type 0} (spell : Inserted → I) (become : Own → I → I) where
 
 -- ---- the code that is spelled
 
+abbrev labels_by : List Instr → List Protected → Labelled
+labels_by code ranges = record { code = code; ranges = ranges }
+
 -- its targets are looked up in the list of starts, up to the code's end
 pub numbers_at : (parts : List GroupPart) (code : List Instr) (found : List ℕ) (i : ℕ) (instr : Instr) → i < length parts → length parts ≡ length code → AllByRecursion (HasNumbers (length code)) code
     → found ≡ starts (groups_seen parts) → instr ≡ get_or code i instr → HasNumbers (length found) instr
@@ -46,9 +52,8 @@ numbers_at parts code found i instr within same numbers is at =
 
 pub code_more : (first : ℕ) (parts : List GroupPart) (code : List Instr) (found : List ℕ) (out : List Instr) (i : ℕ) (part : GroupPart) (instr : Instr) → i < length parts → length parts ≡ length code
     → AllByRecursion (HasNumbers (length code)) code → found ≡ starts (groups_seen parts) → part ≡ get_or parts i part → instr ≡ get_or code i instr
-    → out ≡ regrouped (inserted_instr first) (own_instr (start (groups_seen parts))) (take i (groups_seen parts)) (take i code)
-    → out ++ spelled (inserted_instr first) (own_aimed found) (group_seen part, instr)
-    ≡ regrouped (inserted_instr first) (own_instr (start (groups_seen parts))) (take (i + 1) (groups_seen parts)) (take (i + 1) code)
+    → out ≡ spelled_up_to first parts code i → out ++ group_spelled first found part instr ≡ spelled_up_to first parts code (i + 1)
+unfolding group_spelled spelled_up_to
 code_more first parts code found out i part instr within same numbers is here at before =
     let count : length (groups_seen parts) ≡ length parts = length_map group_seen parts in
     let P : ℕ → Type 0 = λ n. HasNumbers n instr in
@@ -64,7 +69,8 @@ code_more first parts code found out i part instr within same numbers is here at
 -- a group's three parts
 pub three_parts : (first : ℕ) (found : List ℕ) (part : GroupPart) (instr : Instr) (a b c d : List Instr) → b ≡ a ++ map (inserted_instr first) (arrival part.arrives)
     → c ≡ b ++ map (inserted_instr first) (charge_list part.charge) → d ≡ c ++ own_aimed found (own_by part.popped) instr ∷ []
-    → d ≡ a ++ spelled (inserted_instr first) (own_aimed found) (group_seen part, instr)
+    → d ≡ a ++ group_spelled first found part instr
+unfolding group_spelled
 three_parts first found part instr a b c d e f g =
     g
     ∙ ap (λ (xs : List Instr). xs ++ own_aimed found (own_by part.popped) instr ∷ [])
@@ -72,3 +78,18 @@ three_parts first found part instr a b c d e f g =
         ∙ append_assoc a (map (inserted_instr first) (arrival part.arrives)) (map (inserted_instr first) (charge_list part.charge))
         ∙ ap (λ (xs : List Instr). a ++ xs) (sym (map-append (inserted_instr first) (arrival part.arrives) (charge_list part.charge))))
     ∙ append_assoc a (map (inserted_instr first) (inserted (group_seen part))) (own_aimed found (own_by part.popped) instr ∷ [])
+
+pub none_spelled : (first : ℕ) (parts : List GroupPart) (code : List Instr) → spelled_up_to first parts code 0 ≡ []
+unfolding spelled_up_to
+none_spelled first parts code = refl
+
+-- all of them, in the words of the definition
+pub all_spelled : (first : ℕ) (parts : List GroupPart) (labelled : Labelled) (code : List Instr) (ranges : List Protected) → length parts ≡ length labelled.code
+    → code ≡ spelled_up_to first parts labelled.code (length labelled.code) → ranges ≡ flat_map (protected_pieces (groups_seen parts)) labelled.ranges
+    → ◌≡◌ {A = Labelled} (record { code = code; ranges = ranges }) (labels_in_groups first (groups_seen parts) labelled)
+unfolding spelled_up_to labels_in_groups
+all_spelled first parts labelled code ranges same spelled_is cut_is =
+    ap₂ (λ (c : List Instr) (r : List Protected). labels_by c r)
+    (spelled_is ∙ ap₂ (λ (gs : List Group) (is : List Instr). regrouped (inserted_instr first) (own_instr (start (groups_seen parts))) gs is)
+      (take_all (length labelled.code) (groups_seen parts) (omega (arith, same, length_map group_seen parts))) (take_all (length labelled.code) labelled.code (omega arith)))
+    cut_is

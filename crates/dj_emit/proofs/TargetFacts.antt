@@ -49,6 +49,7 @@ module _ (gs : List Group) where
   pairs_same (p ∷ ps) h = ap₂ (λ (x : ℤ) (xs : List (ℤ × ℤ)). (p.0, x) ∷ xs) (target_same p.1 h.0) (pairs_same ps h.1)
 
   pub own_same : (o : Own) (instr : Instr) → HasNumbers (length gs) instr → own_aimed (starts gs) o instr ≡ own_instr (start gs) o instr
+  unfolding own_aimed
   own_same Popped instr h = refl
   own_same Kept (instrs.Branch op target) h = ap (instrs.Branch op) (target_same target h.0)
   own_same Kept (instrs.Table low default targets) h = ap₂ (λ (x : ℤ) (xs : List ℤ). instrs.Table low x xs) (target_same default h.0) (targets_same targets h.1)

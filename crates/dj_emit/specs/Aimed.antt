@@ -12,6 +12,6 @@ is_jump (instrs.Table low default targets) = true
 is_jump (instrs.Lookup default pairs) = true
 is_jump instr = false
 
-abbrev pub own_aimed : List ℕ → Own → Instr → Instr
+unfoldable pub own_aimed : List ℕ → Own → Instr → Instr
 own_aimed start Kept instr = with_targets (address_of start) instr
 own_aimed start Popped instr = instrs.Simple 87

@@ -3,12 +3,12 @@ ghost use Rattle.std.specs.List.{AllByRecursion};
 ghost use Rattle.dj_labels.specs.trusted.Labels.{HasNumbers};
 ghost use Rattle.dj_labels.specs.Labels.{IsWellFormed};
 ghost use Rattle.dj_names.specs.trusted.Values.{element_size};
-ghost use Rattle.dj_groups.specs.Groups.{arrival, regrouped, spelled, start, starts, owns};
-ghost use Rattle.dj_groups.specs.Grouped.{call_index, element_push, inserted_instr, own_instr, labels_in_groups};
-ghost use Rattle.dj_emit.specs.Parts.{charge_list, group_seen, groups_seen, own_by};
+ghost use Rattle.dj_groups.specs.Groups.{arrival, starts, owns};
+ghost use Rattle.dj_groups.specs.Grouped.{element_push, inserted_instr, labels_in_groups};
+ghost use Rattle.dj_emit.specs.Parts.{charge_list, groups_seen, own_by};
 ghost use Rattle.dj_emit.specs.Places.{ArePlaces};
 ghost use Rattle.dj_emit.specs.Aimed.{own_aimed};
-ghost use Rattle.dj_emit.specs.Spelled.{counter_seen};
+ghost use Rattle.dj_emit.specs.Spelled.{counter_seen, group_spelled, spelled_up_to};
 ghost use Rattle.dj_emit.specs.declared.parts.Charge.TheVariants as charges;
 
 use crate::cuts::cut_ranges;
@@ -117,6 +117,7 @@ fn put_charge(out: &mut Instrs, first: u16, charge: Charge) -> Result<(), AllocE
 }
 
 // What becomes of the instruction itself.
+#[tactic(auto, unfolding(crate::specs::Aimed::own_aimed))]
 fn put_own(
     alloc: Global,
     out: &mut Instrs,
@@ -144,7 +145,7 @@ fn put_group(
 ) -> Result<(), AllocError>
     requires few { first + 25 < 2 ^ 16 }
     requires numbers { HasNumbers (length start.now) instr.now }
-    ensures { OnOk result (out.new ≡ out.old ++ spelled (inserted_instr first) (own_aimed start.now) (group_seen part, instr.now)) }
+    ensures { OnOk result (out.new ≡ out.old ++ group_spelled first start.now part instr.now) }
 {
     put_arrival(out, first, part.arrives)?;
     put_charge(out, first, part.charge)?;
@@ -162,7 +163,7 @@ fn spelled_code(
     requires places { ArePlaces places.now }
     requires same { length places.now.groups.items ≡ length code.now }
     requires numbers { AllByRecursion (HasNumbers (length code.now)) code.now }
-    ensures { IfOk result (λ out. out ≡ regrouped (inserted_instr first) (own_instr (start (groups_seen places.now.groups.items))) (groups_seen places.now.groups.items) code.now) }
+    ensures { IfOk result (λ out. out ≡ spelled_up_to first places.now.groups.items code.now (length code.now)) }
 {
     let mut out = Instrs::with_capacity(alloc, code.len())?;
     for i in 0..code.len() {
