@@ -56,6 +56,8 @@ pub code_more : (first : ℕ) (parts : List GroupPart) (code : List Instr) (foun
 unfolding group_spelled spelled_up_to
 code_more first parts code found out i part instr within same numbers is here at before =
     let count : length (groups_seen parts) ≡ length parts = length_map group_seen parts in
+    let few : i < length (groups_seen parts) = omega (arith, within, count) in
+    let less : i < length code = omega (arith, within, same) in
     let P : ℕ → Type 0 = λ n. HasNumbers n instr in
     let low = subst P (omega (arith, same, count)) (subst (HasNumbers (length code)) (sym at) (all_at (HasNumbers (length code)) code i instr numbers (omega (arith, within, same)))) in
     let own : own_aimed found (group_seen part).own instr ≡ own_instr (start (groups_seen parts)) (group_seen part).own instr =
@@ -64,7 +66,7 @@ code_more first parts code found out i part instr within same numbers is here at
     ap₂ (λ (a b : List Instr). a ++ b) before
     (ap (λ (x : Instr). map (inserted_instr first) (inserted (group_seen part)) ++ x ∷ []) own
     ∙ ap₂ (λ (x : Group) (y : Instr). spelled (inserted_instr first) (own_instr (start (groups_seen parts))) (x, y)) g at)
-    ∙ sym (regrouped_more (inserted_instr first) (own_instr (start (groups_seen parts))) (groups_seen parts) code i (group_seen part) instr (omega (arith, within, count)) (omega (arith, within, same)))
+    ∙ sym (regrouped_more (inserted_instr first) (own_instr (start (groups_seen parts))) (groups_seen parts) code i (group_seen part) instr few less)
 
 -- a group's three parts
 pub three_parts : (first : ℕ) (found : List ℕ) (part : GroupPart) (instr : Instr) (a b c d : List Instr) → b ≡ a ++ map (inserted_instr first) (arrival part.arrives)
