@@ -1,15 +1,17 @@
 -- The groups of the method's code, one after another.
-use Rattle.std.proofs.Common.{◌≡◌, ℕ, ◌+◌, ◌<◌, ◌≤◌, Bool, List, [], ◌∷◌, ◌++◌, map, take, length, get_or, Some, slice_get, refl, sym, ap, ap₂, subst, ◌∙◌, arith}
+use Rattle.std.proofs.Common.{◌≡◌, ℕ, ◌+◌, ◌<◌, ◌≤◌, ◌⊎◌, inl, inr, Bool, false, Err, List, [], ◌∷◌, ◌++◌, map, take, length, get_or, Some, slice_get, refl, sym, ap, ap₂, subst, ◌∙◌, arith}
 use Rattle.std.specs.List.{AllByRecursion}
-use Rattle.std.proofs.lemmas.List.{get_or-map, take_more, take_all, map-append}
+use Rattle.std.proofs.lemmas.Bool.{cases_lt}
+use Rattle.std.proofs.lemmas.List.{get_or-map, get_or_default, get_or_past, take_more, take_all, map-append}
 use Rattle.std.proofs.lemmas.Option.{slice_get-get_or}
 use Rattle.dj_ops.specs.declared.instruction.Instr.{Instr}
+use Rattle.dj_ops.specs.declared.instruction.Instr.TheVariants as instrs
 use Rattle.dj_ops.specs.trusted.Instructions.{IsProper}
 use Rattle.dj_labels.specs.declared.labelled.Labelled.{Labelled}
 use Rattle.dj_labels.specs.Faults.{IsFirstWithout}
 use Rattle.dj_model.specs.trusted.Instructions.{Instruction}
 use Rattle.dj_model.specs.Runs.{starts_handler}
-use Rattle.dj_groups.specs.Groups.{Group, group_of, groups_from, groups_of}
+use Rattle.dj_groups.specs.Groups.{Group, group_at, plain_group, group_of, groups_from, groups_of}
 use Rattle.dj_program.specs.trusted.Codes.{code_in}
 use Rattle.dj_image.specs.Imaged.{Imaged, program_of}
 use Rattle.dj_image.specs.Codes.{code_at}
@@ -17,9 +19,9 @@ use Rattle.dj_emit.specs.declared.error.EmitError.{EmitError}
 use Rattle.dj_emit.specs.declared.error.EmitError.TheVariants as errors
 use Rattle.dj_emit.specs.declared.parts.GroupPart.{GroupPart}
 use Rattle.dj_emit.specs.Parts.{group_seen, groups_seen}
-use Rattle.dj_emit.specs.Arrivals.{handles}
+use Rattle.dj_emit.specs.Arrivals.{handles, AreArrivals}
 use Rattle.dj_emit.specs.Groups.{pooled_at, labelled_at, groups_at, IsKnownNew, FitsSipush, IsRefusal}
-use Rattle.dj_emit.specs.Numbered.{named_at, IsCodeAt, StandsAt}
+use Rattle.dj_emit.specs.Numbered.{named_at, IsCodeAt, StandsAt, PartAt}
 use Rattle.dj_emit.proofs.Orders.{all_at, length_map}
 use Rattle.dj_emit.proofs.ArrivalFacts.{handler_is}
 use Rattle.dj_emit.proofs.PartFacts.{length_from, from_at, parts_fit}
@@ -85,3 +87,20 @@ module _ (imaged : Imaged) (method : ℕ) (labelled : Labelled) (code : IsCodeAt
 
   pub parts_whole : (parts : List GroupPart) (i : ℕ) → length labelled.code ≤ i → groups_seen parts ≡ take i (groups_at imaged method) → groups_seen parts ≡ groups_at imaged method
   parts_whole parts i past seen = seen ∙ take_all i (groups_at imaged method) (omega (arith, past, length_all))
+
+  -- the answer on the instruction is that on all groups
+  pub refused_at : (parts : List GroupPart) (i : ℕ) (instr : Instr) (arrives : Bool) (e : EmitError) → i < length labelled.code → instr ≡ get_or labelled.code i instr → arrives ≡ handles labelled.ranges i
+      → groups_seen parts ≡ take i (groups_at imaged method) → PartAt imaged method i instr arrives (Err e) → IsRefusal (groups_at imaged method) e
+  refused_at parts i instr arrives errors.Memory less is here seen at = tt
+  refused_at parts i instr arrives (errors.BigObject n) less is here seen at =
+      subst (λ (m : ℕ). IsRefusal (groups_at imaged method) (errors.BigObject m)) (sym at.0) (parts_refused parts i instr arrives less is here seen at.1)
+
+  pub length_seen : (parts : List GroupPart) → groups_seen parts ≡ groups_at imaged method → length parts ≡ length labelled.code
+  length_seen parts seen = sym (length_map group_seen parts) ∙ ap length seen ∙ length_all
+
+  -- which handlers arrive, by the groups
+  pub arrives_at : (arrives : List Bool) → AreArrivals (length labelled.code) labelled.ranges arrives → (k : ℕ) → get_or arrives k false ≡ (group_at (groups_at imaged method) k).arrives
+  arrives_at arrives here k = go (cases_lt k (length labelled.code)) where
+    go : (k < length labelled.code) ⊎ (length labelled.code ≤ k) → get_or arrives k false ≡ (group_at (groups_at imaged method) k).arrives
+    go (inl less) = here.each k less ∙ sym (ap (λ (g : Group). g.arrives) (group_is k plain_group (get_or labelled.code k (instrs.Simple 0)) (handles labelled.ranges k) less (get_or_default labelled.code k (instrs.Simple 0) (get_or labelled.code k (instrs.Simple 0)) less) refl))
+    go (inr past) = get_or_past arrives k false (omega (arith, past, here.all)) ∙ sym (ap (λ (g : Group). g.arrives) (get_or_past (groups_at imaged method) k plain_group (omega (arith, past, length_all))))

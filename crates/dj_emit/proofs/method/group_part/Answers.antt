@@ -1,4 +1,4 @@
-use Rattle.dj_emit.proofs.MethodFacts.{plain_is, new_at, new_part}
+use Rattle.dj_emit.proofs.MethodFacts.{plain_is, new_at, new_part, new_refused}
 use Rattle.dj_emit.proofs.method.group_part.Goals as goal
 
 pub object_charge-charge-requires : goal.object_charge-charge-requires
