@@ -65,7 +65,10 @@ module _ (gs : List Group) (bs : List Bool) (same : (k : ℕ) → get_or bs k fa
   -- a piece has begun before the group k
   begun : (from k n : ℕ) → from < start gs k → length (filter is_some_range (cut gs from k n)) + count_before bs k ≡ count_before bs (k + n) + 1
   unfolding cut
-  begun from k zero less = let e : k ≡ k + 0 = omega arith in omega (arith, filled (from, start gs k) [] less, ap (count_before bs) e)
+  begun from k zero less =
+      let e : k ≡ k + 0 = omega arith in
+      let one : length (filter is_some_range ((from, start gs k) ∷ [])) ≡ 1 = filled (from, start gs k) [] less in
+      omega (arith, one, ap (count_before bs) e)
   begun from k (suc n) less = go (group_at gs k).arrives refl where
     on : suc k + n ≡ k + suc n
     on = omega arith
@@ -73,9 +76,11 @@ module _ (gs : List Group) (bs : List Bool) (same : (k : ℕ) → get_or bs k fa
     go : (b : Bool) → (group_at gs k).arrives ≡ b
         → length (filter is_some_range (if b then (from, start gs k) ∷ cut gs (own gs k) (suc k) n else cut gs from (suc k) n)) + count_before bs k ≡ count_before bs (k + suc n) + 1
     go true e =
-        omega (arith, filled (from, start gs k) (cut gs (own gs k) (suc k) n) less, begun (own gs k) (suc k) n (omega (arith, own_next gs k)), counted k, ap bit e, ap (count_before bs) on)
+        let one : bit (group_at gs k).arrives ≡ 1 = ap bit e in
+        omega (arith, filled (from, start gs k) (cut gs (own gs k) (suc k) n) less, begun (own gs k) (suc k) n (omega (arith, own_next gs k)), counted k, one, ap (count_before bs) on)
     go false e =
-        omega (arith, begun from (suc k) n (omega (arith, less, own_next gs k)), counted k, ap bit e, ap (count_before bs) on)
+        let none : bit (group_at gs k).arrives ≡ 0 = ap bit e in
+        omega (arith, begun from (suc k) n (omega (arith, less, own_next gs k)), counted k, none, ap (count_before bs) on)
 
   -- it begins with the group k
   begins : (k n : ℕ) → length (filter is_some_range (cut gs (start gs k) k (suc n))) + count_before bs (suc k) ≡ count_before bs (k + suc n) + 1
@@ -94,14 +99,16 @@ module _ (gs : List Group) (bs : List Bool) (same : (k : ℕ) → get_or bs k fa
       let all : range.start + suc (range.end - suc range.start) ≡ range.end = omega (arith, h.some) in
       let n : suc (range.end - suc range.start) ≡ range.end - range.start = omega (arith, h.some) in
       let next : suc range.start ≡ range.start + 1 = omega arith in
-      omega (arith,
+      omega (
+        arith,
         begins range.start (range.end - suc range.start),
         ap (count_before bs) all,
         ap (count_before bs) next,
         ap (λ (m : ℕ). length (filter is_some_range (cut gs (start gs range.start) range.start m))) n,
         length_map (λ (p : ℕ × ℕ). record range { start = p.0; end = p.1; handler = start gs range.handler }) (pieces gs range.start range.end),
         count_at bs range.end h.within,
-        count_at bs (range.start + 1) (omega (arith, h.some, h.within)))
+        count_at bs (range.start + 1) (omega (arith, h.some, h.within)),
+      )
 
   -- ---- all of them
 
@@ -113,30 +120,35 @@ module _ (gs : List Group) (bs : List Bool) (same : (k : ℕ) → get_or bs k fa
 
 -- ---- sums
 
-pub sum_none : {X : Type 0} (f : X → ℕ) (xs : List X) → sum_of f (take 0 xs) ≡ 0
-unfolding sum_of
-sum_none f xs = refl
-
-pub sum_next : {X : Type 0} (f : X → ℕ) (xs : List X) (i : ℕ) (d : X) → i < length xs → sum_of f (take (i + 1) xs) ≡ sum_of f (take i xs) + f (get_or xs i d)
-sum_next {X} f xs i d less = let on : i + 1 ≡ suc i = omega arith in ap (λ (n : ℕ). sum_of f (take n xs)) on ∙ go xs i less where
-  go : (xs : List X) (i : ℕ) → i < length xs → sum_of f (take (suc i) xs) ≡ sum_of f (take i xs) + f (get_or xs i d)
+module _ {X : Type 0} (f : X → ℕ) where
+  pub sum_none : (xs : List X) → sum_of f (take 0 xs) ≡ 0
   unfolding sum_of
-  go [] i less = absurd (omega (arith, less))
-  go (x ∷ xs) zero less = omega arith
-  go (x ∷ xs) (suc i) less = omega (arith, go xs i (omega (arith, less)))
+  sum_none xs = refl
 
-sum_low : {X : Type 0} (f : X → ℕ) (xs : List X) (i : ℕ) → sum_of f (take i xs) ≤ sum_of f xs
-unfolding sum_of
-sum_low f [] zero = omega arith
-sum_low f [] (suc i) = omega arith
-sum_low f (x ∷ xs) zero = omega arith
-sum_low f (x ∷ xs) (suc i) = omega (arith, sum_low f xs i)
+  sum_suc : (xs : List X) (i : ℕ) (d : X) → i < length xs → sum_of f (take (suc i) xs) ≡ sum_of f (take i xs) + f (get_or xs i d)
+  unfolding sum_of
+  sum_suc [] i d less = absurd (omega (arith, less))
+  sum_suc (x ∷ xs) zero d less = omega arith
+  sum_suc (x ∷ xs) (suc i) d less = omega (arith, sum_suc xs i d (omega (arith, less)))
 
-pub sum_past : {X : Type 0} (f : X → ℕ) (xs : List X) (i most : ℕ) → most < sum_of f (take i xs) → false ≡ nat_le (sum_of f xs) most
-sum_past f xs i most past = go (nat_le (sum_of f xs) most) refl where
-  go : (b : Bool) → nat_le (sum_of f xs) most ≡ b → false ≡ b
-  go false e = refl
-  go true e = let less = leb-true (sum_of f xs) most e in absurd (omega (arith, less, past, sum_low f xs i))
+  pub sum_next : (xs : List X) (i : ℕ) (d : X) → i < length xs → sum_of f (take (i + 1) xs) ≡ sum_of f (take i xs) + f (get_or xs i d)
+  sum_next xs i d less = let on : i + 1 ≡ suc i = omega arith in ap (λ (n : ℕ). sum_of f (take n xs)) on ∙ sum_suc xs i d less
 
-pub sum_within : {X : Type 0} (f : X → ℕ) (xs : List X) (i most : ℕ) → length xs ≤ i → sum_of f (take i xs) ≤ most → true ≡ nat_le (sum_of f xs) most
-sum_within f xs i most all low = let whole = ap (sum_of f) (take_all i xs all) in sym (le-leb (sum_of f xs) most (omega (arith, low, whole)))
+  pub sum_more : (xs : List X) (i so_far n : ℕ) (d : X) → i < length xs → so_far ≡ sum_of f (take i xs) → n ≡ f (get_or xs i d) → so_far + n ≡ sum_of f (take (i + 1) xs)
+  sum_more xs i so_far n d less before is = omega (arith, before, is, sum_next xs i d less)
+
+  sum_low : (xs : List X) (i : ℕ) → sum_of f (take i xs) ≤ sum_of f xs
+  unfolding sum_of
+  sum_low [] zero = omega arith
+  sum_low [] (suc i) = omega arith
+  sum_low (x ∷ xs) zero = omega arith
+  sum_low (x ∷ xs) (suc i) = omega (arith, sum_low xs i)
+
+  pub sum_past : (xs : List X) (i most : ℕ) → most < sum_of f (take i xs) → false ≡ nat_le (sum_of f xs) most
+  sum_past xs i most past = go (nat_le (sum_of f xs) most) refl where
+    go : (b : Bool) → nat_le (sum_of f xs) most ≡ b → false ≡ b
+    go false e = refl
+    go true e = let less = leb-true (sum_of f xs) most e in absurd (omega (arith, less, past, sum_low xs i))
+
+  pub sum_within : (xs : List X) (i most : ℕ) → length xs ≤ i → sum_of f (take i xs) ≤ most → true ≡ nat_le (sum_of f xs) most
+  sum_within xs i most all low = let whole = ap (sum_of f) (take_all i xs all) in sym (le-leb (sum_of f xs) most (omega (arith, low, whole)))

@@ -11,3 +11,4 @@ pub mod MethodFacts
 pub mod WholeFacts
 pub mod CountFacts
 mod RowFacts
+mod TableFacts

@@ -61,7 +61,7 @@ code_more first parts code found out i part instr within same numbers is here at
     let P : ℕ → Type 0 = λ n. HasNumbers n instr in
     let low = subst P (omega (arith, same, count)) (subst (HasNumbers (length code)) (sym at) (all_at (HasNumbers (length code)) code i instr numbers (omega (arith, within, same)))) in
     let own : own_aimed found (group_seen part).own instr ≡ own_instr (start (groups_seen parts)) (group_seen part).own instr =
-        ap (λ (xs : List ℕ). own_aimed xs (group_seen part).own instr) is ∙ own_same (groups_seen parts) (group_seen part).own instr low in
+    ap (λ (xs : List ℕ). own_aimed xs (group_seen part).own instr) is ∙ own_same (groups_seen parts) (group_seen part).own instr low in
     let g : group_seen part ≡ get_or (groups_seen parts) i (group_seen part) = ap group_seen here ∙ sym (get_or-map group_seen parts i part (group_seen part) within) in
     ap₂ (λ (a b : List Instr). a ++ b) before
     (ap (λ (x : Instr). map (inserted_instr first) (inserted (group_seen part)) ++ x ∷ []) own
@@ -76,9 +76,9 @@ unfolding group_spelled
 three_parts first found part instr a b c d e f g =
     g
     ∙ ap (λ (xs : List Instr). xs ++ own_aimed found (own_by part.popped) instr ∷ [])
-        (f ∙ ap (λ (xs : List Instr). xs ++ map (inserted_instr first) (charge_list part.charge)) e
-        ∙ append_assoc a (map (inserted_instr first) (arrival part.arrives)) (map (inserted_instr first) (charge_list part.charge))
-        ∙ ap (λ (xs : List Instr). a ++ xs) (sym (map-append (inserted_instr first) (arrival part.arrives) (charge_list part.charge))))
+    (f ∙ ap (λ (xs : List Instr). xs ++ map (inserted_instr first) (charge_list part.charge)) e
+    ∙ append_assoc a (map (inserted_instr first) (arrival part.arrives)) (map (inserted_instr first) (charge_list part.charge))
+    ∙ ap (λ (xs : List Instr). a ++ xs) (sym (map-append (inserted_instr first) (arrival part.arrives) (charge_list part.charge))))
     ∙ append_assoc a (map (inserted_instr first) (inserted (group_seen part))) (own_aimed found (own_by part.popped) instr ∷ [])
 
 pub none_spelled : (first : ℕ) (parts : List GroupPart) (code : List Instr) → spelled_up_to first parts code 0 ≡ []
@@ -93,5 +93,5 @@ unfolding spelled_up_to labels_in_groups
 all_spelled first parts labelled code ranges same spelled_is cut_is =
     ap₂ (λ (c : List Instr) (r : List Protected). labels_by c r)
     (spelled_is ∙ ap₂ (λ (gs : List Group) (is : List Instr). regrouped (inserted_instr first) (own_instr (start (groups_seen parts))) gs is)
-      (take_all (length labelled.code) (groups_seen parts) (omega (arith, same, length_map group_seen parts))) (take_all (length labelled.code) labelled.code (omega arith)))
+    (take_all (length labelled.code) (groups_seen parts) (omega (arith, same, length_map group_seen parts))) (take_all (length labelled.code) labelled.code (omega arith)))
     cut_is

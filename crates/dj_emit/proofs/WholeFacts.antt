@@ -56,13 +56,13 @@ module _ (imaged : Imaged) (method : ℕ) (labelled : Labelled) (code : IsCodeAt
   group_is i g instr arrives less is here =
       ap (λ (gs : List Group). get_or gs i g) groups_are
       ∙ from_at (program_of imaged) (starts_handler (Some (code_in (pooled_at imaged method).pool (pooled_at imaged method).parts))) 0 i instructions g (named_at imaged method instr)
-        (omega (arith, less, length_map (named_at imaged method) labelled.code))
+      (omega (arith, less, length_map (named_at imaged method) labelled.code))
       ∙ ap₂ (λ (b : Bool) (x : Instruction). group_of (program_of imaged) b x)
-        (ap (starts_handler (Some (code_in (pooled_at imaged method).pool (pooled_at imaged method).parts))) number ∙ handler_is (pooled_at imaged method).pool (pooled_at imaged method).parts i
-        ∙ ap (λ (l : Labelled). handles l.ranges i) code.is ∙ sym here)
-        (get_or-map (named_at imaged method) labelled.code i instr (named_at imaged method instr) less ∙ ap (named_at imaged method) (sym is)) where
-          number : 0 + i ≡ i
-          number = omega arith
+      (ap (starts_handler (Some (code_in (pooled_at imaged method).pool (pooled_at imaged method).parts))) number ∙ handler_is (pooled_at imaged method).pool (pooled_at imaged method).parts i
+      ∙ ap (λ (l : Labelled). handles l.ranges i) code.is ∙ sym here)
+      (get_or-map (named_at imaged method) labelled.code i instr (named_at imaged method instr) less ∙ ap (named_at imaged method) (sym is)) where
+        number : 0 + i ≡ i
+        number = omega arith
 
   -- one more group
   pub parts_more : (parts : List GroupPart) (part : GroupPart) (i : ℕ) (instr : Instr) (arrives : Bool) → i < length labelled.code → instr ≡ get_or labelled.code i instr → arrives ≡ handles labelled.ranges i
@@ -77,13 +77,15 @@ module _ (imaged : Imaged) (method : ℕ) (labelled : Labelled) (code : IsCodeAt
   pub parts_refused : (parts : List GroupPart) (i : ℕ) (instr : Instr) (arrives : Bool) → i < length labelled.code → instr ≡ get_or labelled.code i instr → arrives ≡ handles labelled.ranges i
       → groups_seen parts ≡ take i (groups_at imaged method) → (FitsSipush (group_of (program_of imaged) arrives (named_at imaged method instr)) → ⊥)
       → IsRefusal (groups_at imaged method) (errors.BigObject i)
-  parts_refused parts i instr arrives less is here seen big =
-      (group_of (program_of imaged) arrives (named_at imaged method instr), record {
-        found = slice_get-get_or (groups_at imaged method) i (group_of (program_of imaged) arrives (named_at imaged method instr)) (omega (arith, less, length_all))
-            ∙ ap Some (group_is i (group_of (program_of imaged) arrives (named_at imaged method instr)) instr arrives less is here);
-        lacks = big;
-        before = subst (AllByRecursion FitsSipush) seen (parts_fit parts);
-      })
+  parts_refused parts i instr arrives less is here seen big = (
+    group_of (program_of imaged) arrives (named_at imaged method instr),
+    record {
+      found = slice_get-get_or (groups_at imaged method) i (group_of (program_of imaged) arrives (named_at imaged method instr)) (omega (arith, less, length_all))
+          ∙ ap Some (group_is i (group_of (program_of imaged) arrives (named_at imaged method instr)) instr arrives less is here);
+      lacks = big;
+      before = subst (AllByRecursion FitsSipush) seen (parts_fit parts);
+    },
+  )
 
   pub parts_whole : (parts : List GroupPart) (i : ℕ) → length labelled.code ≤ i → groups_seen parts ≡ take i (groups_at imaged method) → groups_seen parts ≡ groups_at imaged method
   parts_whole parts i past seen = seen ∙ take_all i (groups_at imaged method) (omega (arith, past, length_all))

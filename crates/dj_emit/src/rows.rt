@@ -1,4 +1,4 @@
-ghost use Rattle.std.specs.Prelude.{◌≡◌, ◌+◌, ◌-◌, ◌<◌, ◌^◌, nat_le, slice_index, length, IfOk, if◌then◌else◌};
+ghost use Rattle.std.specs.Prelude.{◌≡◌, ◌+◌, ◌-◌, ◌<◌, ◌≤◌, ◌^◌, nat_le, length, IfOk, if◌then◌else◌};
 ghost use Rattle.std.specs.List.{AllByRecursion};
 ghost use Rattle.dj_labels.specs.trusted.Labels.{IsRange};
 ghost use Rattle.dj_numbering.specs.Members.{all_methods};
@@ -39,7 +39,8 @@ fn handlers_before(alloc: Global, arrives: &[bool]) -> Result<Vec<u32>, AllocErr
 fn piece_count(before: &[u32], range: Protected) -> u64
     requires some { range.start < range.end }
     requires within { range.end < length before.now }
-    ensures { result ≡ pieces_by before.now range }
+    ensures is { result ≡ pieces_by before.now range }
+    ensures few { result ≤ 2 ^ 32 }
 {
     let first = before[range.start as usize + 1];
     let last = before[range.end as usize];

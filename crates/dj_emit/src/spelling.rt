@@ -167,7 +167,14 @@ fn spelled_code(
 {
     let mut out = Instrs::with_capacity(alloc, code.len())?;
     for i in 0..code.len() {
-        put_group(alloc, &mut out, first, &places.start, places.groups[i], &code[i])?;
+        put_group(
+            alloc,
+            &mut out,
+            first,
+            &places.start,
+            places.groups[i],
+            &code[i],
+        )?;
     }
     Ok(out)
 }

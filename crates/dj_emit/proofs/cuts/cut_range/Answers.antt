@@ -20,7 +20,7 @@ loop-at-init c =
     let range = c.args.range in
     let handled : Protected = record { start = range.start; end = range.end; handler = c.index.result.now; catch_type = range.catch_type } in
     let from : c.index-from.result.now ≡ start gs range.start =
-        found_start c.args.places.now range.start c.index-from.result.now c.requires.places (omega (arith, c.requires.within.some, c.requires.within.within)) c.index-from.ensures in
+    found_start c.args.places.now range.start c.index-from.result.now c.requires.places (omega (arith, c.requires.within.some, c.requires.within.within)) c.index-from.ensures in
     record {
       low = omega (arith, c.requires.within.some);
       here = ap (λ (x : ℕ). c.args.out.now ++ left handled (cut gs x range.start (range.end - range.start))) from;
@@ -83,7 +83,7 @@ returns c =
     on_ok_same c.put_piece-2.result (c.put_piece-2.new.out ≡ c.loop-at.out ++ left handled ((c.loop-at.from, c.index-2.result.now) ∷ []))
     (c.put_piece-2.new.out ≡ c.args.out.now ++ protected_pieces gs range)
     (λ put.
-      put ∙ ap (λ (x : ℕ). c.loop-at.out ++ left handled ((c.loop-at.from, x) ∷ [])) to
-      ∙ put_last gs handled c.loop-at.out _ c.loop-at.from c.loop-at.k range.end c.index-in-loop-at.result.now next c.loop-at-test.false c.loop-at.invariant.low c.loop-at.invariant.here
-      ∙ ap (λ (x : ℕ). c.args.out.now ++ map (piece (record { start = range.start; end = range.end; handler = x; catch_type = range.catch_type })) (pieces gs range.start range.end)) handler)
+    put ∙ ap (λ (x : ℕ). c.loop-at.out ++ left handled ((c.loop-at.from, x) ∷ [])) to
+    ∙ put_last gs handled c.loop-at.out _ c.loop-at.from c.loop-at.k range.end c.index-in-loop-at.result.now next c.loop-at-test.false c.loop-at.invariant.low c.loop-at.invariant.here
+    ∙ ap (λ (x : ℕ). c.args.out.now ++ map (piece (record { start = range.start; end = range.end; handler = x; catch_type = range.catch_type })) (pieces gs range.start range.end)) handler)
     c.put_piece-2.ensures

@@ -41,5 +41,5 @@ returns-clause-own c =
     let f : k ≡ length c.args.groups.now = omega (arith, c.loop-group-test.false, c.loop-group.auto.group-index-end) in
     c.in_ok-push-4.ensures.items
     ∙ more (own (groups_seen c.args.groups.now)) c.loop-group.own.items k c.loop-group.at i.owns
-        (i.here ∙ ap (start (groups_seen c.args.groups.now)) f ∙ sym (own_end c.args.groups.now) ∙ ap (own (groups_seen c.args.groups.now)) (sym f))
+    (i.here ∙ ap (start (groups_seen c.args.groups.now)) f ∙ sym (own_end c.args.groups.now) ∙ ap (own (groups_seen c.args.groups.now)) (sym f))
     ∙ ap (λ (n : ℕ). map (own (groups_seen c.args.groups.now)) (range_with_len 0 (n + 1))) e

@@ -11,5 +11,5 @@ returns c =
     on_ok_same c.put_own.result (c.put_own.new.out ≡ c.put_charge.new.out ++ own_aimed c.args.start.now (own_by c.args.part.popped) c.args.instr.now ∷ [])
     (c.put_own.new.out ≡ c.args.out.now ++ group_spelled c.args.first c.args.start.now c.args.part c.args.instr.now)
     (λ put. three_parts c.args.first c.args.start.now c.args.part c.args.instr.now c.args.out.now c.put_arrival.new.out c.put_charge.new.out c.put_own.new.out
-      c.in_ok-put_arrival.ensures c.in_ok-put_charge.ensures put)
+    c.in_ok-put_arrival.ensures c.in_ok-put_charge.ensures put)
     c.put_own.ensures

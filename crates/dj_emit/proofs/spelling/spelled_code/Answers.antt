@@ -16,4 +16,4 @@ loop-i-preserved c =
     let within : c.loop-i.i < length c.args.places.now.groups.items = omega (arith, c.loop-i-test.true, c.requires.same) in
     c.in_ok-put_group.ensures
     ∙ code_more c.args.first c.args.places.now.groups.items c.args.code.now c.deref.result.now c.loop-i.out c.loop-i.i c.index.result.now c.index-code-i.result within c.requires.same c.requires.numbers
-      (c.deref.ensures.value ∙ c.requires.places.start) c.index.ensures c.index-code-i.is c.loop-i.invariant
+    (c.deref.ensures.value ∙ c.requires.places.start) c.index.ensures c.index-code-i.is c.loop-i.invariant
