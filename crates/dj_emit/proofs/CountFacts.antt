@@ -63,24 +63,28 @@ module _ (gs : List Group) (bs : List Bool) (same : (k : ℕ) → get_or bs k fa
   counted k = ap (λ (b : Bool). count_before bs k + bit b) (same k)
 
   -- a piece has begun before the group k
-  begun : (from k n : ℕ) → from < start gs k → length (filter is_some_range (cut gs from k n)) + count_before bs k ≡ count_before bs (k + n) + 1
+  abbrev Begun : ℕ → ℕ → ℕ → Type 0
+  Begun from k n = length (filter is_some_range (cut gs from k n)) + count_before bs k ≡ count_before bs (k + n) + 1
+
+  begun : (from k n : ℕ) → from < start gs k → Begun from k n
   unfolding cut
   begun from k zero less =
       let e : k ≡ k + 0 = omega arith in
       let one : length (filter is_some_range ((from, start gs k) ∷ [])) ≡ 1 = filled (from, start gs k) [] less in
       omega (arith, one, ap (count_before bs) e)
-  begun from k (suc n) less = go (group_at gs k).arrives refl where
-    on : suc k + n ≡ k + suc n
-    on = omega arith
+  begun from k (suc n) less =
+      go (group_at gs k).arrives refl (begun (own gs k) (suc k) n (omega (arith, own_next gs k))) (begun from (suc k) n (omega (arith, less, own_next gs k))) where
+        on : suc k + n ≡ k + suc n
+        on = omega arith
 
-    go : (b : Bool) → (group_at gs k).arrives ≡ b
-        → length (filter is_some_range (if b then (from, start gs k) ∷ cut gs (own gs k) (suc k) n else cut gs from (suc k) n)) + count_before bs k ≡ count_before bs (k + suc n) + 1
-    go true e =
-        let one : bit (group_at gs k).arrives ≡ 1 = ap bit e in
-        omega (arith, filled (from, start gs k) (cut gs (own gs k) (suc k) n) less, begun (own gs k) (suc k) n (omega (arith, own_next gs k)), counted k, one, ap (count_before bs) on)
-    go false e =
-        let none : bit (group_at gs k).arrives ≡ 0 = ap bit e in
-        omega (arith, begun from (suc k) n (omega (arith, less, own_next gs k)), counted k, none, ap (count_before bs) on)
+        go : (b : Bool) → (group_at gs k).arrives ≡ b → Begun (own gs k) (suc k) n → Begun from (suc k) n
+            → length (filter is_some_range (if b then (from, start gs k) ∷ cut gs (own gs k) (suc k) n else cut gs from (suc k) n)) + count_before bs k ≡ count_before bs (k + suc n) + 1
+        go true e after same =
+            let one : bit (group_at gs k).arrives ≡ 1 = ap bit e in
+            omega (arith, filled (from, start gs k) (cut gs (own gs k) (suc k) n) less, after, counted k, one, ap (count_before bs) on)
+        go false e after same =
+            let none : bit (group_at gs k).arrives ≡ 0 = ap bit e in
+            omega (arith, same, counted k, none, ap (count_before bs) on)
 
   -- it begins with the group k
   begins : (k n : ℕ) → length (filter is_some_range (cut gs (start gs k) k (suc n))) + count_before bs (suc k) ≡ count_before bs (k + suc n) + 1

@@ -70,8 +70,9 @@ pub fn has_few_rows(alloc: Global, image: &Image, method: MethodId) -> Result<bo
     ensures { IfOk result (λ few. few ≡ nat_le (rows_at image.now method.number) 65535) }
 {
     let code = code_of(image, method);
+    let instrs = code.code.code.as_slice();
     let ranges = code.code.ranges.as_slice();
-    let arrives = arrivals(alloc, code.code.code.len(), ranges)?;
+    let arrives = arrivals(alloc, instrs.len(), ranges)?;
     let before = handlers_before(alloc, &arrives)?;
     Ok(rows_fit(&before, ranges))
 }

@@ -9,8 +9,8 @@ use Rattle.dj_emit.proofs.rows.handlers_before.Goals as goal
 pub loop-next-init : goal.loop-next-init
 loop-next-init c = record { before = c.new-before.ensures.items; here = sym (count_none c.args.arrives.now) }
 
-pub with_next-requires : goal.with_next-requires
-with_next-requires c =
+pub with_next-count-requires : goal.with_next-count-requires
+with_next-count-requires c =
     omega (arith, c.loop-next.invariant.here, count_few c.args.arrives.now c.loop-next.next-index, c.loop-next-test.true, c.requires)
 
 pub loop-next-preserved : goal.loop-next-preserved
@@ -20,7 +20,7 @@ loop-next-preserved c =
     let k = c.loop-next.next-index in
     record {
       before = c.in_ok-push.ensures.items ∙ more (count_before bs) c.loop-next.before.items k c.loop-next.count i.before i.here;
-      here = c.with_next.ensures ∙ count_next bs k c.loop-next.count c.next-item.result i.here (c.next-item.is ∙ get_or_default bs k c.next-item.result false c.loop-next-test.true);
+      here = c.with_next-count.ensures ∙ count_next bs k c.loop-next.count _ i.here (get_or_default bs k _ false c.loop-next-test.true);
     }
 
 pub returns : goal.returns
