@@ -7,6 +7,7 @@ use Rattle.std.proofs.lemmas.Option.{slice_get-get_or}
 use Rattle.dj_ops.specs.declared.instruction.Instr.{Instr}
 use Rattle.dj_ops.specs.declared.instruction.Instr.TheVariants as instrs
 use Rattle.dj_ops.specs.trusted.Instructions.{IsProper}
+use Rattle.dj_labels.specs.declared.labelled.Protected.{Protected}
 use Rattle.dj_labels.specs.declared.labelled.Labelled.{Labelled}
 use Rattle.dj_labels.specs.Faults.{IsFirstWithout}
 use Rattle.dj_labels.specs.trusted.Labels.{IsRange}
@@ -117,3 +118,9 @@ module _ (imaged : Imaged) (method : ℕ) (labelled : Labelled) (code : IsCodeAt
       rows_are (groups_at imaged method) arrives (arrives_at arrives here) labelled.ranges
       (let P : ℕ → Type 0 = λ n. AllByRecursion (IsRange n) labelled.ranges in subst P (sym here.all) code.well.ranges)
       ∙ ap (λ (l : Labelled). length (flat_map (protected_pieces (groups_at imaged method)) l.ranges)) (sym code.is)
+
+  -- what is looked up among the arrivals
+  pub arrives_here : (arrives : List Bool) (count : ℕ) (ranges : List Protected) (i : ℕ) (b : Bool) → AreArrivals count ranges arrives → ranges ≡ labelled.ranges → i < count → b ≡ get_or arrives i b
+      → b ≡ handles labelled.ranges i
+  arrives_here arrives count ranges i b arr same less is =
+      is ∙ get_or_default arrives i b false (omega (arith, less, arr.all)) ∙ arr.each i less ∙ ap (λ (rs : List Protected). handles rs i) same
