@@ -39,7 +39,6 @@ use Rattle.dj_image.specs.Codes.{PooledCode, code_at, SaysBody, IsBodyAt, HasIns
 use Rattle.dj_image.specs.Operands.{class_operand, operand_of}
 use Rattle.dj_emit.specs.declared.error.EmitError.{EmitError}
 use Rattle.dj_emit.specs.declared.error.EmitError.TheVariants as errors
-use Rattle.dj_emit.specs.declared.size.ObjectSize.{ObjectSize}
 use Rattle.dj_emit.specs.declared.parts.Charge.{Charge}
 use Rattle.dj_emit.specs.declared.parts.Charge.TheVariants as charges
 use Rattle.dj_emit.specs.declared.parts.GroupPart.{GroupPart}
@@ -163,7 +162,7 @@ object_free imaged method number operand o other index s = go (made_there imaged
   go (Made name k i e same) = absurd (other k same)
   go (Unmade e none) = sym e
 
-counted : (imaged : Imaged) (method number class count : ℕ) → IsOperandAt imaged method number (operands.Class class) → count ≡ field_count_at (typed_of imaged) class
+pub counted : (imaged : Imaged) (method number class count : ℕ) → IsOperandAt imaged method number (operands.Class class) → count ≡ field_count_at (typed_of imaged) class
     → (index : ℕ) → StandsAt imaged method number (instrs.Class 187 index)
     → ObjectBytes (16 + 8 * count) ∷ Record Allocations ∷ [] ≡ charge_of (program_of imaged) (named_at imaged method (instrs.Class 187 index))
 counted imaged method number class count o is index s = go (made_there imaged method number index (operands.Class class) s o) where
@@ -175,11 +174,6 @@ counted imaged method number class count o is index s = go (made_there imaged me
       let name_is : name_at (program_of imaged) class ≡ Some name = ap (name_at (program_of imaged)) at ∙ name_at-number (program_of imaged) name k e in
       let count_is : count ≡ field_count (program_of imaged) name = is ∙ ap (λ (o : Option Name). unwrap_or (option_map (field_count (program_of imaged)) o) 0) name_is in
       ap (λ (n : ℕ). ObjectBytes (instance_size n) ∷ Record Allocations ∷ []) count_is ∙ sym (ap (charge_of (program_of imaged)) i)
-
-pub object_counted : (imaged : Imaged) (method number class count : ℕ) (size : ObjectSize) → IsOperandAt imaged method number (operands.Class class) → count ≡ field_count_at (typed_of imaged) class
-    → size.bytes ≡ 16 + 8 * count → ObjectAt imaged method number (Ok (charges.Object size))
-object_counted imaged method number class count size o is bytes index s =
-    ap (λ (n : ℕ). ObjectBytes n ∷ Record Allocations ∷ []) bytes ∙ counted imaged method number class count o is index s
 
 pub object_big : (imaged : Imaged) (method number class count : ℕ) → IsOperandAt imaged method number (operands.Class class) → count ≡ field_count_at (typed_of imaged) class
     → 32767 < 16 + 8 * count → ObjectAt imaged method number (Err (errors.BigObject number))

@@ -1,5 +1,6 @@
-use Rattle.std.proofs.Common.{refl, arith}
-use Rattle.dj_emit.proofs.MethodFacts.{has_instr, class_within, object_free, object_counted, object_big}
+use Rattle.std.proofs.Common.{rules, ◌≡◌, ℕ, ◌+◌, ◌*◌, [], ◌∷◌, ap, ◌∙◌, arith}
+use Rattle.dj_groups.specs.Groups.{ObjectBytes, Record, Allocations}
+use Rattle.dj_emit.proofs.MethodFacts.{has_instr, class_within, object_free, object_big, counted}
 use Rattle.dj_ops.specs.declared.instruction.Instr.TheVariants as instrs
 use Rattle.dj_emit.proofs.method.object_charge.Goals as goal
 
@@ -17,4 +18,7 @@ returns-then-size-gt32767 c =
     object_big c.args.image.now c.args.method.number c.args.number c.in-Class.class c.field_count.result c.in-Class.ensures c.field_count.ensures (omega (arith, c.if-size-gt32767.true))
 
 pub returns : goal.returns
-returns c = object_counted c.args.image.now c.args.method.number c.args.number c.in-Class.class c.field_count.result _ c.in-Class.ensures c.field_count.ensures refl
+returns c = λ index s.
+    let same : c.from.result ≡ c.field_count.result = search rules in
+    ap (λ (n : ℕ). ObjectBytes (16 + 8 * n) ∷ Record Allocations ∷ []) same
+    ∙ counted c.args.image.now c.args.method.number c.args.number c.in-Class.class c.field_count.result c.in-Class.ensures c.field_count.ensures index s
