@@ -9,6 +9,5 @@ pub mod CutFacts
 pub mod PartFacts
 pub mod MethodFacts
 pub mod WholeFacts
-pub mod CountFacts
 mod RowFacts
 mod TableFacts

@@ -1,20 +1,16 @@
 -- The groups of the method's code, one after another.
-use Rattle.std.proofs.Common.{◌≡◌, ℕ, ◌+◌, ◌<◌, ◌≤◌, ◌⊎◌, inl, inr, Bool, false, Err, List, [], ◌∷◌, ◌++◌, map, take, length, get_or, Some, slice_get, refl, sym, ap, ap₂, subst, ◌∙◌, arith}
-use Rattle.std.specs.List.{AllByRecursion, flat_map}
-use Rattle.std.proofs.lemmas.Bool.{cases_lt}
-use Rattle.std.proofs.lemmas.List.{get_or-map, get_or_default, get_or_past, take_more, take_all, map-append}
+use Rattle.std.proofs.Common.{◌≡◌, ℕ, ◌+◌, ◌<◌, ◌≤◌, Bool, false, Err, List, [], ◌∷◌, ◌++◌, map, take, length, get_or, Some, slice_get, refl, sym, ap, ap₂, subst, ◌∙◌, arith}
+use Rattle.std.specs.List.{AllByRecursion}
+use Rattle.std.proofs.lemmas.List.{get_or-map, get_or_default, take_more, take_all, map-append}
 use Rattle.std.proofs.lemmas.Option.{slice_get-get_or}
 use Rattle.dj_ops.specs.declared.instruction.Instr.{Instr}
-use Rattle.dj_ops.specs.declared.instruction.Instr.TheVariants as instrs
 use Rattle.dj_ops.specs.trusted.Instructions.{IsProper}
 use Rattle.dj_labels.specs.declared.labelled.Protected.{Protected}
 use Rattle.dj_labels.specs.declared.labelled.Labelled.{Labelled}
 use Rattle.dj_labels.specs.Faults.{IsFirstWithout}
-use Rattle.dj_labels.specs.trusted.Labels.{IsRange}
 use Rattle.dj_model.specs.trusted.Instructions.{Instruction}
 use Rattle.dj_model.specs.Runs.{starts_handler}
-use Rattle.dj_groups.specs.Groups.{Group, group_at, plain_group, group_of, groups_from, groups_of}
-use Rattle.dj_groups.specs.Grouped.{protected_pieces}
+use Rattle.dj_groups.specs.Groups.{Group, group_of, groups_from, groups_of}
 use Rattle.dj_program.specs.trusted.Codes.{code_in}
 use Rattle.dj_image.specs.Imaged.{Imaged, program_of}
 use Rattle.dj_image.specs.Codes.{code_at}
@@ -23,12 +19,10 @@ use Rattle.dj_emit.specs.declared.error.EmitError.TheVariants as errors
 use Rattle.dj_emit.specs.declared.parts.GroupPart.{GroupPart}
 use Rattle.dj_emit.specs.Parts.{group_seen, groups_seen}
 use Rattle.dj_emit.specs.Arrivals.{handles, AreArrivals}
-use Rattle.dj_emit.specs.Groups.{pooled_at, labelled_at, groups_at, rows_at, IsKnownNew, FitsSipush, IsRefusal}
-use Rattle.dj_emit.specs.Rows.{counts, pieces_by, sum_of}
+use Rattle.dj_emit.specs.Groups.{pooled_at, labelled_at, groups_at, IsKnownNew, FitsSipush, IsRefusal}
 use Rattle.dj_emit.specs.Numbered.{named_at, IsCodeAt, StandsAt, PartAt}
 use Rattle.dj_emit.proofs.Orders.{all_at, length_map}
 use Rattle.dj_emit.proofs.ArrivalFacts.{handler_is}
-use Rattle.dj_emit.proofs.CountFacts.{rows_are}
 use Rattle.dj_emit.proofs.PartFacts.{length_from, from_at, parts_fit}
 
 module _ (imaged : Imaged) (method : ℕ) (labelled : Labelled) (code : IsCodeAt imaged method labelled) where
@@ -104,20 +98,6 @@ module _ (imaged : Imaged) (method : ℕ) (labelled : Labelled) (code : IsCodeAt
 
   pub length_seen : (parts : List GroupPart) → groups_seen parts ≡ groups_at imaged method → length parts ≡ length labelled.code
   length_seen parts seen = sym (length_map group_seen parts) ∙ ap length seen ∙ length_all
-
-  -- which handlers arrive, by the groups
-  pub arrives_at : (arrives : List Bool) → AreArrivals (length labelled.code) labelled.ranges arrives → (k : ℕ) → get_or arrives k false ≡ (group_at (groups_at imaged method) k).arrives
-  arrives_at arrives here k = go (cases_lt k (length labelled.code)) where
-    go : (k < length labelled.code) ⊎ (length labelled.code ≤ k) → get_or arrives k false ≡ (group_at (groups_at imaged method) k).arrives
-    go (inl less) = here.each k less ∙ sym (ap (λ (g : Group). g.arrives) (group_is k plain_group (get_or labelled.code k (instrs.Simple 0)) (handles labelled.ranges k) less (get_or_default labelled.code k (instrs.Simple 0) (get_or labelled.code k (instrs.Simple 0)) less) refl))
-    go (inr past) = get_or_past arrives k false (omega (arith, past, here.all)) ∙ sym (ap (λ (g : Group). g.arrives) (get_or_past (groups_at imaged method) k plain_group (omega (arith, past, length_all))))
-
-  -- the rows are counted by the handlers
-  pub rows_known : (arrives : List Bool) → AreArrivals (length labelled.code) labelled.ranges arrives → sum_of (pieces_by (counts arrives)) labelled.ranges ≡ rows_at imaged method
-  rows_known arrives here =
-      rows_are (groups_at imaged method) arrives (arrives_at arrives here) labelled.ranges
-      (let P : ℕ → Type 0 = λ n. AllByRecursion (IsRange n) labelled.ranges in subst P (sym here.all) code.well.ranges)
-      ∙ ap (λ (l : Labelled). length (flat_map (protected_pieces (groups_at imaged method)) l.ranges)) (sym code.is)
 
   -- what is looked up among the arrivals
   pub arrives_here : (arrives : List Bool) (count : ℕ) (ranges : List Protected) (i : ℕ) (b : Bool) → AreArrivals count ranges arrives → ranges ≡ labelled.ranges → i < count → b ≡ get_or arrives i b

@@ -1,6 +1,6 @@
 -- The groups of the code of one method of an image.
 use Rattle.std.specs.Prelude.{◌≡◌, ℕ, ◌<◌, ◌^◌, ⊤, List, [], take, length, Option, Some, None, unwrap_or, is_some, IsTrue, slice_get}
-use Rattle.std.specs.List.{AllByRecursion, flat_map}
+use Rattle.std.specs.List.{AllByRecursion}
 use Rattle.dj_names.specs.trusted.Types.{Name, class_type}
 use Rattle.dj_labels.specs.declared.labelled.Labelled.{Labelled}
 use Rattle.dj_labels.specs.Labels.{IsWellFormed}
@@ -9,7 +9,6 @@ use Rattle.dj_model.specs.trusted.Instructions.{Instruction, New}
 use Rattle.dj_model.specs.trusted.Program.{Program, Code, Runs}
 use Rattle.dj_model.specs.trusted.Linking.{FoundMethod}
 use Rattle.dj_groups.specs.Groups.{Group, inserted, groups_of}
-use Rattle.dj_groups.specs.Grouped.{protected_pieces}
 use Rattle.dj_groups.specs.Laws.{FitsObject}
 use Rattle.dj_class_table.specs.Tables.{class_number}
 use Rattle.dj_program.specs.trusted.Codes.{code_in}
@@ -33,10 +32,6 @@ labelled_at imaged method = (pooled_at imaged method).parts.labelled
 
 abbrev pub groups_at : Imaged → ℕ → List Group
 groups_at imaged method = groups_of (program_of imaged) (code_in (pooled_at imaged method).pool (pooled_at imaged method).parts)
-
--- how many rows the code in groups has
-abbrev pub rows_at : Imaged → ℕ → ℕ
-rows_at imaged method = length (flat_map (protected_pieces (groups_at imaged method)) (labelled_at imaged method).ranges)
 
 -- ---- when they are asked
 

@@ -7,4 +7,3 @@ pub mod Spelled
 pub mod Cuts
 pub mod Groups
 pub mod Numbered
-pub mod Rows

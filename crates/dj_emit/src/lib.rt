@@ -9,12 +9,10 @@ mod error;
 mod method;
 mod parts;
 mod places;
-mod rows;
 mod size;
 mod spelling;
 mod targets;
 
 pub use error::EmitError;
 pub use method::groups;
-pub use rows::has_few_rows;
 pub use spelling::Grouped;

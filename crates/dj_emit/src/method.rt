@@ -76,8 +76,8 @@ fn parts_of(
     Ok(parts)
 }
 
-/// The code of a method that has some.
-pub(crate) fn code_of(image: &Image, method: MethodId) -> &MethodCode
+// The code of a method that has some.
+fn code_of(image: &Image, method: MethodId) -> &MethodCode
     requires there { method.number < length (all_methods (program_of image.now)) }
     requires code { HasGroups image.now method.number }
     ensures { IsCodeAt image.now method.number result.now.code }
