@@ -1,0 +1,9 @@
+pub mod Parts
+pub mod Charges
+pub mod Arrivals
+pub mod Places
+pub mod Aimed
+pub mod Spelled
+pub mod Cuts
+pub mod Groups
+pub mod Numbered
