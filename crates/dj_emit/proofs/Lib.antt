@@ -11,3 +11,5 @@ pub mod MethodFacts
 pub mod WholeFacts
 mod RowFacts
 mod TableFacts
+pub mod FiledFacts
+pub mod RowCounts

@@ -7,3 +7,4 @@ pub mod Spelled
 pub mod Cuts
 pub mod Groups
 pub mod Numbered
+pub mod Filed

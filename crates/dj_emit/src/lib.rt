@@ -6,13 +6,16 @@ mod arrivals;
 mod charges;
 mod cuts;
 mod error;
+mod filed;
 mod method;
 mod parts;
 mod places;
+mod row_counts;
 mod size;
 mod spelling;
 mod targets;
 
 pub use error::EmitError;
+pub use filed::groups_in_file;
 pub use method::groups;
 pub use spelling::Grouped;
