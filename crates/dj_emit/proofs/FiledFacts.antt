@@ -161,8 +161,12 @@ new_number imaged i text n = place_of_class (program_of imaged) (map type_text i
 
 pub number_within : (imaged : Imaged) (i : Instruction) (text : Name) → (n : IsNamedNew imaged i text) → n.number < length (types_of (typed_of imaged))
 number_within imaged i text n =
-    omega (arith, class_number-within (program_of imaged) text n.number n.has, length-append (map (λ (c : programs.Class). class_type (name_of c)) (program_of imaged)) imaged.arrays,
-      length_map (λ (c : programs.Class). class_type (name_of c)) (program_of imaged))
+    omega (
+      arith,
+      class_number-within (program_of imaged) text n.number n.has,
+      length-append (map (λ (c : programs.Class). class_type (name_of c)) (program_of imaged)) imaged.arrays,
+      length_map (λ (c : programs.Class). class_type (name_of c)) (program_of imaged),
+    )
 
 -- ---- the charge of a `new`
 
@@ -289,12 +293,12 @@ module _ (program : Program) (pool : List Constant) (labelled : Labelled) (can :
   group_is i g instr arrives less is here =
       ap (λ (xs : List Group). get_or xs i g) groups_are
       ∙ from_at program (starts_handler (Some (code_in pool (bare_parts labelled)))) 0 i instructions g (instruction_in pool instr)
-        (omega (arith, less, length_map (instruction_in pool) labelled.code))
+      (omega (arith, less, length_map (instruction_in pool) labelled.code))
       ∙ ap₂ (λ (b : Bool) (x : Instruction). group_of program b x)
-        (ap (starts_handler (Some (code_in pool (bare_parts labelled)))) number ∙ handler_is pool (bare_parts labelled) i ∙ sym here)
-        (get_or-map (instruction_in pool) labelled.code i instr (instruction_in pool instr) less ∙ ap (instruction_in pool) (sym is)) where
-          number : 0 + i ≡ i
-          number = omega arith
+      (ap (starts_handler (Some (code_in pool (bare_parts labelled)))) number ∙ handler_is pool (bare_parts labelled) i ∙ sym here)
+      (get_or-map (instruction_in pool) labelled.code i instr (instruction_in pool instr) less ∙ ap (instruction_in pool) (sym is)) where
+        number : 0 + i ≡ i
+        number = omega arith
 
   -- one more group
   pub parts_more : (parts : List GroupPart) (part : GroupPart) (i : ℕ) (instr : Instr) (arrives : Bool) → i < length labelled.code → instr ≡ get_or labelled.code i instr → arrives ≡ handles labelled.ranges i
@@ -309,13 +313,15 @@ module _ (program : Program) (pool : List Constant) (labelled : Labelled) (can :
   pub parts_refused : (parts : List GroupPart) (i : ℕ) (instr : Instr) (arrives : Bool) → i < length labelled.code → instr ≡ get_or labelled.code i instr → arrives ≡ handles labelled.ranges i
       → groups_seen parts ≡ take i gs → (FitsSipush (group_of program arrives (instruction_in pool instr)) → ⊥)
       → IsRefusal gs (errors.BigObject i)
-  parts_refused parts i instr arrives less is here seen big =
-      (group_of program arrives (instruction_in pool instr), record {
-        found = slice_get-get_or gs i (group_of program arrives (instruction_in pool instr)) (omega (arith, less, length_all))
-            ∙ ap Some (group_is i (group_of program arrives (instruction_in pool instr)) instr arrives less is here);
-        lacks = big;
-        before = subst (AllByRecursion FitsSipush) seen (parts_fit parts);
-      })
+  parts_refused parts i instr arrives less is here seen big = (
+    group_of program arrives (instruction_in pool instr),
+    record {
+      found = slice_get-get_or gs i (group_of program arrives (instruction_in pool instr)) (omega (arith, less, length_all))
+          ∙ ap Some (group_is i (group_of program arrives (instruction_in pool instr)) instr arrives less is here);
+      lacks = big;
+      before = subst (AllByRecursion FitsSipush) seen (parts_fit parts);
+    },
+  )
 
   pub parts_whole : (parts : List GroupPart) (i : ℕ) → length labelled.code ≤ i → groups_seen parts ≡ take i gs → groups_seen parts ≡ gs
   parts_whole parts i past seen = seen ∙ take_all i gs (omega (arith, past, length_all))

@@ -91,9 +91,9 @@ range_count gs range less =
     length_map _ (pieces gs range.start range.end)
     ∙ piece_count gs range.start range.end less
     ∙ (let all : arrivals_from gs 0 range.end ≡ arrivals_from gs 0 (range.start + 1 + (range.end - suc range.start)) = ap (arrivals_from gs 0) (omega (arith, less)) in
-       let later : arrivals_from gs (0 + (range.start + 1)) (range.end - suc range.start) ≡ arrivals_from gs (suc range.start) (range.end - suc range.start) =
-         ap (λ (j : ℕ). arrivals_from gs j (range.end - suc range.start)) (omega arith) in
-       omega (arith, all, later, split gs 0 (range.start + 1) (range.end - suc range.start)))
+    let later : arrivals_from gs (0 + (range.start + 1)) (range.end - suc range.start) ≡ arrivals_from gs (suc range.start) (range.end - suc range.start) =
+    ap (λ (j : ℕ). arrivals_from gs j (range.end - suc range.start)) (omega arith) in
+    omega (arith, all, later, split gs 0 (range.start + 1) (range.end - suc range.start)))
 
 -- ---- rows
 

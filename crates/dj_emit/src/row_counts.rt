@@ -48,7 +48,11 @@ fn piece_count(parts: &[GroupPart], counts: &[u32], range: Protected) -> u32
 }
 
 /// Whether a class file has room for the rows of ranges that are cut.
-pub(crate) fn has_few_rows(alloc: Global, parts: &[GroupPart], ranges: &[Protected]) -> Result<bool, AllocError>
+pub(crate) fn has_few_rows(
+    alloc: Global,
+    parts: &[GroupPart],
+    ranges: &[Protected],
+) -> Result<bool, AllocError>
     requires few { length parts.now < 2 ^ 16 }
     requires within { AllByRecursion (IsRange (length parts.now)) ranges.now }
     ensures { IfOk result (λ few. IsTrue few ↔ length (rows_of (groups_seen parts.now) ranges.now) ≤ 65535) }

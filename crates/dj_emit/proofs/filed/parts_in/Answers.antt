@@ -28,11 +28,11 @@ returns-in_err-part c =
     let less = subst (λ (is : List Instr). c.loop-i.i < length is) code c.loop-i-test.true in
     let is = c.index-code-i.is ∙ ap (λ (is : List Instr). get_or is c.loop-i.i c.index-code-i.result) code in
     let here =
-        c.index.ensures ∙ get_or_default c.in_ok-arrives.arrives.items c.loop-i.i c.index.result.now false (let e = c.in_ok-arrives.ensures.all in omega (arith, e, c.loop-i-test.true))
-        ∙ c.in_ok-arrives.ensures.each c.loop-i.i c.loop-i-test.true ∙ ap (λ (rs : List Protected). handles rs c.loop-i.i) c.as_slice.ensures in
+    c.index.ensures ∙ get_or_default c.in_ok-arrives.arrives.items c.loop-i.i c.index.result.now false (let e = c.in_ok-arrives.ensures.all in omega (arith, e, c.loop-i-test.true))
+    ∙ c.in_ok-arrives.ensures.each c.loop-i.i c.loop-i-test.true ∙ ap (λ (rs : List Protected). handles rs c.loop-i.i) c.as_slice.ensures in
     let p = err_from_is_err_and c.from_residual-in_err-part.result c.from_residual-in_err-part.ensures.1 in
     let given : IsPartOf program (instruction_in c.args.pool.now c.index-code-i.result) c.loop-i.i c.index.result.now (Err p.0) =
-        subst (λ (e : EmitError). IsPartOf program (instruction_in c.args.pool.now c.index-code-i.result) c.loop-i.i c.index.result.now (Err e)) (sym p.2) c.in_err-part.ensures in
+    subst (λ (e : EmitError). IsPartOf program (instruction_in c.args.pool.now c.index-code-i.result) c.loop-i.i c.index.result.now (Err e)) (sym p.2) c.in_err-part.ensures in
     let refused = facts.refused_by program c.args.pool.now c.args.labelled.now c.requires c.loop-i.parts.items c.loop-i.i c.index-code-i.result c.index.result.now less is here c.loop-i.invariant p.0 given in
     subst (λ (r : Result (Vec GroupPart) EmitError). ArePartsOf (groups_in program c.args.pool.now c.args.labelled.now) r) (sym p.1) refused
 
@@ -42,11 +42,11 @@ loop-i-preserved c =
     let less = subst (λ (is : List Instr). c.loop-i.i < length is) code c.loop-i-test.true in
     let is = c.index-code-i.is ∙ ap (λ (is : List Instr). get_or is c.loop-i.i c.index-code-i.result) code in
     let here =
-        c.index.ensures ∙ get_or_default c.in_ok-arrives.arrives.items c.loop-i.i c.index.result.now false (let e = c.in_ok-arrives.ensures.all in omega (arith, e, c.loop-i-test.true))
-        ∙ c.in_ok-arrives.ensures.each c.loop-i.i c.loop-i-test.true ∙ ap (λ (rs : List Protected). handles rs c.loop-i.i) c.as_slice.ensures in
+    c.index.ensures ∙ get_or_default c.in_ok-arrives.arrives.items c.loop-i.i c.index.result.now false (let e = c.in_ok-arrives.ensures.all in omega (arith, e, c.loop-i-test.true))
+    ∙ c.in_ok-arrives.ensures.each c.loop-i.i c.loop-i-test.true ∙ ap (λ (rs : List Protected). handles rs c.loop-i.i) c.as_slice.ensures in
     ap groups_seen c.in_ok-push.ensures.items
     ∙ facts.parts_more (program_of c.args.image.now) c.args.pool.now c.args.labelled.now c.requires c.loop-i.parts.items c.in_ok-part.part c.loop-i.i c.index-code-i.result c.index.result.now less is here
-        c.loop-i.invariant c.in_ok-part.ensures
+    c.loop-i.invariant c.in_ok-part.ensures
 
 pub returns : goal.returns
 returns c =

@@ -23,8 +23,8 @@ returns-in_err-part c =
     let less : i < length c.args.labelled.now.code = omega (arith, c.loop-i-test.true, ap length c.as_slice-code.ensures) in
     let is : instr ≡ get_or c.args.labelled.now.code i instr = c.index-code-i.is ∙ ap (λ (xs : List Instr). get_or xs i instr) c.as_slice-code.ensures in
     let here : c.index.result.now ≡ handles c.args.labelled.now.ranges i =
-        arrives_here c.args.image.now c.args.method.number labelled c.requires c.in_ok-arrives.arrives.items (length c.as_slice-code.result.now) c.as_slice.result.now i c.index.result.now c.in_ok-arrives.ensures c.as_slice.ensures c.loop-i-test.true
-        c.index.ensures in
+    arrives_here c.args.image.now c.args.method.number labelled c.requires c.in_ok-arrives.arrives.items (length c.as_slice-code.result.now) c.as_slice.result.now i c.index.result.now c.in_ok-arrives.ensures c.as_slice.ensures c.loop-i-test.true
+    c.index.ensures in
     let p = err_from_is_err_and c.from_residual-in_err-part.result c.from_residual-in_err-part.ensures.1 in
     rw (p.1, p.2)
     (refused_at c.args.image.now c.args.method.number labelled c.requires c.loop-i.parts.items i instr c.index.result.now c.in_err-part.field-0.0 less is here c.loop-i.invariant c.in_err-part.ensures)
@@ -37,8 +37,8 @@ loop-i-preserved c =
     let less : i < length c.args.labelled.now.code = omega (arith, c.loop-i-test.true, ap length c.as_slice-code.ensures) in
     let is : instr ≡ get_or c.args.labelled.now.code i instr = c.index-code-i.is ∙ ap (λ (xs : List Instr). get_or xs i instr) c.as_slice-code.ensures in
     let here : c.index.result.now ≡ handles c.args.labelled.now.ranges i =
-        arrives_here c.args.image.now c.args.method.number labelled c.requires c.in_ok-arrives.arrives.items (length c.as_slice-code.result.now) c.as_slice.result.now i c.index.result.now c.in_ok-arrives.ensures c.as_slice.ensures c.loop-i-test.true
-        c.index.ensures in
+    arrives_here c.args.image.now c.args.method.number labelled c.requires c.in_ok-arrives.arrives.items (length c.as_slice-code.result.now) c.as_slice.result.now i c.index.result.now c.in_ok-arrives.ensures c.as_slice.ensures c.loop-i-test.true
+    c.index.ensures in
     ap (λ (ps : List GroupPart). groups_seen ps) c.in_ok-push.ensures.items
     ∙ parts_more c.args.image.now c.args.method.number labelled c.requires c.loop-i.parts.items c.in_ok-part.part i instr c.index.result.now less is here c.loop-i.invariant c.in_ok-part.ensures
 

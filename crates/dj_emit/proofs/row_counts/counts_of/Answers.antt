@@ -15,7 +15,7 @@ loop-part-preserved c =
     let gs = groups_seen c.args.parts.now in
     let q = c.loop-part-test.true in
     let here : rows.one c.part-item.result.arrives ≡ rows.one (group_at gs k).arrives =
-        ap (λ (g : Group). rows.one g.arrives) (ap group_seen c.part-item.is ∙ sym (steps.group_is c.args.parts.now k c.part-item.result q)) in
+    ap (λ (g : Group). rows.one g.arrives) (ap group_seen c.part-item.is ∙ sym (steps.group_is c.args.parts.now k c.part-item.result q)) in
     let next : c.loop-part.count + rows.one c.part-item.result.arrives ≡ arrivals_from gs 0 (k + 1) = omega (arith, here, i.here, rows.more gs k) in
     record {
       counts = c.in_ok-push.ensures.items ∙ steps.more (arrivals_from gs 0) c.loop-part.counts.items k c.loop-part.count i.counts i.here;
