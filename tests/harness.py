@@ -18,6 +18,7 @@ USAGE = (
 )
 NO_CLASS_FILE = b"djvm: the folder has no class file: give the folder that javac -d wrote\n"
 NO_RIGHT_PATH = b"djvm: no class file is at the path of its class: give the folder that javac -d wrote\n"
+OTHER_VERSION = rb"djvm: \"[^\n]*\": its version is \d+\.\d+: compile with javac --release 8\n"
 OF_A_PATH = rb"djvm: \"[^\n]*\": [^\n]+\n"
 NOTES = {
     64: re.escape(USAGE),
@@ -94,6 +95,8 @@ def fits_report(outcome):
         return len(lines) == 1 and lines[0].endswith(b" ENTRY")
     if outcome.status == 2 and outcome.stderr == NO_RIGHT_PATH:
         return names_all_paths(lines)
+    if outcome.status == 2 and any(line.endswith(b" VERSION") for line in lines):
+        return re.fullmatch(OTHER_VERSION, outcome.stderr)
     return not outcome.stderr
 
 

@@ -11,7 +11,7 @@ sys.dont_write_bytecode = True
 import harness
 from class_files import class_file, native
 from harness import Outcome
-from special_base import VERIFY, accepted, closed_pipe, full, link, one, rejected, special, usage, write
+from special_base import RAW, VERIFY, accepted, closed_pipe, full, link, one, rejected, special, usage, write
 
 LAUNCHER = os.path.join(os.path.dirname(os.path.dirname(os.path.abspath(__file__))), "djvm")
 
@@ -50,9 +50,51 @@ def note_on_an_absent_folder():
     pass
 
 
+# An empty FOLDER isn't the root.
+
+
+@special("check", "", wanted=says_on_stderr(65, b'"": No such file or directory (os error 2)'))
+def note_on_an_empty_folder():
+    write("A.class", one)
+
+
+@special("raw", "", "/", "in", wanted=says_on_stderr(65, b'"": No such file or directory (os error 2)'))
+def note_on_an_empty_folder_before_a_slash():
+    write("in")
+
+
 @special("check", "c\nd", wanted=says_on_stderr(65, rb'"c\nd/": No such file or directory (os error 2)'))
 def note_on_a_name_of_two_lines():
     pass
+
+
+# A name of a folder isn't UTF-8: the first such name in the order of the listing.
+
+
+@special(wanted=says_on_stderr(65, rb'''"c/": the name "\xff.class" in it isn't UTF-8'''))
+def note_on_a_name_not_utf8():
+    write("c/A.class", one)
+    write(b"c/\xff.class", one)
+
+
+@special(wanted=says_on_stderr(65, rb'''"c/a\n": the name "\xc3\xa9\xc3\n\"" in it isn't UTF-8'''))
+def note_on_a_long_way_to_a_name_not_utf8():
+    for number in range(2000):
+        write("c/a\n/%d" % number)
+    write(b"c/a\n/\xc3\xa9\xc3\n\"")
+
+
+# A name has 255 bytes at most, and a path 4,095.
+
+
+@special("check", "d" * 256, wanted=says_on_stderr(65, b'"%s/": File name too long (os error 36)' % (b"d" * 256)))
+def note_on_a_name_that_is_too_long():
+    pass
+
+
+@special("check", "c" + "/." * 2048, wanted=says_on_stderr(65, b'"c%s/": File name too long (os error 36)' % (b"/." * 2048)))
+def note_on_a_path_that_is_too_long():
+    write("c/A.class", one)
 
 
 @special("check", "c", wanted=says_on_stderr(65, b'"c/": Not a directory (os error 20)'))
@@ -147,6 +189,58 @@ def no_note_on_other_rules():
 @special(wanted=with_note(accepted(1), b""))
 def no_note_on_what_is_accepted():
     write("c/A.class", one)
+
+
+# Another version: that of the first class file that has one, in the order of their paths.
+
+OLD, NEW = (45, 3), (61, 0)
+
+
+def other_version(path, version):
+    return b'djvm: "c/%s": its version is %d.%d: compile with javac --release 8\n' % (path, *version)
+
+
+def write_versions(**versions):
+    for name, (major, minor) in versions.items():
+        write("c/%s.class" % name, class_file(name, major=major, minor=minor))
+
+
+@special(wanted=with_note(rejected(b"B.class - - 2 VERSION"), other_version(b"B.class", NEW)))
+def note_on_another_version():
+    write_versions(A=(52, 0), B=NEW)
+
+
+@special(wanted=with_note(rejected(b"A.class - - 2 VERSION", b"B.class - - 2 VERSION"), other_version(b"A.class", OLD)))
+def note_on_two_other_versions():
+    write_versions(B=NEW, A=OLD)
+
+
+@special(*RAW, wanted=with_note(rejected(b"A.class - - 2 VERSION", b"B.class n()V - 7 NATIVE"), other_version(b"A.class", NEW)))
+def note_on_another_version_in_a_run():
+    write_versions(A=NEW)
+    write("c/B.class", class_file("B", [native("n")]))
+    write("in")
+
+
+@special(*VERIFY, wanted=with_note(rejected(b"A.class - - 2 VERSION"), other_version(b"A.class", (53, 65535))))
+def note_on_another_version_by_verify():
+    write_versions(A=(53, 65535))
+    write("in", class_file("in", major=61))
+
+
+@special(wanted=with_note(rejected(b"d/A.class - - 2 VERSION", b"d/A.class - - 3 NAME"), harness.NO_RIGHT_PATH))
+def note_on_a_folder_above_another_version():
+    write("c/d/A.class", class_file("A", major=61))
+
+
+@special(wanted=with_note(rejected(b"A.class - - 1 MALFORMED"), b""))
+def no_note_on_a_malformed_version():
+    write("c/A.class", class_file("A", major=61)[:-1])
+
+
+@special(wanted=with_note(accepted(3), b""))
+def no_note_on_accepted_versions():
+    write_versions(A=(50, 0), B=(51, 9), C=(52, 65535))
 
 
 # A standard output that takes no more: why. One that isn't waited for ends so too.

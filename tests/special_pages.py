@@ -15,7 +15,7 @@ TOP = os.path.dirname(HERE)
 
 # The commands that the pages show, with what they print; the report's first word gives the status.
 
-PAGES = ("README.md", "docs/ASSEMBLER.md", *("examples/%s/README.md" % folder for folder in ("assembler", "first", "javac", "raw", "rules", "straight")))
+PAGES = ("README.md", "docs/ASSEMBLER.md", "docs/JAVA.md", *("examples/%s/README.md" % folder for folder in ("assembler", "first", "javac", "raw", "rules", "straight")))
 SHOWN_STATUS = {b"ACCEPTED": 0, b"OK": 0, b"EXCEPTION": 1, b"REJECTED": 2, b"THRESHOLD": 3, b"DEPTH": 4, b"INIT": 5, b"LINK": 6, b"LIMIT": 7}
 SHOWN_STATUS |= {b"STEPS": 8, b"HEAP": 9, b"USAGE": 64, b"ASM": 68, b"LATER": 75}
 

@@ -1,5 +1,5 @@
 -- What rows say, by plain values.
-use Rattle.std.specs.Prelude.{◌≡◌, ℕ, List, [], ◌∷◌, map, Some, None, codes}
+use Rattle.std.specs.Prelude.{◌≡◌, ℕ, List, [], ◌∷◌, ◌++◌, map, Some, None, codes}
 use Rattle.std.specs.Borrow.{Bor}
 use Rattle.std.proofs.Common.{refl, ap, arith}
 use Rattle.dj_names.specs.declared.descriptor.Base.TheVariants as bases
@@ -9,18 +9,22 @@ use Rattle.dj_names.specs.declared.native.NativeId.TheVariants as natives
 use Rattle.dj_names.specs.trusted.Types.{class_type, base_type, base_array}
 use Rattle.dj_library.specs.declared.types.TypeRow.{TypeRow}
 use Rattle.dj_library.specs.declared.types.TypeRow.TheVariants as types
-use Rattle.dj_library.specs.declared.methods.Which.TheVariants as which
+use Rattle.dj_library.specs.declared.which.Which.TheVariants as which
 use Rattle.dj_library.specs.declared.methods.MethodRow.{MethodRow}
 use Rattle.dj_library.specs.declared.methods.MethodRow.TheVariants as rows
 use Rattle.dj_library.specs.declared.classes.LibraryHead.{LibraryHead}
 use Rattle.dj_library.specs.trusted.Heads.{Head}
-use Rattle.dj_library.specs.TableRows.{type_of_row, method_of_row, host_native, native_in, method_in, rows_of_hosts, class_in, head_view}
+use Rattle.dj_library.specs.TableRows.{type_in, method_of_row, host_native, native_in, method_in, rows_of_hosts, class_in, head_view}
 
-types_of_rows : (name : Bor (List ℕ)) → map type_of_row (types.Base bases.Int ∷ types.Array bases.Char ∷ types.Class name ∷ []) ≡ base_type bases.Int ∷ base_array bases.Char ∷ class_type name.now ∷ []
+types_of_rows : (name : Bor (List ℕ)) → map (type_in which.Raw) (types.Base bases.Int ∷ types.Array bases.Char ∷ types.Class name ∷ []) ≡ base_type bases.Int ∷ base_array bases.Char ∷ class_type name.now ∷ []
 types_of_rows name = refl
 
-no_array : type_of_row (types.Base bases.Char) ≡ base_array bases.Char → ⊥
+no_array : type_in which.Raw (types.Base bases.Char) ≡ base_array bases.Char → ⊥
 no_array e = let dims : 0 ≡ 1 = ap (λ (ty : Ty). ty.dims) e in omega (arith, dims)
+
+-- of rewritten classes the names begin with the package `sandbox`, those of array types too; base types stay
+types_in_sandbox : (name : Bor (List ℕ)) → map (type_in which.Sandbox) (types.Base bases.Int ∷ types.Array bases.Char ∷ types.Class name ∷ []) ≡ base_type bases.Int ∷ base_array bases.Char ∷ class_type (codes "sandbox/" ++ name.now) ∷ []
+types_in_sandbox name = refl
 
 -- ---- the flags and the natives of methods
 
@@ -33,13 +37,13 @@ some_methods name params ret =
     ∷ rows.Abstract name params (Some ret)
     ∷ []
 
-flags_of_rows : (name : Bor (List ℕ)) (params : Bor (List TypeRow)) (ret : TypeRow) → map (λ (row : MethodRow). (method_of_row row).flags) (some_methods name params ret) ≡ 257 ∷ 257 ∷ 265 ∷ 265 ∷ 1025 ∷ []
+flags_of_rows : (name : Bor (List ℕ)) (params : Bor (List TypeRow)) (ret : TypeRow) → map (λ (row : MethodRow). (method_of_row which.Deterministic row).flags) (some_methods name params ret) ≡ 257 ∷ 257 ∷ 265 ∷ 265 ∷ 1025 ∷ []
 flags_of_rows name params ret = refl
 
-names_of_rows : (name : Bor (List ℕ)) (params : Bor (List TypeRow)) (ret : TypeRow) → map (λ (row : MethodRow). (method_of_row row).name) (some_methods name params ret) ≡ codes "<init>" ∷ name.now ∷ name.now ∷ name.now ∷ name.now ∷ []
+names_of_rows : (name : Bor (List ℕ)) (params : Bor (List TypeRow)) (ret : TypeRow) → map (λ (row : MethodRow). (method_of_row which.Deterministic row).name) (some_methods name params ret) ≡ codes "<init>" ∷ name.now ∷ name.now ∷ name.now ∷ name.now ∷ []
 names_of_rows name params ret = refl
 
-no_native : (name : Bor (List ℕ)) (params : Bor (List TypeRow)) → (method_of_row (rows.Abstract name params None)).native ≡ Some natives.ObjectNew → ⊥
+no_native : (name : Bor (List ℕ)) (params : Bor (List TypeRow)) → (method_of_row which.Deterministic (rows.Abstract name params None)).native ≡ Some natives.ObjectNew → ⊥
 no_native name params e = absurd cc
 
 -- ---- the natives of the libraries
@@ -59,8 +63,12 @@ deterministic_native native = refl
 raw_native : native_in which.Raw natives.ObjectHashCode ≡ natives.ObjectHashCode → ⊥
 raw_native e = absurd cc
 
-raw_method : (name : Bor (List ℕ)) (params : Bor (List TypeRow)) (ret : TypeRow) → method_in which.Raw (rows.OnObject name params ret natives.ObjectHashCode) ≡ method_of_row (rows.OnObject name params ret natives.HostHashCode)
+raw_method : (name : Bor (List ℕ)) (params : Bor (List TypeRow)) (ret : TypeRow) → method_in which.Raw (rows.OnObject name params ret natives.ObjectHashCode) ≡ method_of_row which.Raw (rows.OnObject name params ret natives.HostHashCode)
 raw_method name params ret = refl
+
+-- a rewritten class's objects answer as those of the deterministic library
+sandbox_native : (native : NativeId) → native_in which.Sandbox native ≡ native
+sandbox_native native = refl
 
 no_clocks : (rows : List MethodRow) → rows_of_hosts which.Deterministic rows ≡ []
 no_clocks rows = refl

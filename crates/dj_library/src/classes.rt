@@ -1,9 +1,10 @@
-ghost use Rattle.std.specs.Prelude.{◌≡◌, IfOk, map, option_map};
+ghost use Rattle.std.specs.Prelude.{◌≡◌, ◌++◌, IfOk, OnOk, map, option_map};
 ghost use Rattle.dj_library_types.specs.Views.{library_class_view, library_view};
-ghost use Rattle.dj_library.specs.TableRows.{name_of_row, class_in};
+ghost use Rattle.dj_library.specs.TableRows.{name_in, class_in};
 
 use crate::errors::LibraryError;
-use crate::methods::{MethodRow, Which, methods_of};
+use crate::methods::{MethodRow, methods_of};
+use crate::which::{Which, name_of};
 use dj_library_types::{LibClass, Library, Names};
 use dj_names::Name;
 use std::alloc::Global;
@@ -26,21 +27,25 @@ pub struct LibraryHead {
     pub(crate) hosts: &'static [MethodRow],
 }
 
-fn superclass_of(alloc: Global, name: Option<&'static [u8]>) -> Result<Option<Name>, LibraryError>
-    ensures { IfOk result (λ superclass. superclass ≡ option_map name_of_row name.entry) }
+fn superclass_of(
+    alloc: Global,
+    which: Which,
+    name: Option<&'static [u8]>,
+) -> Result<Option<Name>, LibraryError>
+    ensures { IfOk result (λ superclass. superclass ≡ option_map (name_in which) name.entry) }
 {
     match name {
         None => Ok(None),
-        Some(name) => Ok(Some(Name::from_slice(alloc, name)?)),
+        Some(name) => Ok(Some(name_of(alloc, which, name)?)),
     }
 }
 
-fn names_of(alloc: Global, rows: &[&'static [u8]]) -> Result<Names, LibraryError>
-    ensures { IfOk result (λ names. names ≡ map name_of_row rows.now) }
+fn names_of(alloc: Global, which: Which, rows: &[&'static [u8]]) -> Result<Names, LibraryError>
+    ensures { IfOk result (λ names. names ≡ map (name_in which) rows.now) }
 {
     let mut names = Names::new(alloc);
     for row in rows {
-        names.push(Name::from_slice(alloc, row)?)?;
+        names.push(name_of(alloc, which, row)?)?;
     }
     Ok(names)
 }
@@ -50,13 +55,28 @@ fn class_of(alloc: Global, which: Which, row: LibraryHead) -> Result<LibClass, L
     ensures { IfOk result (λ class. library_class_view class ≡ class_in which row) }
 {
     Ok(LibClass {
-        name: Name::from_slice(alloc, row.name)?,
-        super_name: superclass_of(alloc, row.superclass)?,
+        name: name_of(alloc, which, row.name)?,
+        super_name: superclass_of(alloc, which, row.superclass)?,
         flags: row.flags,
-        interfaces: names_of(alloc, row.interfaces)?,
+        interfaces: names_of(alloc, which, row.interfaces)?,
         fields: row.fields,
         methods: methods_of(alloc, which, row.methods, row.hosts)?,
     })
+}
+
+/// Appends the classes of the rows, in order.
+pub(crate) fn add_classes(
+    alloc: Global,
+    which: Which,
+    rows: &[LibraryHead],
+    library: &mut Library,
+) -> Result<(), LibraryError>
+    ensures { OnOk result (library_view library.new ≡ library_view library.old ++ map (class_in which) rows.now) }
+{
+    for row in rows {
+        library.push(class_of(alloc, which, *row)?)?;
+    }
+    Ok(())
 }
 
 /// The classes of the rows, in order.
@@ -68,8 +88,6 @@ pub(crate) fn classes_of(
     ensures { IfOk result (λ library. library_view library ≡ map (class_in which) rows.now) }
 {
     let mut library = Library::new(alloc);
-    for row in rows {
-        library.push(class_of(alloc, which, *row)?)?;
-    }
+    add_classes(alloc, which, rows, &mut library)?;
     Ok(library)
 }

@@ -7,7 +7,8 @@ mod library;
 mod methods;
 mod rows;
 mod types;
+mod which;
 
 pub use classes::LibraryHead;
 pub use errors::LibraryError;
-pub use library::{deterministic, heads, raw};
+pub use library::{deterministic, heads, raw, sandboxed};

@@ -4,16 +4,10 @@ ghost use Rattle.dj_library.specs.TableRows.{method_of_row, method_of_parts, hos
 
 use crate::errors::LibraryError;
 use crate::types::{TypeRow, result_of, types_of};
+use crate::which::Which;
 use dj_library_types::{LibMethod, LibMethods};
 use dj_names::{Desc, Name, NativeId};
 use std::alloc::Global;
-
-/// Which library a class is made for.
-#[derive(Clone, Copy)]
-pub(crate) enum Which {
-    Deterministic,
-    Raw,
-}
 
 /// A method of a class: its name, its parameters, its result, and its native in the deterministic library.
 #[derive(Clone, Copy)]
@@ -45,7 +39,7 @@ const NATIVE: u16 = 0x0100;
 const ABSTRACT: u16 = 0x0400;
 
 fn parts_of(row: MethodRow) -> Parts
-    ensures { method_of_parts result ≡ method_of_row row }
+    ensures { (w : Which) → method_of_parts w result ≡ method_of_row w row }
 {
     match row {
         MethodRow::Constructor(params, native) => Parts {
@@ -112,8 +106,8 @@ fn method_of(alloc: Global, which: Which, row: MethodRow) -> Result<LibMethod, L
     ensures { IfOk result (λ method. library_method_view method ≡ method_in which row) }
 {
     let parts = parts_of(row);
-    let params = types_of(alloc, parts.params)?;
-    let ret = result_of(alloc, parts.ret)?;
+    let params = types_of(alloc, which, parts.params)?;
+    let ret = result_of(alloc, which, parts.ret)?;
     Ok(LibMethod {
         flags: parts.flags,
         name: Name::from_slice(alloc, parts.name)?,
@@ -149,7 +143,7 @@ pub(crate) fn methods_of(
     let mut methods = LibMethods::new(alloc);
     add_methods(alloc, which, rows, &mut methods)?;
     match which {
-        Which::Deterministic => {}
+        Which::Deterministic | Which::Sandbox => {}
         Which::Raw => add_methods(alloc, which, hosts, &mut methods)?,
     }
     Ok(methods)

@@ -382,3 +382,40 @@ pub(crate) static CLASSES: [LibraryHead; 25] = [
         hosts: &[],
     },
 ];
+
+const SANDBOX_OBJECT: &[u8] = b"sandbox/java/lang/Object";
+
+const ACCOUNTER_METHODS: [MethodRow; 6] = [
+    MethodRow::StaticVoid(b"recordJump", &[], NativeId::RecordJump),
+    MethodRow::StaticVoid(b"recordInvocation", &[], NativeId::RecordInvocation),
+    MethodRow::StaticVoid(b"recordThrow", &[], NativeId::RecordThrow),
+    MethodRow::StaticVoid(b"recordAllocation", &[INT], NativeId::RecordAllocation),
+    MethodRow::StaticVoid(b"recordArray", &[INT, INT], NativeId::RecordArray),
+    MethodRow::StaticVoid(
+        b"checkCatch",
+        &[TypeRow::Class(SANDBOX_OBJECT)],
+        NativeId::CheckCatch,
+    ),
+];
+
+/// The class that rewritten code calls, and that of the object which stops a run. Their names are whole, in contrast to those above.
+pub(crate) static SANDBOX_CLASSES: [LibraryHead; 2] = [
+    LibraryHead {
+        name: b"djvm/Accounter",
+        superclass: Some(SANDBOX_OBJECT),
+        flags: CLASS,
+        interfaces: &[],
+        fields: 0,
+        methods: &ACCOUNTER_METHODS,
+        hosts: &[],
+    },
+    LibraryHead {
+        name: b"djvm/Stop",
+        superclass: Some(SANDBOX_OBJECT),
+        flags: CLASS,
+        interfaces: &[],
+        fields: 0,
+        methods: &[],
+        hosts: &[],
+    },
+];

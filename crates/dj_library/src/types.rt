@@ -1,8 +1,9 @@
 ghost use Rattle.std.specs.Prelude.{◌≡◌, IfOk, map, option_map};
-ghost use Rattle.dj_library.specs.TableRows.{type_of_row};
+ghost use Rattle.dj_library.specs.TableRows.{type_in};
 
 use crate::errors::LibraryError;
-use dj_names::{Base, Name, Of, Ty, Tys};
+use crate::which::{Which, name_of};
+use dj_names::{Base, Of, Ty, Tys};
 use std::alloc::Global;
 
 /// A type in a row.
@@ -15,8 +16,8 @@ pub(crate) enum TypeRow {
 }
 
 /// The type of the row.
-pub(crate) fn type_of(alloc: Global, row: TypeRow) -> Result<Ty, LibraryError>
-    ensures { IfOk result (λ ty. ty ≡ type_of_row row) }
+pub(crate) fn type_of(alloc: Global, which: Which, row: TypeRow) -> Result<Ty, LibraryError>
+    ensures { IfOk result (λ ty. ty ≡ type_in which row) }
 {
     match row {
         TypeRow::Base(base) => Ok(Ty {
@@ -29,28 +30,32 @@ pub(crate) fn type_of(alloc: Global, row: TypeRow) -> Result<Ty, LibraryError>
         }),
         TypeRow::Class(name) => Ok(Ty {
             dims: 0,
-            of: Of::Class(Name::from_slice(alloc, name)?),
+            of: Of::Class(name_of(alloc, which, name)?),
         }),
     }
 }
 
 /// The types of the rows, in order.
-pub(crate) fn types_of(alloc: Global, rows: &[TypeRow]) -> Result<Tys, LibraryError>
-    ensures { IfOk result (λ types. types ≡ map type_of_row rows.now) }
+pub(crate) fn types_of(alloc: Global, which: Which, rows: &[TypeRow]) -> Result<Tys, LibraryError>
+    ensures { IfOk result (λ types. types ≡ map (type_in which) rows.now) }
 {
     let mut types = Tys::new(alloc);
     for row in rows {
-        types.push(type_of(alloc, *row)?)?;
+        types.push(type_of(alloc, which, *row)?)?;
     }
     Ok(types)
 }
 
 /// The type of the row, where there is one.
-pub(crate) fn result_of(alloc: Global, row: Option<TypeRow>) -> Result<Option<Ty>, LibraryError>
-    ensures { IfOk result (λ ret. ret ≡ option_map type_of_row row) }
+pub(crate) fn result_of(
+    alloc: Global,
+    which: Which,
+    row: Option<TypeRow>,
+) -> Result<Option<Ty>, LibraryError>
+    ensures { IfOk result (λ ret. ret ≡ option_map (type_in which) row) }
 {
     match row {
         None => Ok(None),
-        Some(row) => Ok(Some(type_of(alloc, row)?)),
+        Some(row) => Ok(Some(type_of(alloc, which, row)?)),
     }
 }

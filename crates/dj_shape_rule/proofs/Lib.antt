@@ -20,3 +20,4 @@ pub mod Keeping
 pub mod Linked
 pub mod Facts
 mod SignatureFacts
+mod RuleFacts

@@ -16,6 +16,7 @@ mod system;
 mod tests;
 #[cfg(test)]
 mod texts;
+mod version;
 
 use clock_host::ClockHost;
 use dj_edge::FolderFiles;
@@ -45,6 +46,18 @@ fn words_of<R: Env + AllocGlobal>(rt: &R) -> Result<Vec<String>, AllocError> {
     }
 }
 
+/// Whether a FOLDER without a name is the root. One slash at its end was dropped, so it was `/` or the empty word; no word of a command before it is either of them.
+fn means_root(words: &[String]) -> bool {
+    for word in words {
+        match word.as_str() {
+            "/" => return true,
+            "" => return false,
+            _ => {}
+        }
+    }
+    false
+}
+
 /// Does the job of the command line and answers the status.
 fn run<R: Print + Eprint + Files + Env + Clock + AllocGlobal + Clone + Drop>(
     rt: R,
@@ -52,7 +65,8 @@ fn run<R: Print + Eprint + Files + Env + Clock + AllocGlobal + Clone + Drop>(
 ) -> Result<u8, AllocError> {
     let alloc = rt.alloc();
     let words = words_of(&rt)?;
-    let mut files = FolderFiles::new(alloc, SystemFiles::new(rt.clone()?, notes.clone()?));
+    let system = SystemFiles::new(rt.clone()?, notes.clone()?, means_root(&words));
+    let mut files = FolderFiles::new(alloc, system);
     let mut host = ClockHost::new(rt.clone()?);
     let mut sink = OutSink::new(rt, notes.clone()?);
     let mut engine = PlainEngine::new(alloc);

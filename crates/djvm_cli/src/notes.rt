@@ -1,5 +1,6 @@
 //! What is written to standard error beside a report: one line at most, which says why there is no report or what the user may have meant.
 
+use crate::version::OtherVersion;
 use dj_edge::{EntryKind, FolderEntry};
 use std::alloc::Global;
 use std::cell::{Cell, RefCell};
@@ -14,25 +15,38 @@ const VERSION: &str = "djvm 0.1.0";
 /// The end of each line of a report that says that a path violates the rule NAME. Each path has at most one such line.
 const NAME_END: &[u8] = b" NAME\n";
 
-/// Counts the lines of a report that have the rule NAME.
+/// The same for the rule VERSION.
+const VERSION_END: &[u8] = b" VERSION\n";
+
+/// Counts the lines of a report that have such an end.
 #[derive(Clone, Copy)]
-struct NameLines {
+struct Lines {
+    end: &'static [u8],
     count: u64,
-    // How many of the last bytes that were seen are the beginning of such an end.
+    // How many of the last bytes that were seen are the beginning of the end.
     matched: usize,
 }
 
-impl NameLines {
+impl Lines {
+    /// The lines with this end, of which none was seen.
+    fn new(end: &'static [u8]) -> Lines {
+        Lines {
+            end,
+            count: 0,
+            matched: 0,
+        }
+    }
+
     /// One more byte of the report.
     fn see(&mut self, byte: u8) {
-        self.matched = if NAME_END.get(self.matched) == Some(&byte) {
+        self.matched = if self.end.get(self.matched) == Some(&byte) {
             self.matched.saturating_add(1)
         } else if byte == b' ' {
             1
         } else {
             0
         };
-        if self.matched == NAME_END.len() {
+        if self.matched == self.end.len() {
             self.count = self.count.saturating_add(1);
             self.matched = 0;
         }
@@ -49,7 +63,10 @@ pub struct Notes<R: Eprint + Drop> {
     folder: RefCell<String>,
     // How many class files were met, or none where no folder was opened.
     class_files: Cell<Option<u64>>,
-    name_lines: Cell<NameLines>,
+    // The first class file that was read and has another version than those that are accepted.
+    other_version: RefCell<Option<OtherVersion>>,
+    name_lines: Cell<Lines>,
+    version_lines: Cell<Lines>,
 }
 
 impl<R: Eprint + Drop> Notes<R> {
@@ -60,10 +77,9 @@ impl<R: Eprint + Drop> Notes<R> {
             is_reported: Cell::new(false),
             folder: RefCell::new(String::new(alloc)),
             class_files: Cell::new(None),
-            name_lines: Cell::new(NameLines {
-                count: 0,
-                matched: 0,
-            }),
+            other_version: RefCell::new(None),
+            name_lines: Cell::new(Lines::new(NAME_END)),
+            version_lines: Cell::new(Lines::new(VERSION_END)),
         }
     }
 
@@ -93,13 +109,29 @@ impl<R: Eprint + Drop> Notes<R> {
         }
     }
 
-    /// These bytes of the report were written, and are searched for lines of NAME.
-    pub fn see_written(&self, bytes: &[u8]) {
-        let mut lines = self.name_lines.get();
-        for byte in bytes {
-            lines.see(*byte);
+    /// A file has these first bytes.
+    pub fn see_beginning(&self, path: &String, bytes: &[u8]) {
+        let is_known = self
+            .other_version
+            .try_borrow()
+            .is_ok_and(|other| other.is_some());
+        if !is_known {
+            let _ = self
+                .other_version
+                .try_replace(OtherVersion::of(path, bytes));
         }
-        self.name_lines.set(lines);
+    }
+
+    /// These bytes of the report were written, and are searched for lines of NAME and VERSION.
+    pub fn see_written(&self, bytes: &[u8]) {
+        let mut name_lines = self.name_lines.get();
+        let mut version_lines = self.version_lines.get();
+        for byte in bytes {
+            name_lines.see(*byte);
+            version_lines.see(*byte);
+        }
+        self.name_lines.set(name_lines);
+        self.version_lines.set(version_lines);
     }
 
     /// Whether the line wasn't written yet; it counts as written from now on.
@@ -114,10 +146,27 @@ impl<R: Eprint + Drop> Notes<R> {
         }
     }
 
+    /// The folder that was opened last; none where there is no memory.
+    pub fn folder(&self) -> Option<String> {
+        self.folder.try_borrow().ok()?.clone().ok()
+    }
+
     /// Writes that the folder that was opened last can't be read, and why.
     pub fn say_folder<D: Display>(&self, cause: &D) {
         if let Ok(folder) = self.folder.try_borrow() {
             self.say_path(folder.as_str(), cause);
+        }
+    }
+
+    /// Writes that a name in the folder that was opened last isn't UTF-8.
+    pub fn say_name(&self, name: &[u8]) {
+        if let Ok(folder) = self.folder.try_borrow() {
+            if self.is_first() {
+                let name = name.escape_ascii();
+                let _ = eprintln!(self.rt;
+                    "djvm: {folder:?}: the name \"{name}\" in it isn't UTF-8"
+                );
+            }
         }
     }
 
@@ -152,10 +201,26 @@ impl<R: Eprint + Drop> Notes<R> {
         }
     }
 
+    /// Writes which version was found, where the report has a line of VERSION.
+    fn say_other_version(&self) {
+        if self.version_lines.get().count == 0 {
+            return;
+        }
+        if let Ok(other) = self.other_version.try_borrow() {
+            if let Some(other) = other.as_ref() {
+                self.say_path(other.path(), other);
+            }
+        }
+    }
+
     /// The job ended with this status: writes what belongs to it.
     pub fn end(&self, status: u8) {
         match status {
-            0 | 2 => self.say_wrong_folder(),
+            0 => self.say_wrong_folder(),
+            2 => {
+                self.say_wrong_folder();
+                self.say_other_version();
+            }
             64 => {
                 if self.is_first() {
                     let _ = eprintln!(self.rt; "{VERSION}; {USAGE}");

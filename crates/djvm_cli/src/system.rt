@@ -6,7 +6,7 @@ use crate::notes::Notes;
 use dj_edge::{EntryKind, FolderEntry, Folders, ListError, OpensFiles, ReadError, read_error};
 use std::alloc::Global;
 use std::fs::{OpenFile, ReadDir};
-use std::io::{ErrorKind, Read};
+use std::io::{BufRead, BufReader, ErrorKind, Read};
 use std::rc::Rc;
 use std::rt::Files as System;
 use std::{fs, io};
@@ -17,14 +17,25 @@ pub struct NotedFile<R: System + Eprint + Drop> {
     notes: Rc<Notes<R>>,
     path: String,
     file: R::File,
+    // Whether some of it was read.
+    is_begun: bool,
 }
 
 impl<R: System + Eprint + Drop> Read for NotedFile<R> {
     fn read(&mut self, buf: &mut [u8]) -> io::Result<usize> {
         let read = self.file.read(buf);
-        if let Err(error) = &read {
-            if error.kind() != ErrorKind::Interrupted {
-                self.notes.say_path(self.path.as_str(), error);
+        match &read {
+            Ok(taken) => {
+                if !self.is_begun {
+                    self.is_begun = true;
+                    let bytes = buf.get(..*taken).unwrap_or(buf);
+                    self.notes.see_beginning(&self.path, bytes);
+                }
+            }
+            Err(error) => {
+                if error.kind() != ErrorKind::Interrupted {
+                    self.notes.say_path(self.path.as_str(), error);
+                }
             }
         }
         read
@@ -36,17 +47,32 @@ impl<R: System + Eprint + Drop> Read for NotedFile<R> {
 pub struct SystemFiles<R: System + Eprint + AllocGlobal + Clone + Drop> {
     rt: R,
     notes: Rc<Notes<R>>,
+    // Whether the folder `/` may be opened.
+    has_root: bool,
     open: Option<ReadDir<R>>,
 }
 
 impl<R: System + Eprint + AllocGlobal + Clone + Drop> SystemFiles<R> {
-    /// The folders and files of the system; no folder is open.
-    pub fn new(rt: R, notes: Rc<Notes<R>>) -> SystemFiles<R> {
+    /// The folders and files of the system; no folder is open. Where there is no root, opening `/` fails as opening an empty path does.
+    pub fn new(rt: R, notes: Rc<Notes<R>>, has_root: bool) -> SystemFiles<R> {
         SystemFiles {
             rt,
             notes,
+            has_root,
             open: None,
         }
+    }
+
+    /// Writes why the open folder can't be read to its end.
+    fn say_unread(&self, alloc: Global, error: &io::Error) {
+        if error.kind() == ErrorKind::InvalidFilename {
+            if let Some(folder) = self.notes.folder() {
+                if let Ok(Some(name)) = strange_name(&self.rt, alloc, folder.as_str()) {
+                    self.notes.say_name(name.as_slice());
+                }
+            }
+        }
+        self.notes.say_folder(error);
     }
 }
 
@@ -59,6 +85,24 @@ fn list_error(error: io::Error) -> ListError
     } else {
         ListError::Failed
     }
+}
+
+/// The first name in the folder that isn't UTF-8.
+fn strange_name<R: System>(rt: &R, alloc: Global, folder: &str) -> io::Result<Option<Vec<u8>>> {
+    let mut names = BufReader::new(alloc, rt.open_dir(folder)?)?;
+    for _ in 0..u64::MAX {
+        let mut name = Vec::new(alloc);
+        if names.read_until(0, &mut name)? == 0 {
+            return Ok(None);
+        }
+        if name.as_slice().ends_with(b"\0") {
+            name.pop();
+        }
+        if std::str::from_utf8(name.as_slice()).is_err() {
+            return Ok(Some(name));
+        }
+    }
+    Ok(None)
 }
 
 /// The entry at the path.
@@ -81,6 +125,11 @@ impl<R: System + Eprint + AllocGlobal + Clone + Drop> Folders for SystemFiles<R>
     ghost left = { λ _. None };
 
     fn open(&mut self, folder: &str) -> Result<(), ListError> {
+        let folder = if folder == "/" && !self.has_root {
+            ""
+        } else {
+            folder
+        };
         let path = String::from_str(self.rt.alloc(), folder)?;
         match fs::read_dir(&self.rt, folder) {
             Ok(open) => {
@@ -100,7 +149,7 @@ impl<R: System + Eprint + AllocGlobal + Clone + Drop> Folders for SystemFiles<R>
             None => return Ok(None),
             Some(Ok(met)) => met,
             Some(Err(error)) => {
-                self.notes.say_folder(&error);
+                self.say_unread(alloc, &error);
                 return Err(list_error(error));
             }
         };
@@ -132,6 +181,7 @@ impl<R: System + Eprint + AllocGlobal + Clone + Drop> OpensFiles for SystemFiles
                     notes,
                     path: own,
                     file,
+                    is_begun: false,
                 };
                 Ok((file, expected))
             }
@@ -186,7 +236,7 @@ mod tests {
         fs::create_dir_all(&rt, folder.as_str())?;
         fs::write(&rt, path.as_str(), "four")?;
         let notes = Rc::new(alloc, Notes::new(alloc, rt)).ok().ok_or("memory")?;
-        let mut files = FolderFiles::new(alloc, SystemFiles::new(rt, notes));
+        let mut files = FolderFiles::new(alloc, SystemFiles::new(rt, notes, true));
         lists_and_reads(&rt, alloc, &mut files, folder.as_str(), path.as_str())?;
         fs::remove_file(&rt, path.as_str())?;
         fails(&rt, alloc, &mut files, path.as_str());

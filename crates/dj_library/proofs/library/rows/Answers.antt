@@ -12,3 +12,6 @@ returns-clause-heads c = refl
 
 pub returns-clause-raw_heads : goal.returns-clause-raw_heads
 returns-clause-raw_heads c = refl
+
+pub returns-clause-sandboxed : goal.returns-clause-sandboxed
+returns-clause-sandboxed c = refl

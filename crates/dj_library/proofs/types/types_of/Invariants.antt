@@ -1,6 +1,6 @@
 use Rattle.std.proofs.Common.{◌≡◌, map, take}
-use Rattle.dj_library.specs.TableRows.{type_of_row}
+use Rattle.dj_library.specs.TableRows.{type_in}
 use Rattle.dj_library.proofs.types.types_of.Given as goal
 
 abbrev pub invariant-loop-row : goal.invariant-loop-row
-invariant-loop-row l = l.types ≡ map type_of_row (take l.row-index l.rows)
+invariant-loop-row l = l.types ≡ map (type_in l.which) (take l.row-index l.rows)

@@ -1,0 +1,4 @@
+pub mod Groups
+pub mod Rewritten
+pub mod Grouped
+pub mod Laws
