@@ -16,7 +16,7 @@ MOST_FILES, MOST_BYTES = 4096, 67108864
 def program():
     if os.environ.get("DJVM"):
         return os.path.abspath(os.environ["DJVM"])
-    built = subprocess.run([os.path.join(TOP, "scripts", "build")], stdout=subprocess.PIPE)
+    built = subprocess.run([os.path.join(TOP, "scripts", "program")], stdout=subprocess.PIPE)
     if built.returncode != 0:
         sys.exit(built.returncode)
     return os.fsdecode(built.stdout[:-1])

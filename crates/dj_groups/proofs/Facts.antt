@@ -1,23 +1,24 @@
 -- Groups by plain values: an array, a handler and a jump.
-use Rattle.std.proofs.Common.{◌≡◌, pos, List, [], ◌∷◌, map, Some, refl, codes}
+use Rattle.std.proofs.Common.{◌≡◌, ◌+◌, ℕ, pos, List, [], ◌∷◌, map, Some, None, refl, codes}
 use Rattle.dj_names.specs.declared.descriptor.Base.TheVariants as bases
 use Rattle.dj_names.specs.declared.run.Value.TheVariants as values
 use Rattle.dj_names.specs.declared.run.Element.TheVariants as elements
 use Rattle.dj_names.specs.trusted.Types.{Name, class_type, base_array}
+use Rattle.dj_names.specs.trusted.Library.{int}
 use Rattle.dj_ops.specs.declared.instruction.Instr.TheVariants as instrs
 use Rattle.dj_ops.specs.declared.frames.Form.TheVariants as forms
 use Rattle.dj_ops.specs.declared.frames.VType.TheVariants as types
-use Rattle.dj_ops.specs.Mnemonics.{iconst_1, iconst_2, dup, pop, goto, invokestatic}
+use Rattle.dj_ops.specs.Mnemonics.{iconst_1, iconst_2, dup, pop, ifeq, goto, invokestatic}
 use Rattle.dj_labels.specs.declared.labelled.Labelled.{Labelled}
-use Rattle.dj_model.specs.trusted.Instructions.{NewArray, New, Monitor, Throw, Move, Dup, Push, Goto, Other, Nothing}
+use Rattle.dj_model.specs.trusted.Instructions.{Instruction, NewArray, New, Monitor, Throw, Move, Dup, Pop, Push, Goto, Switch, Other, Nothing}
 use Rattle.dj_model.specs.trusted.Opcodes.{instruction_of, simple}
 use Rattle.dj_model.specs.trusted.Linking.{field_count, chain_of, most_classes}
 use Rattle.dj_model.specs.trusted.Program.{Program, Class, Code}
-use Rattle.dj_model.specs.SmallRuns.{op, jump, catch_all, class_with}
+use Rattle.dj_model.specs.SmallRuns.{op, jump, method, catch_all, class_with, field_with}
 use Rattle.dj_model.specs.Libraries.{metered_program}
-use Rattle.dj_groups.specs.Groups.{Jumps, Invocations, Throws, Allocations, Arrays, Catches, Copy, ObjectBytes, ElementBytes, Record, Group, groups_of, charge_of, size, start, own, starts, owns, cut, pieces}
-use Rattle.dj_groups.specs.Rewritten.{inserted_instruction, in_groups, rewritten}
-use Rattle.dj_groups.specs.Grouped.{call_index, inserted_instr, labels_in_groups}
+use Rattle.dj_groups.specs.Groups.{Jumps, Invocations, Throws, Allocations, Arrays, Catches, Copy, ObjectBytes, ElementBytes, Record, Kept, Popped, Group, groups_of, charge_of, own_of, size, start, own, starts, owns, cut, pieces}
+use Rattle.dj_groups.specs.Rewritten.{inserted_instruction, retargeted, own_instruction, in_groups, rewritten}
+use Rattle.dj_groups.specs.Grouped.{call_index, inserted_instr, own_instr, labels_in_groups}
 
 -- iconst_1, newarray byte, pop, goto 0; the pop is the handler of the two before it
 abbrev looping : Code
@@ -136,3 +137,30 @@ rewritten_names = refl
 plain_name_stays : names (rewritten (class_with (codes "a/B") [] [] ∷ [])) ≡ codes "djvm/Accounter" ∷ codes "djvm/Stop" ∷ codes "a/B" ∷ [] → ⊥
 unfolding rewritten
 plain_name_stays e = absurd cc
+
+-- ---- the other instructions
+
+-- A with two fields and a static one
+abbrev fields : Program
+fields = metered_program (class_with (codes "A") (field_with 0 (codes "f") int None ∷ field_with 0 (codes "g") int None ∷ field_with 8 (codes "s") int None ∷ []) [] ∷ [])
+
+-- jumps, switches and calls pay; an object has eight bytes more for each field that isn't static
+more_charges : charge_of [] (jump ifeq 3) ∷ charge_of [] (Switch ((pos 1, 2) ∷ []) 0) ∷ charge_of [] (method invokestatic (class_type (codes "A")) (codes "m") [] None) ∷ charge_of fields (New (class_type (codes "A"))) ∷ []
+    ≡ (Record Jumps ∷ []) ∷ (Record Jumps ∷ []) ∷ (Record Invocations ∷ []) ∷ (ObjectBytes 32 ∷ Record Allocations ∷ []) ∷ []
+unfolding instruction_of simple metered_program field_count chain_of most_classes
+more_charges = refl
+
+-- monitorenter and monitorexit become pop, and nothing else does
+monitors : map own_of (Monitor ∷ Throw ∷ []) ≡ Popped ∷ Kept ∷ []
+monitors = refl
+
+popped : own_instruction (λ (n : ℕ). n) Popped Monitor ≡ Move Pop
+popped = refl
+
+popped_instr : own_instr (λ (n : ℕ). n) Popped (instrs.Simple 194) ≡ instrs.Simple pop
+popped_instr = refl
+
+-- every target moves
+all_targets : map (retargeted (λ (n : ℕ). n + 10)) (jump ifeq 3 ∷ Goto 4 ∷ Switch ((pos 1, 2) ∷ []) 0 ∷ []) ≡ jump ifeq 13 ∷ Goto 14 ∷ Switch ((pos 1, 12) ∷ []) 10 ∷ []
+unfolding instruction_of simple
+all_targets = refl

@@ -1,4 +1,4 @@
-use dj_library::{LibraryHead, deterministic, heads, raw};
+use dj_library::{LibraryHead, deterministic, heads, raw, sandboxed};
 use dj_library_types::{LibClass, Library};
 use std::alloc::Global;
 
@@ -99,7 +99,51 @@ fn is_raw(alloc: Global) -> bool {
     }
 }
 
+// The methods that rewritten code calls.
+const COUNTED: [&[u8]; 6] = [
+    b"recordJump",
+    b"recordInvocation",
+    b"recordThrow",
+    b"recordAllocation",
+    b"recordArray",
+    b"checkCatch",
+];
+
+fn is_named(class: &LibClass, name: &[u8]) -> bool {
+    class.name.as_slice() == name
+}
+
+fn are_counted(class: &LibClass) -> bool {
+    let methods = class.methods.as_slice();
+    for i in 0..COUNTED.len() {
+        if methods.len() <= i || methods[i].name.as_slice() != COUNTED[i] {
+            return false;
+        }
+    }
+    methods.len() == COUNTED.len()
+}
+
+fn are_sandboxed(classes: &[LibClass]) -> bool {
+    classes.len() == 27
+        && is_named(&classes[0], b"sandbox/java/lang/Object")
+        && is_named(&classes[25], b"djvm/Accounter")
+        && are_counted(&classes[25])
+        && is_named(&classes[26], b"djvm/Stop")
+}
+
+fn is_sandboxed(alloc: Global) -> bool {
+    match sandboxed(alloc) {
+        Ok(library) => are_sandboxed(library.as_slice()),
+        Err(_) => false,
+    }
+}
+
 #[test]
 fn libraries_have_their_classes(rt: HostRuntime) {
-    assert!(rt; is_deterministic(rt.alloc()) && is_raw(rt.alloc()) && are_heads(heads()));
+    assert!(rt;
+        is_deterministic(rt.alloc())
+            && is_raw(rt.alloc())
+            && is_sandboxed(rt.alloc())
+            && are_heads(heads())
+    );
 }

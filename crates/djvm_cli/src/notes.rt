@@ -18,20 +18,21 @@ const NAME_END: &[u8] = b" NAME\n";
 /// The same for the rule VERSION.
 const VERSION_END: &[u8] = b" VERSION\n";
 
-/// Counts the lines of a report that have such an end.
+/// Counts the lines of a report that have the one end or the other.
 #[derive(Clone, Copy)]
 struct Lines {
-    end: &'static [u8],
+    // Of VERSION, and not of NAME.
+    is_version: bool,
     count: u64,
     // How many of the last bytes that were seen are the beginning of the end.
     matched: usize,
 }
 
 impl Lines {
-    /// The lines with this end, of which none was seen.
-    fn new(end: &'static [u8]) -> Lines {
+    /// Lines of which none was seen: of VERSION, or of NAME.
+    fn new(is_version: bool) -> Lines {
         Lines {
-            end,
+            is_version,
             count: 0,
             matched: 0,
         }
@@ -39,14 +40,19 @@ impl Lines {
 
     /// One more byte of the report.
     fn see(&mut self, byte: u8) {
-        self.matched = if self.end.get(self.matched) == Some(&byte) {
+        let end = if self.is_version {
+            VERSION_END
+        } else {
+            NAME_END
+        };
+        self.matched = if end.get(self.matched) == Some(&byte) {
             self.matched.saturating_add(1)
         } else if byte == b' ' {
             1
         } else {
             0
         };
-        if self.matched == self.end.len() {
+        if self.matched == end.len() {
             self.count = self.count.saturating_add(1);
             self.matched = 0;
         }
@@ -63,8 +69,10 @@ pub struct Notes<R: Eprint + Drop> {
     folder: RefCell<String>,
     // How many class files were met, or none where no folder was opened.
     class_files: Cell<Option<u64>>,
-    // The first class file that was read and has another version than those that are accepted.
-    other_version: RefCell<Option<OtherVersion>>,
+    // The path of the first class file that was read and has another version than those that are accepted, or nothing; and that version.
+    other_path: RefCell<String>,
+    other_major: Cell<u16>,
+    other_minor: Cell<u16>,
     name_lines: Cell<Lines>,
     version_lines: Cell<Lines>,
 }
@@ -77,9 +85,11 @@ impl<R: Eprint + Drop> Notes<R> {
             is_reported: Cell::new(false),
             folder: RefCell::new(String::new(alloc)),
             class_files: Cell::new(None),
-            other_version: RefCell::new(None),
-            name_lines: Cell::new(Lines::new(NAME_END)),
-            version_lines: Cell::new(Lines::new(VERSION_END)),
+            other_path: RefCell::new(String::new(alloc)),
+            other_major: Cell::new(0),
+            other_minor: Cell::new(0),
+            name_lines: Cell::new(Lines::new(false)),
+            version_lines: Cell::new(Lines::new(true)),
         }
     }
 
@@ -112,13 +122,18 @@ impl<R: Eprint + Drop> Notes<R> {
     /// A file has these first bytes.
     pub fn see_beginning(&self, path: &String, bytes: &[u8]) {
         let is_known = self
-            .other_version
+            .other_path
             .try_borrow()
-            .is_ok_and(|other| other.is_some());
-        if !is_known {
-            let _ = self
-                .other_version
-                .try_replace(OtherVersion::of(path, bytes));
+            .is_ok_and(|known| !known.is_empty());
+        if is_known || !path.as_bytes().ends_with(b".class") {
+            return;
+        }
+        if let Some(version) = OtherVersion::of(bytes) {
+            if let Ok(path) = path.clone() {
+                let _ = self.other_path.try_replace(path);
+                self.other_major.set(version.major);
+                self.other_minor.set(version.minor);
+            }
         }
     }
 
@@ -206,9 +221,13 @@ impl<R: Eprint + Drop> Notes<R> {
         if self.version_lines.get().count == 0 {
             return;
         }
-        if let Ok(other) = self.other_version.try_borrow() {
-            if let Some(other) = other.as_ref() {
-                self.say_path(other.path(), other);
+        if let Ok(path) = self.other_path.try_borrow() {
+            if !path.is_empty() {
+                let version = OtherVersion {
+                    major: self.other_major.get(),
+                    minor: self.other_minor.get(),
+                };
+                self.say_path(path.as_str(), &version);
             }
         }
     }

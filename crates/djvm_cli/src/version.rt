@@ -8,17 +8,16 @@ const FIRST_MAJOR: u16 = 50;
 
 const LAST_MAJOR: u16 = 52;
 
-/// A class file of another version than those that are accepted.
-#[derive(Drop)]
+/// A version of class files that isn't accepted.
+#[derive(Clone, Copy)]
 pub struct OtherVersion {
-    path: String,
-    major: u16,
-    minor: u16,
+    pub major: u16,
+    pub minor: u16,
 }
 
 impl OtherVersion {
-    /// The version in the first bytes of the file of this path; none where this is no class file's or is accepted, or there is no memory.
-    pub fn of(path: &String, bytes: &[u8]) -> Option<OtherVersion> {
+    /// The version in the first bytes of a file; none where these are no class file's, or it is accepted.
+    pub fn of(bytes: &[u8]) -> Option<OtherVersion> {
         let &[
             0xCA,
             0xFE,
@@ -34,19 +33,13 @@ impl OtherVersion {
             return None;
         };
         let major = u16::from_be_bytes([major_high, major_low]);
-        if !path.as_bytes().ends_with(b".class") || (FIRST_MAJOR..=LAST_MAJOR).contains(&major) {
+        if (FIRST_MAJOR..=LAST_MAJOR).contains(&major) {
             return None;
         }
         Some(OtherVersion {
-            path: path.clone().ok()?,
             major,
             minor: u16::from_be_bytes([minor_high, minor_low]),
         })
-    }
-
-    /// The file's path.
-    pub fn path(&self) -> &str {
-        self.path.as_str()
     }
 }
 

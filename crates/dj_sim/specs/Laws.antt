@@ -1,0 +1,81 @@
+-- Laws of the two runs: the metered run of a program, and the plain run of the rewritten program.
+use Rattle.std.specs.Prelude.{◌≡◌, ℕ, ◌*◌, ◌≤◌, Bool, true, false, List, [], ◌∷◌, length, Some}
+use Rattle.dj_names.specs.declared.run.Charge.{Charge}
+use Rattle.dj_names.specs.declared.run.Outcome.TheVariants as outcomes
+use Rattle.dj_names.specs.declared.run.Thresholds.{Thresholds}
+use Rattle.dj_names.specs.trusted.Types.{Name, class_type}
+use Rattle.dj_names.specs.trusted.Library.{stop_class}
+use Rattle.dj_names.specs.Types.{in_sandbox, sandbox_prefix}
+use Rattle.dj_edge.specs.declared.host.HostAnswer.{HostAnswer}
+use Rattle.dj_model.specs.trusted.Types.{Prefix, Declared, object_name}
+use Rattle.dj_model.specs.trusted.Instructions.{Instruction}
+use Rattle.dj_model.specs.trusted.Program.{Program, Code, code_of}
+use Rattle.dj_model.specs.trusted.State.{Terms, Frame, State, instruction_at}
+use Rattle.dj_model.specs.trusted.Performing.{class_at_number, is_instance}
+use Rattle.dj_model.specs.trusted.Effects.{used_class}
+use Rattle.dj_model.specs.trusted.Initialisation.{Ready, initialise}
+use Rattle.dj_model.specs.trusted.Step.{prepared, unwound, step}
+use Rattle.dj_model.specs.trusted.Runs.{begin}
+use Rattle.dj_model.specs.Types.{declared_map}
+use Rattle.dj_model.specs.Charging.{charge_all}
+use Rattle.dj_model.specs.Runs.{amounts, metered_terms, turn}
+use Rattle.dj_model.specs.Sound.{IsSound}
+use Rattle.dj_model.specs.Standing.{AsksNothing, AreStanding}
+use Rattle.dj_groups.specs.Groups.{groups_of}
+use Rattle.dj_groups.specs.Rewritten.{rewritten}
+use Rattle.dj_sim.specs.Paying.{Paying}
+use Rattle.dj_sim.specs.Waiting.{AnswerWaits, RunWaits}
+use Rattle.dj_sim.specs.Simulation.{groups_in, part_at, state_image, AreWaitingPaid, AreActing, AreBelowObject, HasObject, AreHandlersWithin, HasEffect, EndsWithin, AreOriginal, PaidImage, answer_image, initialised_image}
+
+-- The rewritten program initialises the class of another name as the program initialises the class, on the same terms.
+abbrev pub Initialises : Type 0
+Initialises = (program : Program) → HasObject program → (terms : Terms) (touched : Bool) (class : Name) (s : State)
+    → initialise (rewritten program) sandbox_prefix terms (in_sandbox class) (state_image program touched s) ≡ initialised_image program touched (initialise program [] terms class s)
+
+-- So the runs begin alike, on the same terms.
+abbrev pub Begins : Type 0
+Begins = (program : Program) → HasObject program → (terms : Terms) (entry : Declared) (input : List ℕ) (answers : List HostAnswer)
+    → begin (rewritten program) sandbox_prefix terms (declared_map in_sandbox entry) input answers ≡ answer_image program false (begin program [] terms entry input answers)
+
+-- An instruction that is paid is one step of the rewritten program, on the same terms.
+abbrev pub Acts : Type 0
+Acts = (program : Program) → HasObject program → (most : Thresholds) (touched : Bool) (s : State) (x : Frame Declared) (below : List (Frame Declared)) (i : Instruction)
+    → s.frames ≡ x ∷ below → AreActing (x ∷ below) → instruction_at program x ≡ Some i
+    → ((t : State) → prepared program [] (metered_terms most) (used_class program [] i) s ≡ Ready t → HasEffect program most x i t)
+    → step (rewritten program) sandbox_prefix (metered_terms most) (state_image program touched s) ≡ answer_image program touched (step program [] (metered_terms most) s)
+
+-- What is inserted before an instruction adds the instruction's charges in as many steps as there are inserted, or the run ends by the one that passed its threshold.
+abbrev pub Pays : Type 0
+Pays = (program : Program) → HasObject program → AreHandlersWithin program → (most : Thresholds) (touched : Bool) (s : State) (x : Frame Declared) (below : List (Frame Declared)) (code : Code)
+    → s.frames ≡ x ∷ below → x.paid ≡ false → code_of program x.method ≡ Some code
+    → Paying (part_at (groups_of program code) x.number) x.operands (amounts program [] s)
+    → ((r : ℕ) → is_instance program [] s.heap r (class_type (object_name [])) ≡ true)
+    → PaidImage program (rewritten program) most (length (part_at (groups_of program code) x.number)) touched s x below (charge_all most (amounts program [] s) s.account)
+
+-- The object that stops a run leaves all frames, in at most two steps a frame.
+abbrev pub Stops : Type 0
+Stops = (program : Program) → HasObject program → AreHandlersWithin program → (most : Thresholds) (frames : List (Frame Declared)) → AreOriginal frames
+    → (r : State) (exception : ℕ) (charge : Charge) → r.account.exceeded ≡ Some charge → class_at_number r.heap exception ≡ class_type stop_class
+    → EndsWithin (rewritten program) most (2 * length frames) (unwound (rewritten program) sandbox_prefix r (class_type stop_class) exception frames) (outcomes.Stopped charge) r.account.costs
+
+-- Each frame that waits for one that isn't an initialiser's is paid when a metered run begins, and stays so.
+pub record KeepsWaiting : Type 0 where
+  pub begins : (program : Program) (prefix : Prefix) (terms : Terms) (entry : Declared) (input : List ℕ) (answers : List HostAnswer) → AnswerWaits (begin program prefix terms entry input answers)
+  pub steps : (program : Program) (prefix : Prefix) (terms : Terms) (s : State) → AreActing s.frames → AnswerWaits (step program prefix terms s)
+  pub turns : (program : Program) (most : Thresholds) (s : State) → AreWaitingPaid s.frames → RunWaits (turn program most s)
+
+-- ---- sound programs
+
+-- In a sound program that asks nothing, each act of frames that have the kinds that shape says is one step of the rewritten program, on the same terms.
+abbrev pub SoundActs : Type 0
+SoundActs = (program : Program) → IsSound program [] → AsksNothing program → HasObject program → (most : Thresholds) (touched : Bool) (s : State) → AreStanding program s.frames → AreActing s.frames
+    → step (rewritten program) sandbox_prefix (metered_terms most) (state_image program touched s) ≡ answer_image program touched (step program [] (metered_terms most) s)
+
+-- In a sound program, what is inserted pays the charges of the top frame's next instruction, where each object's class is below Object. At most six instructions are inserted before one.
+pub record SoundPays : Type 0 where
+  pub pays : (program : Program) → IsSound program [] → HasObject program → (most : Thresholds) (touched : Bool) (s : State) (x : Frame Declared) (below : List (Frame Declared))
+      → s.frames ≡ x ∷ below → AreStanding program s.frames → x.paid ≡ false → AreBelowObject program s.heap.objects
+      → PaidImage program (rewritten program) most (length (part_at (groups_in program (code_of program x.method)) x.number)) touched s x below (charge_all most (amounts program [] s) s.account)
+  pub few : (program : Program) (code : Code) (number : ℕ) → length (part_at (groups_of program code) number) ≤ 6
+  -- so what laws on any program ask of handlers
+  pub handlers : (program : Program) → IsSound program [] → AreHandlersWithin program

@@ -1,0 +1,4 @@
+pub mod Simulation
+pub mod Paying
+pub mod Laws
+pub mod Waiting

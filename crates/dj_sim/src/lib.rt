@@ -1,0 +1,6 @@
+//! The metered run of a program, and the plain run of the rewritten program: each turn of the one is so many steps of the other.
+#![tactic(auto)]
+
+mod laws;
+
+pub use laws::{act, begins, initialises, pays, sound_act, sound_pays, stops, waiting_paid};
