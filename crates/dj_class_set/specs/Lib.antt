@@ -5,5 +5,5 @@ pub mod Statuses
 pub mod Checked
 pub mod RawEntry
 pub mod Late
-pub mod RawJudgements
+pub mod RawDecisions
 pub mod trusted

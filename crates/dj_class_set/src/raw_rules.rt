@@ -11,7 +11,7 @@ ghost use Rattle.dj_class_table.specs.Tables.{methods_at};
 ghost use Rattle.dj_class_set.specs.trusted.Limits.{most_files};
 ghost use Rattle.dj_class_set.specs.trusted.Checked.{HoldsHierarchy, IsLineBy};
 ghost use Rattle.dj_class_set.specs.Late.{IsJudgedSet, LinksFiles};
-ghost use Rattle.dj_class_set.specs.RawJudgements.{IsRawJudgement};
+ghost use Rattle.dj_class_set.specs.RawDecisions.{IsRawDecided};
 ghost use Rattle.dj_class_set.specs.RawEntry.{method_has_code, EntryLine};
 ghost use Rattle.dj_class_set.specs.trusted.RawRules.{entry_desc, runs_entry};
 
@@ -34,7 +34,7 @@ pub const DESCRIPTOR: &[u8] = b"([B)[B";
 
 /// What is known of files once they were judged by the rules of `raw`.
 #[derive(Drop)]
-pub enum RawJudgement {
+pub enum RawDecided {
     /// All their violations, in order, each once; there are some.
     Rejected(Violations),
     /// They have none, and this links their classes with those of the raw library.
@@ -145,26 +145,26 @@ fn judge_entry(
     found: Vec<Violation>,
     linker: Linker,
     entry: &[u8],
-) -> Result<RawJudgement, AllocError>
+) -> Result<RawDecided, AllocError>
     ensures { (files : List File) → Adds (IsLineBy raw_library files) [] found.items → HoldsHierarchy files × LinksFiles raw_library files linker
-        → IfOk result (IsRawJudgement files entry.now) }
+        → IfOk result (IsRawDecided files entry.now) }
 {
     let lines = with_entry_line(alloc, found, &linker, entry)?;
     let violations = in_order(lines);
     if violations.as_slice().is_empty() {
-        return Ok(RawJudgement::Accepted(linker));
+        return Ok(RawDecided::Accepted(linker));
     }
-    Ok(RawJudgement::Rejected(violations))
+    Ok(RawDecided::Rejected(violations))
 }
 
 // The judgement on files that were judged by the rules 1 to 19.
-fn judgement_of(alloc: Global, judged: JudgedSet, entry: &[u8]) -> Result<RawJudgement, AllocError>
-    ensures { (files : List File) → IsJudgedSet raw_library files judged → IfOk result (IsRawJudgement files entry.now) }
+fn judgement_of(alloc: Global, judged: JudgedSet, entry: &[u8]) -> Result<RawDecided, AllocError>
+    ensures { (files : List File) → IsJudgedSet raw_library files judged → IfOk result (IsRawDecided files entry.now) }
 {
     let JudgedSet { found, linker } = judged;
     match linker {
         Some(linker) => judge_entry(alloc, found, linker, entry),
-        None => Ok(RawJudgement::Rejected(in_order(found))),
+        None => Ok(RawDecided::Rejected(in_order(found))),
     }
 }
 
@@ -173,10 +173,10 @@ pub fn judge_raw(
     alloc: Global,
     files: &[PathFile<'_>],
     entry: &[u8],
-) -> Result<RawJudgement, AllocError>
+) -> Result<RawDecided, AllocError>
     requires few { length files.now ≤ most_files }
     requires short { All (λ file. length file.bytes.now < 2 ^ 32) files.now }
-    ensures { IfOk result (IsRawJudgement (map path_file_view files.now) entry.now) }
+    ensures { IfOk result (IsRawDecided (map path_file_view files.now) entry.now) }
 {
     let library = raw(alloc).map_err(|_| AllocError)?;
     let judged = judge_set(alloc, files, &library)?;

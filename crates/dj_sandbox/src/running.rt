@@ -17,7 +17,7 @@ ghost use Rattle.dj_sandbox.specs.Runs.{AddsRawRuns};
 
 use crate::loading::{raw_image, views_of};
 use crate::raw_run::{report_of, run_image};
-use dj_class_set::{ClassSet, RawJudgement, SandboxError, judge_raw};
+use dj_class_set::{ClassSet, RawDecided, SandboxError, judge_raw};
 use dj_edge::Host;
 use dj_image::Image;
 use dj_machine::Engine;
@@ -85,8 +85,8 @@ fn raw_files<H: Host, E: Engine>(
     ensures gave { H.given host.new ≡ H.given host.old ++ given_since (H.given host.old) (H.given host.new) }
 {
     match judge_raw(alloc, files, entry)? {
-        RawJudgement::Rejected(violations) => Ok(Report::Rejected(violations)),
-        RawJudgement::Accepted(linker) => {
+        RawDecided::Rejected(violations) => Ok(Report::Rejected(violations)),
+        RawDecided::Accepted(linker) => {
             run_files(alloc, files, linker, entry, input, steps, host, engine)
         }
     }

@@ -5,7 +5,7 @@ use Rattle.dj_report.specs.trusted.Stages.{IsDecided}
 use Rattle.dj_file_rules.specs.Views.{path_file_view}
 use Rattle.dj_host.specs.trusted.Hosted.{given_since}
 use Rattle.dj_class_set.specs.trusted.Judging.{RunsRaw, raw_stages}
-use Rattle.dj_class_set.specs.RawJudgements.{IsRawJudgement}
+use Rattle.dj_class_set.specs.RawDecisions.{IsRawDecided}
 use Rattle.dj_sandbox.proofs.GivenNothing.{gave_nothing}
 use Rattle.dj_sandbox.proofs.RunLaws.{not_silent, adds_none, adds_nothing}
 use Rattle.dj_sandbox.proofs.running.raw_files.Goals as goal
@@ -24,13 +24,13 @@ returns-in_err-violations-clause-gave g c = gave_nothing (g.H.Host.given c.args.
 
 pub returns-in-Rejected-clause-decided : goal.returns-in-Rejected-clause-decided
 returns-in-Rejected-clause-decided g c =
-    let judged = subst (IsRawJudgement (map path_file_view c.args.files.now) c.args.entry.now) c.in-Rejected.is c.in_ok-violations.ensures in
+    let judged = subst (IsRawDecided (map path_file_view c.args.files.now) c.args.entry.now) c.in-Rejected.is c.in_ok-violations.ensures in
     inl (c.in-Rejected.violations, refl, judged.0, judged.1)
 
 pub returns-in-Rejected-clause-runs : goal.returns-in-Rejected-clause-runs
 returns-in-Rejected-clause-runs g c =
     let files = map path_file_view c.args.files.now in
-    let judged = subst (IsRawJudgement files c.args.entry.now) c.in-Rejected.is c.in_ok-violations.ensures in
+    let judged = subst (IsRawDecided files c.args.entry.now) c.in-Rejected.is c.in_ok-violations.ensures in
     adds_none files c.args.entry.now c.args.input.now c.args.steps (given_since (g.H.Host.given c.args.host.now) (g.H.Host.given c.args.host.now)) (g.E.Engine.runs c.args.engine.now)
     (not_silent files c.args.entry.now c.in-Rejected.violations judged.0 judged.1)
 
@@ -42,20 +42,20 @@ returns-in-Rejected-clause-gave g c = gave_nothing (g.H.Host.given c.args.host.n
 
 pub run_files-requires-clause-silent : goal.run_files-requires-clause-silent
 run_files-requires-clause-silent g c =
-    (subst (IsRawJudgement (map path_file_view c.args.files.now) c.args.entry.now) c.in-Accepted.is c.in_ok-violations.ensures).0
+    (subst (IsRawDecided (map path_file_view c.args.files.now) c.args.entry.now) c.in-Accepted.is c.in_ok-violations.ensures).0
 
 pub run_files-requires-clause-linked : goal.run_files-requires-clause-linked
 run_files-requires-clause-linked g c =
-    (subst (IsRawJudgement (map path_file_view c.args.files.now) c.args.entry.now) c.in-Accepted.is c.in_ok-violations.ensures).1
+    (subst (IsRawDecided (map path_file_view c.args.files.now) c.args.entry.now) c.in-Accepted.is c.in_ok-violations.ensures).1
 
 pub returns-in-Accepted-clause-decided : goal.returns-in-Accepted-clause-decided
 returns-in-Accepted-clause-decided g c =
     let files = map path_file_view c.args.files.now in
     let gave = given_since (g.H.Host.given c.args.host.now) (g.H.Host.given c.run_files.new.host) in
-    let judged = subst (IsRawJudgement files c.args.entry.now) c.in-Accepted.is c.in_ok-violations.ensures in
+    let judged = subst (IsRawDecided files c.args.entry.now) c.in-Accepted.is c.in_ok-violations.ensures in
     ok_so c.run_files.result (λ report. RunsRaw files c.args.entry.now c.args.input.now c.args.steps gave (Some report))
     (IsDecided (raw_stages files c.args.entry.now c.args.input.now c.args.steps gave)) (λ report runs. inr (judged.0, inl runs)) c.run_files.ensures.ran
 
 pub returns-in-Accepted-clause-quiet : goal.returns-in-Accepted-clause-quiet
 returns-in-Accepted-clause-quiet g c = λ violated.
-    absurd (violated (subst (IsRawJudgement (map path_file_view c.args.files.now) c.args.entry.now) c.in-Accepted.is c.in_ok-violations.ensures).0)
+    absurd (violated (subst (IsRawDecided (map path_file_view c.args.files.now) c.args.entry.now) c.in-Accepted.is c.in_ok-violations.ensures).0)

@@ -5,10 +5,10 @@ use Rattle.dj_names.specs.trusted.Types.{Name}
 use Rattle.dj_names.specs.trusted.Library.{raw_library}
 use Rattle.dj_class_set.specs.trusted.RawRules.{AreRawViolations}
 use Rattle.dj_class_set.specs.Late.{LinksFiles}
-use Rattle.dj_class_set.specs.declared.raw_rules.RawJudgement.{RawJudgement}
-use Rattle.dj_class_set.specs.declared.raw_rules.RawJudgement.TheVariants as judgements
+use Rattle.dj_class_set.specs.declared.raw_rules.RawDecided.{RawDecided}
+use Rattle.dj_class_set.specs.declared.raw_rules.RawDecided.TheVariants as judgements
 
 -- these are the violations of the files, of which there are some; or there are none, and it links their classes with those of the library
-abbrev pub IsRawJudgement : List File → Name → RawJudgement → Type 0
-IsRawJudgement files class (judgements.Rejected violations) = AreRawViolations files class violations × (violations ≢ [])
-IsRawJudgement files class (judgements.Accepted linked) = AreRawViolations files class [] × LinksFiles raw_library files linked
+abbrev pub IsRawDecided : List File → Name → RawDecided → Type 0
+IsRawDecided files class (judgements.Rejected violations) = AreRawViolations files class violations × (violations ≢ [])
+IsRawDecided files class (judgements.Accepted linked) = AreRawViolations files class [] × LinksFiles raw_library files linked
