@@ -1,5 +1,5 @@
--- The line of the rule ENTRY, where the classes of the files are linked with the raw library.
-use Rattle.std.proofs.Common.{◌≡◌, ◌↔◌, ℕ, ◌<◌, Bool, true, false, ◌&&◌, List, [], length, slice_get, Option, Some, None, IsFalse, refl, sym, ap, ◌∙◌, subst, inl, inr, codes}
+-- The line of the rule ENTRY, where the classes of the files are linked with the raw library, and the judgement by all rules of `raw`.
+use Rattle.std.proofs.Common.{◌≡◌, ◌≢◌, ◌↔◌, ◌==◌, true≢false, Contains, ℕ, ◌<◌, Bool, true, false, ◌&&◌, List, [], length, slice_get, Option, Some, None, IsFalse, refl, sym, ap, ◌∙◌, subst, inl, inr, codes}
 use Rattle.std.specs.Prelude.{option_and_then, unwrap_or}
 use Rattle.std.specs.Option.{option_map}
 use Rattle.std.proofs.lemmas.Option.{slice_get_within}
@@ -18,14 +18,16 @@ use Rattle.dj_model.specs.trusted.Program.{Program, Class, Method, Body, Abstrac
 use Rattle.dj_model.specs.trusted.Linking.{has_body}
 use Rattle.dj_report.specs.declared.report.Violation.{Violation}
 use Rattle.dj_report.specs.Lines.{Adds}
-use Rattle.dj_report.proofs.Adding.{adds_same, adds_both}
+use Rattle.dj_report.specs.trusted.Order.{IsInOrder}
+use Rattle.dj_report.proofs.Adding.{adds_same, adds_both, exactly_found}
+use Rattle.dj_loader.proofs.Lists.{member_none}
 use Rattle.dj_declarations.specs.trusted.Files.{desc_in, declared_program}
 use Rattle.dj_declarations.specs.Members.{IsDescriptor, native_in, method_flags, method_has_body, method_native}
 use Rattle.dj_class_table.specs.Tables.{class_number, methods_of, methods_at}
 use Rattle.dj_class_table.proofs.Numbered.{class_at-number, class_at-at}
 use Rattle.dj_resolution.specs.Linked.{Linked}
 use Rattle.dj_class_set.specs.trusted.Checked.{HoldsHierarchy, IsLineBy}
-use Rattle.dj_class_set.specs.trusted.RawRules.{entry_desc, runs_entry, LacksEntry, IsRawLine}
+use Rattle.dj_class_set.specs.trusted.RawRules.{entry_desc, runs_entry, LacksEntry, IsRawLine, AreRawViolations}
 use Rattle.dj_class_set.specs.RawEntry.{method_has_code, EntryLine}
 use Rattle.dj_class_set.specs.Late.{LinksFiles, IsLinkedWhereHeld, IsJudgedSet}
 use Rattle.dj_class_set.specs.declared.judging.JudgedSet.{JudgedSet}
@@ -164,14 +166,30 @@ raw_linked files class linked old new lines (holds, links) adds =
     adds_both (IsLineBy raw_library files) (LacksEntry files class) [] old new lines
     (adds_same (EntryLine linked.program class) (LacksEntry files class) old new (entry_line files linked class holds links) adds)
 
-pub raw_found : (files : List File) (class : Name) (judged : JudgedSet) (linked : Linked) (new : List Violation) → IsJudgedSet raw_library files judged
-    → judged.linker ≡ Some linked → Adds (EntryLine linked.program class) judged.found.items new → Adds (IsRawLine files class) [] new
-raw_found files class judged linked new is at adds =
-    raw_linked files class linked judged.found.items new is.lines (subst (IsLinkedWhereHeld raw_library files) at is.linked) adds
+-- ---- the judgement
 
-pub raw_broken : (files : List File) (class : Name) (judged : JudgedSet) → IsJudgedSet raw_library files judged → judged.linker ≡ None
-    → Adds (IsRawLine files class) [] judged.found.items
-raw_broken files class judged is at =
+-- of files whose classes are linked
+pub raw_exactly : (files : List File) (class : Name) (linked : Linked) (old new violations : List Violation) → Adds (IsLineBy raw_library files) [] old
+    → HoldsHierarchy files × LinksFiles raw_library files linked → Adds (EntryLine linked.program class) old new → IsInOrder violations
+    → ((v : Violation) → Contains violations v ↔ Contains new v) → AreRawViolations files class violations
+raw_exactly files class linked old new violations lines held adds ordered members =
+    exactly_found (IsRawLine files class) new violations (raw_linked files class linked old new lines held adds) ordered members
+
+-- a list whose slice isn't empty is not empty
+pub some_of_full : {X : Type 0} (xs ys : List X) → ys ≡ xs → false ≡ (length ys == 0) → xs ≡ [] → ⊥
+some_of_full {X = X} xs ys same full none = absurd (true≢false (ap (λ (l : List X). length l == 0) (sym (same ∙ none)) ∙ sym full))
+
+-- where no rule is violated, none of the rules 1 to 6 is
+pub silent_holds : (files : List File) (class : Name) → AreRawViolations files class [] → HoldsHierarchy files
+silent_holds files class silent v line = absurd (member_none v ((silent.all v).1 (inl (inl line))))
+
+-- of files whose classes are not linked: a rule is violated
+pub raw_broken : (files : List File) (class : Name) (judged : JudgedSet) (violations : List Violation) → IsJudgedSet raw_library files judged → judged.linker ≡ None
+    → IsInOrder violations → ((v : Violation) → Contains violations v ↔ Contains judged.found.items v) → AreRawViolations files class violations × (violations ≢ [])
+raw_broken files class judged violations is at ordered members =
     let broken : HoldsHierarchy files → ⊥ = subst (IsLinkedWhereHeld raw_library files) at is.linked in
+    let adds : Adds (IsRawLine files class) [] judged.found.items =
     adds_same (IsLineBy raw_library files) (IsRawLine files class) [] judged.found.items
-    (λ v. (λ line. inl line, λ any. elim any [ inl line ↦ line | inr lacks ↦ absurd (broken lacks.hierarchy) ])) is.lines
+    (λ v. (λ line. inl line, λ any. elim any [ inl line ↦ line | inr lacks ↦ absurd (broken lacks.hierarchy) ])) is.lines in
+    let exact : AreRawViolations files class violations = exactly_found (IsRawLine files class) judged.found.items violations adds ordered members in
+    (exact, λ none. broken (silent_holds files class (subst (AreRawViolations files class) none exact)))

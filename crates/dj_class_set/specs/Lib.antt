@@ -5,4 +5,5 @@ pub mod Statuses
 pub mod Checked
 pub mod RawEntry
 pub mod Late
+pub mod RawDecisions
 pub mod trusted

@@ -15,6 +15,6 @@ pub use checking::check;
 pub use class_set::ClassSet;
 pub use entry::entry_name;
 pub use error::SandboxError;
-pub use raw_rules::{DESCRIPTOR, VERIFY, raw_violations};
+pub use raw_rules::{DESCRIPTOR, RawDecided, VERIFY, judge_raw};
 pub use run_rules::{entry_of, has_entry, run_violations};
 pub use running::verify;

@@ -9,9 +9,11 @@ ghost use Rattle.dj_report.specs.Lines.{Adds};
 ghost use Rattle.dj_file_rules.specs.Views.{path_file_view};
 ghost use Rattle.dj_class_table.specs.Tables.{methods_at};
 ghost use Rattle.dj_class_set.specs.trusted.Limits.{most_files};
-ghost use Rattle.dj_class_set.specs.Late.{IsJudgedSet};
+ghost use Rattle.dj_class_set.specs.trusted.Checked.{HoldsHierarchy, IsLineBy};
+ghost use Rattle.dj_class_set.specs.Late.{IsJudgedSet, LinksFiles};
+ghost use Rattle.dj_class_set.specs.RawDecisions.{IsRawDecided};
 ghost use Rattle.dj_class_set.specs.RawEntry.{method_has_code, EntryLine};
-ghost use Rattle.dj_class_set.specs.trusted.RawRules.{entry_desc, runs_entry, IsRawLine, AreRawViolations};
+ghost use Rattle.dj_class_set.specs.trusted.RawRules.{entry_desc, runs_entry};
 
 use crate::judging::{JudgedSet, judge_set};
 use dj_library::raw;
@@ -29,6 +31,15 @@ pub const VERIFY: &[u8] = b"verify";
 
 /// Its descriptor: from an array of bytes to one.
 pub const DESCRIPTOR: &[u8] = b"([B)[B";
+
+/// What is known of files once they were judged by the rules of `raw`.
+#[derive(Drop)]
+pub enum RawDecided {
+    /// All their violations, in order, each once; there are some.
+    Rejected(Violations),
+    /// They have none, and this links their classes with those of the raw library.
+    Accepted(Linker),
+}
 
 // ---- the entry
 
@@ -126,29 +137,48 @@ fn with_entry_line(
     Ok(all)
 }
 
-// The lines of files that were judged by the rules 1 to 19, and that of the entry.
-fn raw_lines(alloc: Global, judged: JudgedSet, entry: &[u8]) -> Result<Vec<Violation>, AllocError>
-    ensures { (files : List File) → IsJudgedSet raw_library files judged → IfOk result (λ found. Adds (IsRawLine files entry.now) [] found.items) }
+// ---- the judgement
+
+// The judgement on files that have these violations of the rules 1 to 19, none of the rules 1 to 6, and are linked.
+fn judge_entry(
+    alloc: Global,
+    found: Vec<Violation>,
+    linker: Linker,
+    entry: &[u8],
+) -> Result<RawDecided, AllocError>
+    ensures { (files : List File) → Adds (IsLineBy raw_library files) [] found.items → HoldsHierarchy files × LinksFiles raw_library files linker
+        → IfOk result (IsRawDecided files entry.now) }
+{
+    let lines = with_entry_line(alloc, found, &linker, entry)?;
+    let violations = in_order(lines);
+    if violations.as_slice().is_empty() {
+        return Ok(RawDecided::Accepted(linker));
+    }
+    Ok(RawDecided::Rejected(violations))
+}
+
+// The judgement on files that were judged by the rules 1 to 19.
+fn judgement_of(alloc: Global, judged: JudgedSet, entry: &[u8]) -> Result<RawDecided, AllocError>
+    ensures { (files : List File) → IsJudgedSet raw_library files judged → IfOk result (IsRawDecided files entry.now) }
 {
     let JudgedSet { found, linker } = judged;
     match linker {
-        Some(linker) => with_entry_line(alloc, found, &linker, entry),
-        None => Ok(found),
+        Some(linker) => judge_entry(alloc, found, linker, entry),
+        None => Ok(RawDecided::Rejected(in_order(found))),
     }
 }
 
-/// All violations that `raw` reports, in order, each once. `entry` is the name of the entry's class.
-pub fn raw_violations(
+/// Judges files by all rules of `raw`. `entry` is the name of the entry's class.
+pub fn judge_raw(
     alloc: Global,
     files: &[PathFile<'_>],
     entry: &[u8],
-) -> Result<Violations, AllocError>
+) -> Result<RawDecided, AllocError>
     requires few { length files.now ≤ most_files }
     requires short { All (λ file. length file.bytes.now < 2 ^ 32) files.now }
-    ensures { IfOk result (AreRawViolations (map path_file_view files.now) entry.now) }
+    ensures { IfOk result (IsRawDecided (map path_file_view files.now) entry.now) }
 {
     let library = raw(alloc).map_err(|_| AllocError)?;
     let judged = judge_set(alloc, files, &library)?;
-    let found = raw_lines(alloc, judged, entry)?;
-    Ok(in_order(found))
+    judgement_of(alloc, judged, entry)
 }

@@ -14,4 +14,4 @@ mod values;
 pub use cycles::refuse_cycles;
 pub use dj_image::{BaseNames, Body, FieldId, Image, MemberOf, MethodCode, MethodId, Operand};
 pub use error::LoadError;
-pub use loading::load;
+pub use loading::{image_from, load};

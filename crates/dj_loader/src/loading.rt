@@ -52,24 +52,23 @@ fn link(alloc: Global, table: ClassTable, base: BaseNames) -> Result<Linker, Loa
     Linker::of(alloc, table, base).or(Err(LoadError::Memory))
 }
 
-// The image of the classes of a table, which get their parts.
-fn image_in(
+/// The image of the program of class files and a library: a linker has the classes of both, in order, and they get their parts. They can be loaded,
+/// the class String is among them, and no method's code is faulty.
+pub fn image_from(
     alloc: Global,
-    table: ClassTable,
+    linker: Linker,
     views: &[ClassView<'_>],
-    base: BaseNames,
 ) -> Result<Image, LoadError>
     requires valid { All (λ view. IsValid (class_of view)) views.now }
     requires coded { All (λ view. HasFaultyMethod (class_of view) → ⊥) views.now }
-    requires fits { (library : List LibraryClass) × IsTableOf library (map class_of views.now) table }
-    requires string { HasString table (prefix_of base) }
-    ensures program { (library : List LibraryClass) → IsTableOf library (map class_of views.now) table → IfOk result (λ image. IsProgramIn library (map class_of views.now) (program_of image)) }
-    ensures prefix { IfOk result (λ image. image.prefix ≡ prefix_of base) }
+    requires fits { (library : List LibraryClass) × IsTableOf library (map class_of views.now) linker.program }
+    requires string { HasString linker.program linker.prefix }
+    ensures program { (library : List LibraryClass) → IsTableOf library (map class_of views.now) linker.program → IfOk result (λ image. IsProgramIn library (map class_of views.now) (program_of image)) }
+    ensures prefix { IfOk result (λ image. image.prefix ≡ linker.prefix) }
     ensures numbered { IfOk result IsNumbered }
     ensures memory { IfErr result IsMemory }
 {
-    let parts = parts_of(alloc, &table, views)?;
-    let linker = link(alloc, table, base)?;
+    let parts = parts_of(alloc, linker.classes(), views)?;
     Ok(image_of(alloc, linker, parts)?)
 }
 
@@ -94,5 +93,6 @@ pub fn load(
     ensures refused { IfErr result (RefusesLoad (all_classes (library_view library.now) (map class_of views.now))) }
 {
     let table = whole_table(alloc, views, library)?;
-    image_in(alloc, table, views, base)
+    let linker = link(alloc, table, base)?;
+    image_from(alloc, linker, views)
 }

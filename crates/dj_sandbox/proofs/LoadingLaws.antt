@@ -1,15 +1,13 @@
 -- Class files that were judged load with the raw library.
-use Rattle.std.proofs.Common.{◌≡◌, ℕ, suc, ◌+◌, ◌&&◌, ◌*◌, ◌<◌, ◌≤◌, true, List, [], ◌∷◌, ◌++◌, map, take, length, get_or, nat_le, All, Contains, refl, sym, ap, ◌∙◌, subst, inl, inr, codes, arith}
+use Rattle.std.proofs.Common.{◌≡◌, ℕ, suc, ◌+◌, ◌&&◌, ◌*◌, ◌<◌, ◌≤◌, true, List, [], ◌∷◌, ◌++◌, map, take, length, get_or, nat_le, All, Contains, refl, sym, ap, ◌∙◌, subst, inl, codes, arith}
 use Rattle.std.specs.List.{list_all, flat_map, AllByRecursion}
 use Rattle.std.proofs.lemmas.Bool.Decides.{nat_tests}
 use Rattle.std.proofs.lemmas.List.{length-append, length-map, take_more, take_all, map-append}
-use Rattle.std.proofs.lemmas.List.Elements.{All-head, All-tail, All-from_recursion, All-contains_itself}
+use Rattle.std.proofs.lemmas.List.Elements.{All-from_recursion, All-contains_itself}
 use Rattle.dj_edge.specs.trusted.Held.{File}
 use Rattle.dj_edge.proofs.Lists.{All-unmap}
 use Rattle.dj_names.specs.trusted.Types.{Name}
-use Rattle.dj_names.specs.trusted.Library.{Library, raw_library, final_class, lang, string_methods}
-use Rattle.dj_library_types.specs.declared.library.LibClass.{LibClass}
-use Rattle.dj_library_types.specs.Views.{library_class_view, library_view}
+use Rattle.dj_names.specs.trusted.Library.{raw_library, final_class, lang, string_methods}
 use Rattle.dj_class.specs.trusted.ClassFile.{ClassFile, IsClassFile, IsMalformed, IsValid}
 use Rattle.dj_class.specs.declared.class.ClassView.{ClassView}
 use Rattle.dj_class.specs.Views.{class_of}
@@ -18,18 +16,22 @@ use Rattle.dj_file_rules.specs.Views.{path_file_view}
 use Rattle.dj_report.specs.trusted.Lines.{file_line}
 use Rattle.dj_early_rules.specs.trusted.Malformed.{HasFaultyMethod}
 use Rattle.dj_model.specs.trusted.Program.{Class}
-use Rattle.dj_model.specs.trusted.Libraries.{library_class}
-use Rattle.dj_declarations.specs.trusted.Files.{declared_method, declared_field, declared_class}
+use Rattle.dj_model.specs.trusted.Libraries.{library_class, joined}
+use Rattle.dj_declarations.specs.trusted.Files.{declared_method, declared_field, declared_class, declared_program}
 use Rattle.dj_resolution.specs.declared.linker.BaseNames.TheVariants as bases
-use Rattle.dj_loader.specs.declared.error.LoadError.{LoadError}
-use Rattle.dj_loader.specs.declared.error.LoadError.TheVariants as errors
-use Rattle.dj_loader.specs.Loads.{all_classes, methods_of, fields_of, HasStringIn, AreFewMembers, IsLoadable, RefusesLoad}
+use Rattle.dj_resolution.specs.Linked.{Linked}
+use Rattle.dj_image.specs.Parts.{HasString}
+use Rattle.dj_loader.specs.Loads.{all_classes, methods_of, fields_of, HasStringIn, AreFewMembers}
+use Rattle.dj_loader.specs.Parting.{IsTableOf}
+use Rattle.dj_loader.proofs.Strings.{string_there}
 use Rattle.dj_loader.proofs.Lists.{member_none}
-use Rattle.dj_class_set.specs.trusted.Checked.{AreGoodFiles, HoldsHierarchy}
+use Rattle.dj_class_set.specs.trusted.Checked.{AreGoodFiles}
 use Rattle.dj_class_set.specs.trusted.RawRules.{AreRawViolations}
-use Rattle.dj_class_set.specs.Late.{AreReadFiles}
-use Rattle.dj_class_set.proofs.LateLaws.{read_more, good_files}
-use Rattle.dj_class_set.proofs.LibraryDescriptors.{HasDescriptors, described, both}
+use Rattle.dj_class_set.specs.Late.{AreReadFiles, LinksFiles}
+use Rattle.dj_class_set.proofs.GoodFiles.{same_good}
+use Rattle.dj_class_set.proofs.LateLaws.{read_more, good_files, joined_program}
+use Rattle.dj_class_set.proofs.LibraryDescriptors.{both}
+use Rattle.dj_class_set.proofs.RawLaws.{silent_holds}
 use Rattle.dj_sound.proofs.RawAccepted.{are_raw_accepted}
 
 -- ---- one more file is read
@@ -62,20 +64,8 @@ raw_string = record {
   named = refl;
 }
 
-pub string_there : (rows : List LibClass) → library_view rows ≡ raw_library → HasStringIn (library_view rows) bases.Plain
-string_there rows is = subst (λ (l : Library). HasStringIn l bases.Plain) (sym is) raw_string
-
-pub rows_described : (rows : List LibClass) → library_view rows ≡ raw_library → All HasDescriptors rows
-rows_described rows is = described rows (inr is)
-
 raw_rows : length raw_library ≤ 64
 raw_rows = omega arith
-
-pub few_rows : (rows : List LibClass) → library_view rows ≡ raw_library → length rows ≤ 64
-few_rows rows is =
-    let a : length (library_view rows) ≡ length rows = length-map rows library_class_view in
-    let b : length (library_view rows) ≡ length raw_library = ap length is in
-    omega (arith, a, b, raw_rows)
 
 raw_small : rows_pass 65535 65535 (map library_class raw_library)
 raw_small = refl
@@ -136,19 +126,6 @@ few_of files few valid =
     let f = fields_few (map declared_class files ++ rows) small in
     record { methods = omega (arith, few, a, b, c, m, raw_rows); fields = omega (arith, few, a, b, c, f, raw_rows) }
 
-valid_each : (views : List ClassView) → All (λ view. IsValid (class_of view)) views → AllByRecursion IsValid (map class_of views)
-valid_each [] all = tt
-valid_each (view ∷ views) all =
-    let Valid : ClassView → Type 0 = λ v. IsValid (class_of v) in
-    (All-head Valid view views all, valid_each views (All-tail Valid view views all))
-
-pub few_members : (rows : List LibClass) (views : List ClassView) → library_view rows ≡ raw_library → length views ≤ 4096 → All (λ view. IsValid (class_of view)) views
-    → AreFewMembers (all_classes (library_view rows) (map class_of views))
-few_members rows views is few valid =
-    let count : length (map class_of views) ≡ length views = length-map views class_of in
-    subst (λ (l : Library). AreFewMembers (all_classes l (map class_of views))) (sym is)
-    (few_of (map class_of views) (omega (arith, few, count)) (valid_each views valid))
-
 -- ---- of files without rule 1
 
 valids : (files : List File) (classes : List ClassFile) → AreGoodFiles files classes → AllByRecursion IsValid classes
@@ -178,15 +155,11 @@ as_many [] (c ∷ classes) read = absurd read
 as_many (file ∷ files) [] read = absurd read
 as_many (file ∷ files) (c ∷ classes) read = ap suc (as_many files classes read.1)
 
-pub few_views : (files : List PathFile) (views : List ClassView) → length files ≤ 4096 → AreReadFiles (map path_file_view files) (map class_of views) → length views ≤ 4096
-few_views files views few read =
-    let a = as_many (map path_file_view files) (map class_of views) read in
-    let b : length (map class_of views) ≡ length views = length-map views class_of in
+few_classes : (files : List PathFile) (classes : List ClassFile) → length files ≤ 4096 → AreReadFiles (map path_file_view files) classes → length classes ≤ 4096
+few_classes files classes few read =
+    let a = as_many (map path_file_view files) classes read in
     let c : length (map path_file_view files) ≡ length files = length-map files path_file_view in
-    omega (arith, few, a, b, c)
-
-holds_of : (files : List File) (class : Name) → AreRawViolations files class [] → HoldsHierarchy files
-holds_of files class silent v line = absurd (member_none v ((silent.all v).1 (inl (inl line))))
+    omega (arith, few, a, c)
 
 -- rule 1
 not_malformed : (files : List File) (class : Name) → AreRawViolations files class [] → (file : File) → Contains files file → IsMalformed file.1 → ⊥
@@ -200,20 +173,28 @@ whole_files files (class, silent) =
     (λ k d within. not_malformed some class silent (get_or some k d) (All-contains_itself some k d within))
 
 pub good_of : (files : List File) (classes : List ClassFile) → (class : Name) × AreRawViolations files class [] → AreReadFiles files classes → AreGoodFiles files classes
-good_of files classes (class, silent) read = good_files files classes (holds_of files class silent) read
+good_of files classes (class, silent) read = good_files files classes (silent_holds files class silent) read
 
--- ---- they load
+-- ---- what links them has the program's table
 
-pub loadable_views : (files : List File) (views : List ClassView) → (class : Name) × AreRawViolations files class [] → AreGoodFiles files (map class_of views)
-    → IsLoadable (all_classes raw_library (map class_of views))
-loadable_views files views (class, silent) good = (are_raw_accepted files class (map class_of views) good silent).loadable
+pub raw_table : (files : List PathFile) (classes : List ClassFile) (linked : Linked) → length files ≤ 4096 → (class : Name) × AreRawViolations (map path_file_view files) class []
+    → AreReadFiles (map path_file_view files) classes → LinksFiles raw_library (map path_file_view files) linked → IsTableOf raw_library classes linked.program
+raw_table files classes linked few (class, silent) read (own, own_read, is) =
+    let some : List File = map path_file_view files in
+    let good : AreGoodFiles some classes = good_of some classes (class, silent) read in
+    let same : own ≡ classes = same_good some own classes (good_of some own (class, silent) own_read) good in
+    let joins : joined (all_classes raw_library classes) [] ≡ declared_program raw_library classes =
+    joined_program raw_library classes (map declared_class classes) (all_classes raw_library classes) refl refl in
+    record {
+      is = ap (λ (l : Linked). l.program) is ∙ ap (declared_program raw_library) same ∙ sym joins;
+      loadable = (are_raw_accepted some class classes good silent).loadable;
+      few = few_of classes (few_classes files classes few read) (valids some classes good);
+    }
 
--- classes that load are refused for want of memory alone
-pub refused_memory : (rows : List LibClass) (views : List ClassView) (e : LoadError) → library_view rows ≡ raw_library → IsLoadable (all_classes raw_library (map class_of views))
-    → RefusesLoad (all_classes (library_view rows) (map class_of views)) e → e ≡ errors.Memory
-refused_memory rows views e is loadable refused = by e (subst (λ (l : Library). RefusesLoad (all_classes l (map class_of views)) e) is refused) where
-  by : (e : LoadError) → RefusesLoad (all_classes raw_library (map class_of views)) e → e ≡ errors.Memory
-  by (errors.Duplicate name) reported = absurd (loadable.differ name reported.shared)
-  by (errors.NoSuper name) reported = absurd (loadable.whole name reported.1.such)
-  by (errors.Cycle name) reported = absurd (loadable.acyclic name reported.2.such)
-  by errors.Memory reported = refl
+pub raw_plain : (files : List File) (linked : Linked) → LinksFiles raw_library files linked → linked.prefix ≡ []
+raw_plain files linked (own, read, is) = ap (λ (l : Linked). l.prefix) is
+
+-- it has the class String
+pub raw_has_string : (classes : List ClassFile) (linked : Linked) → IsTableOf raw_library classes linked.program → linked.prefix ≡ [] → HasString linked.program linked.prefix
+raw_has_string classes linked of plain =
+    subst (HasString linked.program) (sym plain) (string_there raw_library classes linked.program bases.Plain of.is raw_string)

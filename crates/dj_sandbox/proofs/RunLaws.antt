@@ -1,5 +1,5 @@
 -- What is known of a run of files in which no rule is violated.
-use Rattle.std.proofs.Common.{◌≡◌, ◌≢◌, ◌==◌, ℕ, false, true≢false, List, [], ◌∷◌, ◌++◌, length, Option, Some, IfSome, map, Result, Ok, Err, IfOk, refl, sym, ap, ◌∙◌, subst}
+use Rattle.std.proofs.Common.{◌≡◌, ◌≢◌, ℕ, false, List, [], ◌∷◌, ◌++◌, length, Option, Some, IfSome, map, Result, Ok, Err, IfOk, refl, sym, ap, subst}
 use Rattle.dj_edge.specs.trusted.Held.{File}
 use Rattle.dj_edge.specs.declared.host.HostAnswer.{HostAnswer}
 use Rattle.dj_names.specs.declared.run.Costs.{Costs}
@@ -99,10 +99,6 @@ unstopped_status (outcomes.OutOfSteps steps) e = refl
 unstopped_status (outcomes.HeapFull used size) e = refl
 
 -- ---- where a rule is violated
-
--- a list whose slice isn't empty is not empty
-pub some_of_full : {X : Type 0} (xs ys : List X) → ys ≡ xs → false ≡ (length ys == 0) → xs ≡ [] → ⊥
-some_of_full {X = X} xs ys same full none = absurd (true≢false (ap (λ (l : List X). length l == 0) (sym (same ∙ none)) ∙ sym full))
 
 pub not_silent : (files : List File) (class : Name) (violations : List Violation) → AreRawViolations files class violations → violations ≢ [] → AreRawViolations files class [] → ⊥
 not_silent files class [] are some silent = some refl

@@ -1,21 +1,20 @@
 //! The image of class files that were judged.
-ghost use Rattle.std.specs.Prelude.{◌≡◌, ◌<◌, ◌≤◌, ◌^◌, [], length, map, All, IfOk};
+ghost use Rattle.std.specs.Prelude.{◌≡◌, ◌<◌, ◌^◌, [], length, map, All, IfOk};
 ghost use Rattle.dj_names.specs.trusted.Library.{raw_library};
 ghost use Rattle.dj_class.specs.trusted.ClassFile.{IsClassFile, IsMalformed, IsValid};
 ghost use Rattle.dj_class.specs.Views.{class_of};
 ghost use Rattle.dj_file_rules.specs.Views.{path_file_view};
 ghost use Rattle.dj_early_rules.specs.trusted.Malformed.{HasFaultyMethod};
-ghost use Rattle.dj_loader.specs.Loads.{IsLoadable, all_classes};
+ghost use Rattle.dj_loader.specs.Parting.{IsTableOf};
 ghost use Rattle.dj_program.specs.trusted.Programs.{IsProgramIn};
 ghost use Rattle.dj_image.specs.Imaged.{program_of};
 ghost use Rattle.dj_class_set.specs.Late.{AreReadFiles};
-ghost use Rattle.dj_class_set.specs.trusted.Limits.{most_files};
 
 use dj_class::ClassView;
 use dj_file_rules::{FileView, view_file};
-use dj_library::raw;
-use dj_loader::{BaseNames, Image, LoadError, load};
+use dj_loader::{Image, LoadError, image_from};
 use dj_report::PathFile;
+use dj_resolution::Linker;
 use std::alloc::{AllocError, Global};
 
 // Reads a class file.
@@ -44,17 +43,21 @@ pub fn views_of<'a>(alloc: Global, files: &[PathFile<'a>]) -> Result<Vec<ClassVi
     Ok(views)
 }
 
-/// The image of the program of class files and the raw library, which load together.
-pub fn raw_image(alloc: Global, views: &[ClassView<'_>]) -> Result<Image, AllocError>
+/// The image of the program of class files and the raw library: a linker has the classes of both, in order and under their own names. They can be
+/// loaded.
+pub fn raw_image(
+    alloc: Global,
+    linker: Linker,
+    views: &[ClassView<'_>],
+) -> Result<Image, AllocError>
     requires valid { All (λ view. IsValid (class_of view)) views.now }
     requires coded { All (λ view. HasFaultyMethod (class_of view) → ⊥) views.now }
-    requires few { length views.now ≤ most_files }
-    requires loadable { IsLoadable (all_classes raw_library (map class_of views.now)) }
+    requires table { IsTableOf raw_library (map class_of views.now) linker.program }
+    requires plain { linker.prefix ≡ [] }
     ensures program { IfOk result (λ image. IsProgramIn raw_library (map class_of views.now) (program_of image)) }
     ensures prefix { IfOk result (λ image. image.prefix ≡ []) }
 {
-    let library = raw(alloc).map_err(|_| AllocError)?;
-    match load(alloc, views, &library, BaseNames::Plain) {
+    match image_from(alloc, linker, views) {
         Ok(image) => Ok(image),
         Err(LoadError::Memory) => Err(AllocError),
         Err(LoadError::Duplicate(_)) => unreachable!(),

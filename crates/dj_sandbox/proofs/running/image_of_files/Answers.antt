@@ -1,9 +1,11 @@
-use Rattle.std.proofs.Common.{◌≤◌, List, map, length, sym, subst}
+use Rattle.std.proofs.Common.{List, map, sym, subst}
+use Rattle.dj_names.specs.trusted.Library.{raw_library}
 use Rattle.dj_class.specs.declared.class.ClassView.{ClassView}
 use Rattle.dj_class.specs.Views.{class_of}
 use Rattle.dj_file_rules.specs.Views.{path_file_view}
+use Rattle.dj_loader.specs.Parting.{IsTableOf}
 use Rattle.dj_class_set.specs.trusted.Checked.{AreGoodFiles}
-use Rattle.dj_sandbox.proofs.LoadingLaws.{good_of, whole_files, valid_views, whole_views, few_views, loadable_views}
+use Rattle.dj_sandbox.proofs.LoadingLaws.{good_of, whole_files, valid_views, whole_views, raw_table, raw_plain}
 use Rattle.dj_sandbox.proofs.RunLaws.{image_is}
 use Rattle.dj_sandbox.proofs.running.image_of_files.Goals as goal
 
@@ -24,16 +26,13 @@ raw_image-requires-clause-coded c =
     let lent = subst (λ (views : List ClassView). AreGoodFiles files (map class_of views)) (sym c.deref.ensures.value) good in
     whole_views files c.deref.result.now lent
 
-pub raw_image-requires-clause-few : goal.raw_image-requires-clause-few
-raw_image-requires-clause-few c =
-    subst (λ (views : List ClassView). length views ≤ 4096) (sym c.deref.ensures.value) (few_views c.args.files.now c.in_ok-views.views.items c.requires.few c.in_ok-views.ensures)
+pub raw_image-requires-clause-table : goal.raw_image-requires-clause-table
+raw_image-requires-clause-table c =
+    subst (λ (views : List ClassView). IsTableOf raw_library (map class_of views) c.args.linker.program) (sym c.deref.ensures.value)
+    (raw_table c.args.files.now (map class_of c.in_ok-views.views.items) c.args.linker c.requires.few c.requires.silent c.in_ok-views.ensures c.requires.linked)
 
-pub raw_image-requires-clause-loadable : goal.raw_image-requires-clause-loadable
-raw_image-requires-clause-loadable c =
-    let files = map path_file_view c.args.files.now in
-    let good = good_of files (map class_of c.in_ok-views.views.items) c.requires.silent c.in_ok-views.ensures in
-    let lent = subst (λ (views : List ClassView). AreGoodFiles files (map class_of views)) (sym c.deref.ensures.value) good in
-    loadable_views files c.deref.result.now c.requires.silent lent
+pub raw_image-requires-clause-plain : goal.raw_image-requires-clause-plain
+raw_image-requires-clause-plain c = raw_plain (map path_file_view c.args.files.now) c.args.linker c.requires.linked
 
 pub returns : goal.returns
 returns c =
