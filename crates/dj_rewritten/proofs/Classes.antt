@@ -17,7 +17,7 @@ use Rattle.dj_program.specs.trusted.Programs.{AreSideBySide, IsBodyIn, IsMethodI
 use Rattle.dj_program.proofs.Once.{one_code_parts}
 use Rattle.dj_groups.specs.Groups.{Group, groups_of, starts, owns}
 use Rattle.dj_groups.specs.Rewritten.{rewritten_code}
-use Rattle.dj_rewritten.specs.Pools.{appended_texts, first_index, rewritten_pool}
+use Rattle.dj_rename.specs.Pools.{appended_texts, first_index, rewritten_pool}
 use Rattle.dj_rewritten.specs.Files.{without_synchronized, IsRewrittenBody, IsRewrittenMethod}
 use Rattle.dj_rewritten.specs.Rewritable.{HasGoodParts}
 use Rattle.dj_rewritten.proofs.Bodies.{bodies_filtered, body_read}

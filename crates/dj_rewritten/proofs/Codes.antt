@@ -23,7 +23,7 @@ use Rattle.dj_groups.specs.Groups.{Own, Kept, Popped, Group, groups_of, start, s
 use Rattle.dj_groups.specs.Rewritten.{inserted_instruction, own_instruction, retargeted, range_pieces, in_groups, rewritten_code}
 use Rattle.dj_groups.specs.Grouped.{new_target, inserted_instr, own_instr, protected_pieces, labels_in_groups}
 use Rattle.dj_groups.proofs.GroupLaws.{map_regrouped, Becomes}
-use Rattle.dj_rewritten.specs.Pools.{appended_texts, first_index, rewritten_pool}
+use Rattle.dj_rename.specs.Pools.{appended_texts, first_index, rewritten_pool}
 use Rattle.dj_rewritten.specs.Rewritable.{HasConstant, HasClass}
 use Rattle.dj_rewritten.proofs.CodeLaws.{instruction_named, instruction_aimed}
 use Rattle.dj_rewritten.proofs.Naming.{inserted_named}

@@ -14,11 +14,11 @@ use Rattle.dj_model.specs.Program.{field_map}
 use Rattle.dj_declarations.specs.trusted.Files.{desc_in, name_in}
 use Rattle.dj_program.specs.trusted.Naming.{units_in, constant_by, value_index, constant_of_body, constant_of_bodies, constant_in}
 use Rattle.dj_program.specs.trusted.Programs.{field_in_file}
-use Rattle.dj_rewritten.specs.Names.{renamed_desc}
-use Rattle.dj_rewritten.specs.Pools.{desc_need, needs, appended_texts, renamed_constant, rewritten_pool}
+use Rattle.dj_rename.specs.Names.{renamed_desc}
+use Rattle.dj_rename.specs.Pools.{desc_need, needs, appended_texts, renamed_constant, rewritten_pool}
 use Rattle.dj_rewritten.specs.Files.{new_desc, rewritten_field}
-use Rattle.dj_rewritten.proofs.NameLaws.{desc_renamed}
-use Rattle.dj_rewritten.proofs.PoolLaws.{constant_kept, text_kept, need_met, in_name, is_need}
+use Rattle.dj_rename.proofs.NameLaws.{desc_renamed}
+use Rattle.dj_rename.proofs.PoolLaws.{constant_kept, text_kept, need_met, in_name, is_need}
 use Rattle.dj_rewritten.proofs.Kept.{there}
 use Rattle.dj_rewritten.proofs.Bodies.{same_bodies, bodies_filtered}
 

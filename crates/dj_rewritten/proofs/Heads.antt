@@ -11,10 +11,10 @@ use Rattle.dj_pool.specs.trusted.Pool.{Constant, Class, constant_at, text_at, cl
 use Rattle.dj_class.specs.trusted.ClassFile.{NamesClass}
 use Rattle.dj_class.specs.trusted.Names.{names_in}
 use Rattle.dj_model.specs.trusted.Natives.{class_name}
-use Rattle.dj_rewritten.specs.Names.{renamed_class}
-use Rattle.dj_rewritten.specs.Pools.{rewritten_pool}
-use Rattle.dj_rewritten.proofs.ClassTexts.{name_type}
-use Rattle.dj_rewritten.proofs.PoolLaws.{class_named}
+use Rattle.dj_rename.specs.Names.{renamed_class}
+use Rattle.dj_rename.specs.Pools.{rewritten_pool}
+use Rattle.dj_rename.proofs.ClassTexts.{name_type}
+use Rattle.dj_rename.proofs.PoolLaws.{class_named}
 
 -- a class's name gets the prefix
 pub name_renamed : (text : Name) → IsClassName text → renamed_class text ≡ in_sandbox text

@@ -15,10 +15,10 @@ use Rattle.dj_model.specs.trusted.Instructions.{Named, AText, AClass, AField, AM
 use Rattle.dj_model.specs.Instructions.{named_map}
 use Rattle.dj_declarations.specs.trusted.Files.{type_in, desc_in}
 use Rattle.dj_program.specs.trusted.Naming.{units_in, named_at, named_by, named_or_another, member_in, member_from}
-use Rattle.dj_rewritten.specs.Names.{renamed_class, renamed_desc}
-use Rattle.dj_rewritten.specs.Pools.{appended_texts, renamed_constant, rewritten_pool}
-use Rattle.dj_rewritten.proofs.NameLaws.{type_renamed, desc_renamed}
-use Rattle.dj_rewritten.proofs.PoolLaws.{constant_kept, text_kept, class_named, names_named}
+use Rattle.dj_rename.specs.Names.{renamed_class, renamed_desc}
+use Rattle.dj_rename.specs.Pools.{appended_texts, renamed_constant, rewritten_pool}
+use Rattle.dj_rename.proofs.NameLaws.{type_renamed, desc_renamed}
+use Rattle.dj_rename.proofs.PoolLaws.{constant_kept, text_kept, class_named, names_named}
 
 -- what is there, and meets a condition
 pub record There {A : Type 0} (P : A → Type 0) (o : Option A) : Type 0 where

@@ -1,13 +1,9 @@
-pub mod ClassTexts
-pub mod NameLaws
-pub mod PoolLaws
 pub mod CodeLaws
 pub mod Naming
 pub mod Kept
 pub mod Codes
 mod RowFacts
 pub mod Valid
-pub mod Utf8
 pub mod Frames
 pub mod Bodies
 pub mod Fields

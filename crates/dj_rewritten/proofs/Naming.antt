@@ -16,8 +16,8 @@ use Rattle.dj_program.specs.trusted.Naming.{named_at, named_by, named_or_another
 use Rattle.dj_groups.specs.Groups.{Jumps, Invocations, Throws, Allocations, Arrays, Catches, Inserted, Copy, ObjectBytes, ElementBytes, Record}
 use Rattle.dj_groups.specs.Rewritten.{inserted_instruction}
 use Rattle.dj_groups.specs.Grouped.{inserted_instr}
-use Rattle.dj_rewritten.specs.Pools.{renamed_constant, renamed_pool, appended_texts, accounter_constants, first_index, rewritten_pool}
-use Rattle.dj_rewritten.proofs.PoolLaws.{slice_get_right, length_map}
+use Rattle.dj_rename.specs.Pools.{renamed_constant, renamed_pool, appended_texts, accounter_constants, first_index, rewritten_pool}
+use Rattle.dj_rename.proofs.PoolLaws.{slice_get_right, length_map}
 
 abbrev row : ℕ → LibraryMethod
 row n = get_or accounter_methods n (record { flags = 0; name = []; desc = no_parameters; native = None })

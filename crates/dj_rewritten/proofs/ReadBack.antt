@@ -19,9 +19,9 @@ use Rattle.dj_class.specs.trusted.Names.{this_name}
 use Rattle.dj_early_rules.specs.trusted.Attributes.{values_of}
 use Rattle.dj_early_rules.specs.trusted.Malformed.{IsValueFor, IsFaultyField}
 use Rattle.dj_program.specs.trusted.Naming.{value_index}
-use Rattle.dj_rewritten.specs.Pools.{Need, desc_need, needs_from, needs}
+use Rattle.dj_rename.specs.Pools.{Need, desc_need, needs_from, needs}
 use Rattle.dj_rewritten.specs.Files.{desc_indexes}
-use Rattle.dj_rewritten.proofs.PoolLaws.{is_need}
+use Rattle.dj_rename.proofs.PoolLaws.{is_need}
 use Rattle.dj_rewritten.proofs.Kept.{there}
 use Rattle.dj_names.specs.trusted.Names.{IsClassName}
 use Rattle.dj_frames.specs.Laws.{WrittenIsStackMap, StackMapIsWellFormed}
@@ -30,7 +30,7 @@ use Rattle.dj_model.specs.Program.{class_map, method_map, field_map}
 use Rattle.dj_declarations.specs.trusted.Files.{declared_class}
 use Rattle.dj_program.specs.trusted.Programs.{AreSideBySide, IsMethodIn, field_in_file, IsClassIn}
 use Rattle.dj_groups.specs.Rewritten.{rewritten_code}
-use Rattle.dj_rewritten.specs.Pools.{rewritten_pool}
+use Rattle.dj_rename.specs.Pools.{rewritten_pool}
 use Rattle.dj_rewritten.specs.Files.{rewritten_field, IsRewrittenMethod, IsRewrittenFile}
 use Rattle.dj_rewritten.specs.Rewritable.{IsRewritable}
 use Rattle.dj_rewritten.proofs.Heads.{class_read, interfaces_read}

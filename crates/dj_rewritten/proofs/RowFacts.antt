@@ -7,9 +7,9 @@ use Rattle.dj_class.specs.trusted.ClassFile.{ClassFile, class_bytes}
 use Rattle.dj_class.specs.trusted.Code.{CodeInfo, code_info_bytes}
 use Rattle.dj_declarations.specs.trusted.Files.{type_in, desc_in}
 use Rattle.dj_groups.specs.Groups.{Group, Record, Jumps, Kept, start, cut, pieces}
-use Rattle.dj_rewritten.specs.Names.{renamed_class, renamed_desc, plain_text}
+use Rattle.dj_rename.specs.Names.{renamed_class, renamed_desc, plain_text}
 use Rattle.dj_rewritten.specs.Files.{without_synchronized, rewritten_field}
-use Rattle.dj_rewritten.specs.Pools.{needs, first_places, appended_texts, renamed_pool, accounter_constants, rewritten_pool}
+use Rattle.dj_rename.specs.Pools.{needs, first_places, appended_texts, renamed_pool, accounter_constants, rewritten_pool}
 
 abbrev row_pool : List Constant
 row_pool = Utf8 (codes "A") ∷ Class 1 ∷ Utf8 (codes "java/lang/Object") ∷ Class 3 ∷ Utf8 (codes "verify") ∷ Utf8 (codes "([B)[B") ∷ Utf8 (codes "Code") ∷ []

@@ -16,7 +16,7 @@ use Rattle.dj_program.specs.trusted.Codes.{code_in}
 use Rattle.dj_groups.specs.Groups.{Group, groups_of}
 use Rattle.dj_groups.specs.Grouped.{labels_in_groups}
 use Rattle.dj_program.specs.trusted.Programs.{AreSideBySide}
-use Rattle.dj_rewritten.specs.Pools.{appended_texts, first_index, rewritten_pool}
+use Rattle.dj_rename.specs.Pools.{appended_texts, first_index, rewritten_pool}
 use Rattle.dj_rewritten.specs.Files.{desc_indexes, rewritten_map, IsRewrittenBody, IsRewrittenMethod, IsRewrittenFile}
 use Rattle.dj_rewritten.proofs.Bodies.{same_bodies, bodies_filtered}
 use Rattle.dj_rewritten.proofs.Fields.{named_kept_too}

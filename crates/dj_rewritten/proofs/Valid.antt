@@ -7,10 +7,10 @@ use Rattle.dj_names.specs.Types.{in_sandbox, type_map}
 use Rattle.dj_names.specs.trusted.Names.{IsUnqualifiedName, IsMethodName}
 use Rattle.dj_names.specs.trusted.Descriptors.{IsFieldDescriptor, IsMethodDescriptor}
 use Rattle.dj_pool.specs.trusted.Pool.{Constant, Utf8, Integer, Float, Long, Double, Class, Text, Field, Method, InterfaceMethod, NameAndType, Handle, MethodType, Dynamic, Hole, constant_at, text_at, class_text_of, names_of, member_of, desc_at, IsClassText, NamesText, NamesAnyClass, NamesMember, NamesDesc, IsLinked}
-use Rattle.dj_rewritten.specs.Names.{renamed_class, renamed_desc}
-use Rattle.dj_rewritten.specs.Pools.{class_need, desc_need, new_index, appended_texts, renamed_constant, rewritten_pool}
-use Rattle.dj_rewritten.proofs.NameLaws.{renamed_class_text, renamed_describes}
-use Rattle.dj_rewritten.proofs.PoolLaws.{constant_kept, text_kept, need_met, class_is_needed, desc_is_needed, type_is_needed, in_name}
+use Rattle.dj_rename.specs.Names.{renamed_class, renamed_desc}
+use Rattle.dj_rename.specs.Pools.{class_need, desc_need, new_index, appended_texts, renamed_constant, rewritten_pool}
+use Rattle.dj_rename.proofs.NameLaws.{renamed_class_text, renamed_describes}
+use Rattle.dj_rename.proofs.PoolLaws.{constant_kept, text_kept, need_met, class_is_needed, desc_is_needed, type_is_needed, in_name}
 use Rattle.dj_rewritten.proofs.Kept.{there}
 
 pub field_renamed : (text : Name) → IsFieldDescriptor text → IsFieldDescriptor (renamed_desc text)

@@ -15,7 +15,7 @@ use Rattle.dj_program.specs.trusted.Programs.{AreSideBySide}
 use Rattle.dj_frames.specs.Moves.{moved_frame}
 use Rattle.dj_groups.specs.Groups.{Group, groups_of, starts, owns}
 use Rattle.dj_groups.specs.Grouped.{labels_in_groups}
-use Rattle.dj_rewritten.specs.Pools.{desc_need, new_index, appended_texts, first_index, rewritten_pool}
+use Rattle.dj_rename.specs.Pools.{desc_need, new_index, appended_texts, first_index, rewritten_pool}
 
 -- ---- code
 

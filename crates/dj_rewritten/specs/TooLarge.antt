@@ -8,7 +8,7 @@ use Rattle.dj_model.specs.trusted.Program.{Program}
 use Rattle.dj_program.specs.trusted.Codes.{CodeParts, code_in, IsMethodCode}
 use Rattle.dj_groups.specs.Groups.{Inserted, ObjectBytes, Group, inserted, groups_of}
 use Rattle.dj_groups.specs.Grouped.{labels_in_groups}
-use Rattle.dj_rewritten.specs.Pools.{appended_texts, first_index, IsFull, IsLongText}
+use Rattle.dj_rename.specs.Pools.{appended_texts, first_index, IsFull, IsLongText}
 use Rattle.dj_rewritten.specs.Files.{desc_indexes, IsRewrittenFile}
 
 -- ---- methods

@@ -1,4 +1,4 @@
--- Part of dj_image's file ClassTexts.antt, which is to stand where desc_in and type_in do.
+-- The types that the texts of classes name.
 use Rattle.std.proofs.Common.{◌≡◌, ℕ, zero, suc, ◌≤◌, Bool, true, false, cond, List, [], ◌∷◌, ◌++◌, replicate, Option, unwrap_or, refl, sym, ap, subst, ◌∙◌, arith, IsTrue}
 use Rattle.std.specs.Prelude.{nat_eq}
 use Rattle.std.specs.List.{starts_with}
@@ -11,7 +11,7 @@ use Rattle.dj_names.specs.trusted.Names.{IsClassName}
 use Rattle.dj_names.specs.trusted.NameReading.{reads_class_name}
 use Rattle.dj_names.specs.Tests.{class_name_test}
 use Rattle.dj_names.specs.trusted.Types.{class_type}
-use Rattle.dj_names.specs.trusted.Descriptors.{of_text, Describes}
+use Rattle.dj_names.specs.trusted.Descriptors.{of_text, Describes, IsArrayDescriptor}
 use Rattle.dj_names.proofs.TestLaws.{class_name_test-decides}
 use Rattle.dj_names.proofs.DescLaws.{desc_again}
 use Rattle.dj_model.specs.trusted.Types.{no_parameters}
@@ -46,3 +46,6 @@ unfolding type_in
 array_type text ty some d =
     let starts : starts_with nat_eq text (91 ∷ []) ≡ true = ap (λ (t : List ℕ). starts_with nat_eq t (91 ∷ [])) d.text_is ∙ array_starts ty.dims ty.of some in
     ap (λ (t : Bool). cond t (field_type (desc_in text)) (class_type text)) starts ∙ ap field_type (desc_in_is text (descs.Field ty) d)
+
+pub array_begins : (text : List ℕ) → IsArrayDescriptor text → starts_with nat_eq text (91 ∷ []) ≡ true
+array_begins text a = ap (λ (t : List ℕ). starts_with nat_eq t (91 ∷ [])) a.2.text_is ∙ array_starts a.0.dims a.0.of a.1

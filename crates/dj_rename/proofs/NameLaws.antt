@@ -1,5 +1,5 @@
 -- Renamed texts spell renamed types.
-use Rattle.std.proofs.Common.{◌≡◌, ℕ, zero, suc, ◌≤◌, false, List, [], ◌∷◌, ◌++◌, map, Option, Some, None, ◌≢◌, refl, sym, ap, subst, ◌∙◌, arith, inl, inr, codes, sum_by, IfSome, nat_eq}
+use Rattle.std.proofs.Common.{◌≡◌, ℕ, zero, suc, ◌+◌, ◌≤◌, false, List, [], ◌∷◌, ◌++◌, map, Option, Some, None, ◌≢◌, refl, sym, ap, subst, ◌∙◌, arith, inl, inr, codes, sum_by, IfSome, nat_eq}
 use Rattle.std.specs.Option.{option_map}
 use Rattle.std.specs.List.{AllByRecursion, join_with_byte}
 use Rattle.dj_names.specs.declared.descriptor.Of.{Of}
@@ -10,14 +10,14 @@ use Rattle.dj_names.specs.declared.descriptor.Desc.TheVariants as descs
 use Rattle.dj_names.specs.trusted.Names.{IsClassName, IsNameByte}
 use Rattle.dj_names.specs.trusted.Types.{Name, of_map}
 use Rattle.dj_names.specs.Types.{type_map, desc_map, in_sandbox}
-use Rattle.dj_names.specs.trusted.Descriptors.{NamesClass, IsType, IsDesc, Describes, type_slots, type_text, desc_text}
+use Rattle.dj_names.specs.trusted.Descriptors.{NamesClass, IsType, IsDesc, Describes, IsFieldDescriptor, IsMethodDescriptor, type_slots, type_text, desc_text}
 use Rattle.std.proofs.lemmas.List.Sums.{sum_by-cons}
 use Rattle.std.proofs.lemmas.Bool.{eqb-false, ne_eqb}
-use Rattle.dj_rewritten.proofs.ClassTexts.{desc_in_is, name_type, array_type}
+use Rattle.dj_rename.proofs.ClassTexts.{desc_in_is, name_type, array_type}
 use Rattle.dj_pool.specs.trusted.Pool.{IsClassText}
 use Rattle.dj_model.specs.trusted.Natives.{class_name}
 use Rattle.dj_declarations.specs.trusted.Files.{type_in, desc_in}
-use Rattle.dj_rewritten.specs.Names.{renamed_class, renamed_desc}
+use Rattle.dj_rename.specs.Names.{renamed_class, renamed_desc}
 
 -- ---- valid names and types stay valid
 
@@ -112,3 +112,11 @@ renamed_class_text text (inl name) =
 renamed_class_text text (inr array) =
     subst (λ (ty : Ty). IsClassText (class_name (type_map in_sandbox ty))) (sym (array_type text array.0 array.1 array.2))
     (inr (type_map in_sandbox array.0, array.1, record { text_is = array_name array.0.dims array.0.of array.1; valid = sandbox_type array.0 array.2.valid }))
+
+-- ---- descriptors stay of their kind
+
+pub field_renamed : (text : Name) → IsFieldDescriptor text → IsFieldDescriptor (renamed_desc text)
+field_renamed text h = (type_map in_sandbox h.0, renamed_describes text (descs.Field h.0) h.1)
+
+pub method_renamed : (text : Name) → IsMethodDescriptor text → IsMethodDescriptor (renamed_desc text)
+method_renamed text h = let d = renamed_describes text (descs.Method h.0 h.1) h.2 in (_, _, d)

@@ -1,5 +1,5 @@
 -- What the constants of a rewritten class name.
-use Rattle.std.proofs.Common.{◌≡◌, ℕ, zero, suc, ◌+◌, Bool, true, false, not, ◌&&◌, ◌||◌, List, [], ◌∷◌, ◌++◌, map, filter, length, Option, Some, None, slice_get, option_and_then, refl, sym, ap, ◌∙◌, arith, ◌⊎◌, inl, inr, if◌then◌else◌, nat_eq, unwrap_or}
+use Rattle.std.proofs.Common.{◌≡◌, ℕ, zero, suc, ◌+◌, Bool, true, false, not, ◌&&◌, ◌||◌, List, [], ◌∷◌, ◌++◌, map, filter, length, Option, Some, None, slice_get, option_and_then, refl, sym, ap, subst, ◌∙◌, arith, ◌⊎◌, inl, inr, if◌then◌else◌, nat_eq, unwrap_or}
 use Rattle.std.specs.Option.{option_map}
 use Rattle.std.specs.List.{list_any}
 use Rattle.std.specs.Cmp.Lexicographic.{bytes_decides}
@@ -9,14 +9,14 @@ use Rattle.std.proofs.lemmas.List.Folds.{list_any-append}
 use Rattle.dj_names.specs.trusted.Types.{Name, same_name}
 use Rattle.dj_pool.specs.trusted.Pool.{Constant, Utf8, Integer, Float, Long, Double, Class, Text, Field, Method, InterfaceMethod, NameAndType, Handle, MethodType, Dynamic, Hole, constant_at, text_of, text_at, class_text_of, class_name_at, names_of, name_and_type_at, both}
 use Rattle.dj_declarations.specs.trusted.Files.{name_in}
-use Rattle.dj_rewritten.specs.Names.{renamed_class, renamed_desc}
-use Rattle.dj_rewritten.specs.Pools.{Need, class_need, desc_need, need_of, needs_from, needs, option_list, is_changed, first_places, need_text, appended_texts, place_of, new_index, renamed_constant, renamed_pool, accounter_constants, first_index, rewritten_pool}
+use Rattle.dj_rename.specs.Names.{renamed_class, renamed_desc}
+use Rattle.dj_rename.specs.Pools.{Need, class_need, desc_need, need_of, needs_from, needs, option_list, is_changed, first_places, need_text, appended_texts, place_of, new_index, renamed_constant, renamed_pool, accounter_constants, first_index, rewritten_pool}
 
 either : (b : Bool) → (b ≡ true) ⊎ (b ≡ false)
 either true = inl refl
 either false = inr refl
 
-same_is : (a b : Name) → same_name a b ≡ true → a ≡ b
+pub same_is : (a b : Name) → same_name a b ≡ true → a ≡ b
 same_is a b e = (bytes_decides a b).0 e
 
 is_same : (a : Name) → same_name a a ≡ true
@@ -250,3 +250,28 @@ module _ (pool : List Constant) (descs : List ℕ) where
       ∙ ap (λ (o : Option (List ℕ)). both o (text_at new (new_index pool texts (desc_need pool 0 desc)))) (text_kept name n s)
       ∙ ap (λ (o : Option (List ℕ)). both (Some n) o) (need_met (desc_need pool 0 desc) d (desc_is_needed i name desc h) t
       ∙ ap (λ (x : Name). Some (renamed_desc x)) (in_name desc d t))
+
+  -- the text of each need that is among them is appended
+  pub is_settled : (need : Need) → list_any (is_need need) (needs pool descs) ≡ true → is_changed pool need ≡ true → list_any (same_name need.text) (appended_texts pool descs) ≡ true
+  unfolding appended_texts
+  is_settled need among e = all_placed [] (changed_texts pool descs) need.text (is_among pool need (needs pool descs) among e)
+
+  desc_itself : (d : ℕ) → is_need (desc_need pool d d) (desc_need pool d d) ≡ true
+  desc_itself d = rw (eq-eqb d d refl, is_same (renamed_desc (name_in pool d))) refl
+
+  desc_step : (list : List ℕ) (desc x : ℕ) (b : Bool) → nat_eq desc x ≡ b → (b ≡ false → list_any (is_need (desc_need pool desc desc)) (map (λ desc. desc_need pool desc desc) list) ≡ true)
+      → list_any (is_need (desc_need pool desc desc)) (map (λ desc. desc_need pool desc desc) (x ∷ list)) ≡ true
+  desc_step list desc x true e later =
+      let same : desc ≡ x = eqb-true desc x e in
+      or_left _ _ (subst (λ (y : ℕ). is_need (desc_need pool desc desc) (desc_need pool y y) ≡ true) same (desc_itself desc))
+  desc_step list desc x false e later = or_true _ _ (later refl)
+
+  desc_among : (list : List ℕ) (desc : ℕ) → list_any (nat_eq desc) list ≡ true → list_any (is_need (desc_need pool desc desc)) (map (λ desc. desc_need pool desc desc) list) ≡ true
+  desc_among [] desc h = absurd cc
+  desc_among (x ∷ list) desc h = desc_step list desc x (nat_eq desc x) refl (λ e. desc_among list desc (sym (ap (λ (b : Bool). b || list_any (nat_eq desc) list) e) ∙ h))
+
+  pub member_is_needed : (desc : ℕ) → list_any (nat_eq desc) descs ≡ true → list_any (is_need (desc_need pool desc desc)) (needs pool descs) ≡ true
+  unfolding needs
+  member_is_needed desc h =
+      list_any-append (is_need (desc_need pool desc desc)) (needs_from pool 1 pool) (map (λ desc. desc_need pool desc desc) descs)
+      ∙ or_true _ _ (desc_among descs desc h)

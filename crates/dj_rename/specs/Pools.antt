@@ -8,7 +8,7 @@ use Rattle.dj_names.specs.Library.{accounter_class, accounter_methods}
 use Rattle.dj_pool.specs.trusted.Pool.{Constant, Utf8, Class, NameAndType, MethodType, Method}
 use Rattle.dj_pool.specs.Answers.{with_text, last_index}
 use Rattle.dj_declarations.specs.trusted.Files.{name_in}
-use Rattle.dj_rewritten.specs.Names.{renamed_class, renamed_desc}
+use Rattle.dj_rename.specs.Names.{renamed_class, renamed_desc}
 
 -- ---- texts that are renamed
 

@@ -1,0 +1,6 @@
+pub mod Names
+pub mod Pools
+pub mod Refusals
+pub mod Renaming
+pub mod Redirecting
+pub mod Laws

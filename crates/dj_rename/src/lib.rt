@@ -1,0 +1,20 @@
+//! Class files' texts with `sandbox/` before each class's name, and pools of them.
+#![tactic(auto)]
+
+mod error;
+mod known;
+mod laws;
+mod renamed;
+mod sought;
+mod spelled;
+mod text;
+mod texts;
+mod walk;
+mod wanted;
+
+pub use error::RenameError;
+pub use laws::{classes_in_sandbox, descs_in_sandbox, plain_undoes};
+pub use renamed::{Renamed, rename_pool};
+pub use text::{plain_name, rename_desc, rename_name};
+pub use texts::Texts;
+pub use walk::rename_texts;
