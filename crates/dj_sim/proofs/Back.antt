@@ -16,7 +16,7 @@ use Rattle.dj_sim.proofs.Places.{either}
 
 -- ---- a run that has ended stays so
 
-abbrev IsOver : Ran → Type 0
+abbrev pub IsOver : Ran → Type 0
 IsOver (Going s) = ⊥
 IsOver (Finished outcome s n) = ⊤
 IsOver NoStep = ⊤

@@ -7,13 +7,18 @@ pub mod Initialising
 pub mod Unwinding
 pub mod PaidCalls
 pub mod Payments
-pub mod Counting
+pub mod Related
+pub mod CountedSteps
+pub mod Limited
 pub mod Back
 pub mod Shapes
 pub mod Befores
 pub mod Bounds
 pub mod Bounded
 pub mod SoundTurns
+pub mod BelowObject
 pub mod Beginning
 pub mod Waiting
+pub mod LawProofs
+pub mod Metering
 mod Facts

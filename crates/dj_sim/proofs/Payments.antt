@@ -102,19 +102,27 @@ module _ (program : Program) (base : HasObject program) (most : Thresholds)
     pub method : m ≡ declared_map in_sandbox of
     pub below : Originals ys
 
+  -- thrown where the heap has no such object yet
+  pub thrown_leaves : (r : State) (y : Frame Declared) (ys : List (Frame Declared)) (charge : Charge) (before : Heap Ty) → r.heap ≡ heap_map (type_map in_sandbox) before → AreOriginal (y ∷ ys)
+      → r.account.exceeded ≡ Some charge
+      → EndsWithin (other program) most (2 * suc (length ys))
+      (throw_stop_or (other program) sandbox_prefix (plain_terms most) (record r { frames = y ∷ ys }) (stop_from sandbox_prefix 1 r.heap.objects)) (outcomes.Stopped charge) r.account.costs
+  thrown_leaves r y ys charge before heap_is original over =
+      let made : State = record r { heap = with_new r.heap new_stop; frames = y ∷ ys } in
+      let none : stop_from sandbox_prefix 1 r.heap.objects ≡ None = ap (λ (heap : Heap Ty). stop_from sandbox_prefix 1 heap.objects) heap_is ∙ no_stop_from 1 before.objects in
+      rw (none, made_stop r.heap)
+      (stopping.unwound_stops program most (flags_after program base (plain_terms most)) handled (ready program base (plain_terms most)) (y ∷ ys) original made (next_number r.heap) charge over (made_stop r.heap))
+
   stop_leaves : (r : State) (y : Frame Declared) (ys : List (Frame Declared)) (charge : Charge) (account : Account) → Stopping r.heap y.method ys → account.exceeded ≡ Some charge
       → EndsWithin (other program) most (2 * suc (length ys))
       (throw_stop_or (other program) sandbox_prefix (plain_terms most) (record r { initialised = flags_after program base (plain_terms most) r; account = account; frames = y ∷ ys }) (stop_from sandbox_prefix 1 r.heap.objects))
       (outcomes.Stopped charge) account.costs
   stop_leaves r y ys charge account s over =
-      let made : State = record r { heap = with_new r.heap new_stop; initialised = flags_after program base (plain_terms most) r; account = account; frames = y ∷ ys } in
-      let none : stop_from sandbox_prefix 1 r.heap.objects ≡ None = ap (λ (heap : Heap Ty). stop_from sandbox_prefix 1 heap.objects) s.heap_is ∙ no_stop_from 1 s.before.objects in
-      rw (none, made_stop r.heap)
-      (stopping.unwound_stops program most (flags_after program base (plain_terms most)) handled (ready program base (plain_terms most)) (y ∷ ys) ((s.of, s.method), s.below) made (next_number r.heap) charge over (made_stop r.heap))
+      thrown_leaves (record r { initialised = flags_after program base (plain_terms most) r; account = account }) y ys charge s.before s.heap_is ((s.of, s.method), s.below) over
 
   -- ---- a payment
 
-  originals : (frames : List (Frame Declared)) → Originals (frames_image program frames)
+  pub originals : (frames : List (Frame Declared)) → Originals (frames_image program frames)
   originals [] = tt
   originals (x ∷ frames) = ((x.method, refl), originals frames)
 

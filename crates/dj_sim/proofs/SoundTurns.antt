@@ -254,7 +254,7 @@ module _ (program : Program) (is : IsSound program []) where
     pub found_there : instruction_at program x ≡ Some s.instruction
     found_there = ap (λ (c : Option Code). instruction_in c x.number) code_there ∙ s.at
 
-    linked_there : IsTrue (is_linked program [] s.instruction)
+    pub linked_there : IsTrue (is_linked program [] s.instruction)
     linked_there = all_at (is_linked program []) s.code.instructions s.instruction (is_held program [] is x s).linked (contained s.code.instructions x.number s.instruction s.at)
 
     holds_there : HoldsAt s.signature s.code s.placed x.number

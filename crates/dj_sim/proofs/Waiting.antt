@@ -146,7 +146,7 @@ paid_waits s (Fine account) k = by s.frames k where
   by [] k = tt
   by (f ∷ below) k = k
 
-top_alike : (frames : List (Frame Declared)) → is_top_paid frames ≡ top_is_paid frames
+pub top_alike : (frames : List (Frame Declared)) → is_top_paid frames ≡ top_is_paid frames
 top_alike [] = refl
 top_alike (f ∷ below) = refl
 

@@ -1,5 +1,5 @@
 -- Laws of the two runs: the metered run of a program, and the plain run of the rewritten program.
-use Rattle.std.specs.Prelude.{◌≡◌, ℕ, ◌*◌, ◌≤◌, Bool, true, false, List, [], ◌∷◌, length, Some}
+use Rattle.std.specs.Prelude.{◌≡◌, ℕ, ◌*◌, ◌≤◌, Bool, true, false, List, [], ◌∷◌, length, Option, Some, None}
 use Rattle.dj_names.specs.declared.run.Charge.{Charge}
 use Rattle.dj_names.specs.declared.run.Outcome.TheVariants as outcomes
 use Rattle.dj_names.specs.declared.run.Thresholds.{Thresholds}
@@ -10,20 +10,25 @@ use Rattle.dj_edge.specs.declared.host.HostAnswer.{HostAnswer}
 use Rattle.dj_model.specs.trusted.Types.{Prefix, Declared, object_name}
 use Rattle.dj_model.specs.trusted.Instructions.{Instruction}
 use Rattle.dj_model.specs.trusted.Program.{Program, Code, code_of}
-use Rattle.dj_model.specs.trusted.State.{Terms, Frame, State, instruction_at}
+use Rattle.dj_model.specs.trusted.State.{Terms, Counting, Metered, Accounted, Frame, State, instruction_at}
 use Rattle.dj_model.specs.trusted.Performing.{class_at_number, is_instance}
 use Rattle.dj_model.specs.trusted.Effects.{used_class}
 use Rattle.dj_model.specs.trusted.Initialisation.{Ready, initialise}
 use Rattle.dj_model.specs.trusted.Step.{prepared, unwound, step}
-use Rattle.dj_model.specs.trusted.Runs.{begin}
+use Rattle.dj_model.specs.trusted.Runs as runs
+use Rattle.dj_model.specs.trusted.Runs.{begin, from_start}
 use Rattle.dj_model.specs.Types.{declared_map}
 use Rattle.dj_model.specs.Charging.{charge_all}
 use Rattle.dj_model.specs.Runs.{amounts, metered_terms, turn}
 use Rattle.dj_model.specs.Sound.{IsSound}
-use Rattle.dj_model.specs.Standing.{AsksNothing, AreStanding}
+use Rattle.dj_model.specs.Standing.{AsksNothing, AreStanding, IsEntry}
 use Rattle.dj_groups.specs.Groups.{groups_of}
 use Rattle.dj_groups.specs.Rewritten.{rewritten}
 use Rattle.dj_sim.specs.Paying.{Paying}
+use Rattle.dj_sim.specs.Counting.{terms_with, CountsAs}
+use Rattle.dj_sim.specs.Limits.{IsLimited, RanLimited}
+use Rattle.dj_sim.specs.Objects.{HasBase, AnswerBelow, RunBelow}
+use Rattle.dj_sim.specs.Metering.{Meters}
 use Rattle.dj_sim.specs.Waiting.{AnswerWaits, RunWaits}
 use Rattle.dj_sim.specs.Simulation.{groups_in, part_at, state_image, AreWaitingPaid, AreActing, AreBelowObject, HasObject, AreHandlersWithin, HasEffect, EndsWithin, AreOriginal, PaidImage, answer_image, initialised_image}
 
@@ -64,6 +69,23 @@ pub record KeepsWaiting : Type 0 where
   pub steps : (program : Program) (prefix : Prefix) (terms : Terms) (s : State) → AreActing s.frames → AnswerWaits (step program prefix terms s)
   pub turns : (program : Program) (most : Thresholds) (s : State) → AreWaitingPaid s.frames → RunWaits (turn program most s)
 
+-- Where the accounter counts, a run begins as where the run counts, and each step is the same, but for an end by a charge: there the object that stops the run is thrown.
+pub record Counts : Type 0 where
+  pub begins : (program : Program) (prefix : Prefix) (limit : Option ℕ) (most : Thresholds) (entry : Declared) (input : List ℕ) (answers : List HostAnswer)
+      → begin program prefix (terms_with limit (Accounted most)) entry input answers ≡ begin program prefix (terms_with limit (Metered most)) entry input answers
+  pub steps : (program : Program) (prefix : Prefix) (limit : Option ℕ) (most : Thresholds) (s : State)
+      → CountsAs program prefix (terms_with limit (Accounted most)) s (step program prefix (terms_with limit (Accounted most)) s) (step program prefix (terms_with limit (Metered most)) s)
+
+-- With a limit on the heap's bytes, a run begins, each step is made and a run of n steps goes as without one; or the heap is full, and without the limit it has more bytes then.
+pub record Limits : Type 0 where
+  pub begins : (program : Program) (prefix : Prefix) (limit : ℕ) (counting : Counting) (entry : Declared) (input : List ℕ) (answers : List HostAnswer)
+      → IsLimited limit (begin program prefix (terms_with (Some limit) counting) entry input answers) (begin program prefix (terms_with None counting) entry input answers)
+  pub steps : (program : Program) (prefix : Prefix) (limit : ℕ) (counting : Counting) (s : State)
+      → IsLimited limit (step program prefix (terms_with (Some limit) counting) s) (step program prefix (terms_with None counting) s)
+  pub runs : (program : Program) (prefix : Prefix) (limit : ℕ) (counting : Counting) (entry : Declared) (input : List ℕ) (answers : List HostAnswer) (n : ℕ)
+      → RanLimited limit (from_start (runs.steps program prefix (terms_with (Some limit) counting) n) (begin program prefix (terms_with (Some limit) counting) entry input answers))
+      (from_start (runs.steps program prefix (terms_with None counting) n) (begin program prefix (terms_with None counting) entry input answers))
+
 -- ---- sound programs
 
 -- In a sound program that asks nothing, each act of frames that have the kinds that shape says is one step of the rewritten program, on the same terms.
@@ -79,3 +101,19 @@ pub record SoundPays : Type 0 where
   pub few : (program : Program) (code : Code) (number : ℕ) → length (part_at (groups_of program code) number) ≤ 6
   -- so what laws on any program ask of handlers
   pub handlers : (program : Program) → IsSound program [] → AreHandlersWithin program
+
+-- In a sound program whose classes are below Object, the class of each object is below Object when a metered run begins, and stays so.
+pub record KeepsBelow : Type 0 where
+  pub begins : (program : Program) → HasBase program → (limit : Option ℕ) (most : Thresholds) (entry : Declared) (input : List ℕ) (answers : List HostAnswer)
+      → AnswerBelow program (begin program [] (terms_with limit (Metered most)) entry input answers)
+  pub steps : (program : Program) → IsSound program [] → HasBase program → (limit : Option ℕ) (most : Thresholds) (s : State) → AreStanding program s.frames → AreBelowObject program s.heap.objects
+      → AnswerBelow program (step program [] (terms_with limit (Metered most)) s)
+  pub turns : (program : Program) → IsSound program [] → HasBase program → (most : Thresholds) (s : State) → AreStanding program s.frames → AreBelowObject program s.heap.objects
+      → RunBelow program (turn program most s)
+
+-- ---- whole runs
+
+-- The plain run of the rewritten program follows the metered run of a sound program whose classes are below Object and that asks nothing.
+abbrev pub MeteringTheorem : Type 0
+MeteringTheorem = (program : Program) → IsSound program [] → HasBase program → AsksNothing program → (entry : Declared) → IsEntry program entry → (most : Thresholds) (input : List ℕ)
+    → Meters program most entry input

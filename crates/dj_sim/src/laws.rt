@@ -1,4 +1,4 @@
-ghost use Rattle.dj_sim.specs.Laws.{Initialises, Begins, Acts, Pays, Stops, KeepsWaiting, SoundActs, SoundPays};
+ghost use Rattle.dj_sim.specs.Laws.{Initialises, Begins, Acts, Pays, Stops, KeepsWaiting, Counts, Limits, SoundActs, SoundPays, KeepsBelow, MeteringTheorem};
 
 /// The rewritten program initialises a class as the program does.
 pub fn initialises()
@@ -30,6 +30,16 @@ pub fn waiting_paid()
     ensures { KeepsWaiting }
 {}
 
+/// A step where the accounter counts is the step where the run counts, but for an end by a charge.
+pub fn counting()
+    ensures { Counts }
+{}
+
+/// With a limit on the heap's bytes a run goes as without one, or the heap is full.
+pub fn limits()
+    ensures { Limits }
+{}
+
 /// In a sound program, frames that have the kinds that shape says meet what `act` asks.
 pub fn sound_act()
     ensures { SoundActs }
@@ -38,4 +48,14 @@ pub fn sound_act()
 /// In a sound program, frames that have the kinds that shape says meet what `pays` asks.
 pub fn sound_pays()
     ensures { SoundPays }
+{}
+
+/// In a sound program the class of each object of a metered run is below Object.
+pub fn objects()
+    ensures { KeepsBelow }
+{}
+
+/// The plain run of the rewritten program ends as the metered run of the program does, at the same costs.
+pub fn metering_theorem()
+    ensures { MeteringTheorem }
 {}
