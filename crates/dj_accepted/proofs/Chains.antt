@@ -61,11 +61,11 @@ module _ (program : Program) where
   super_is name other c d same at there = ap superclass_of (sym at ∙ (ap (class_at program) same ∙ there))
 
   one_depth : (name other : Name) → name ≡ other → (a : ReachesTop program name) (b : ReachesTop program other) → depth a ≡ depth b
-  one_depth name other same (top class c at none) (top d_class d there no) = refl
+  one_depth name other same (top class c at none) (top d_class d there others) = refl
   one_depth name other same (top class c at none) (below d_class above d there next more) =
-      let no : None ≡ Some above = sym none ∙ (super_is class d_class c d same at there ∙ next) in absurd cc
+      let never : None ≡ Some above = sym none ∙ (super_is class d_class c d same at there ∙ next) in absurd cc
   one_depth name other same (below class above c at next more) (top d_class d there none) =
-      let no : Some above ≡ None = sym next ∙ (super_is class d_class c d same at there ∙ none) in absurd cc
+      let never : Some above ≡ None = sym next ∙ (super_is class d_class c d same at there ∙ none) in absurd cc
   one_depth name other same (below class above c at next more) (below d_class d_above d there d_next d_more) =
       let up : above ≡ d_above = same_Some above d_above (sym next ∙ (super_is class d_class c d same at there ∙ d_next)) in
       ap suc (one_depth above d_above up more d_more)

@@ -1,12 +1,10 @@
 -- Known classes and few classes, at plain values.
-use Rattle.std.proofs.Common.{◌≡◌, ℕ, true, false, List, [], codes, refl, ap, ◌∙◌, arith}
-use Rattle.std.specs.Prelude.{is_some}
+use Rattle.std.proofs.Common.{◌≡◌, true, false, [], codes, refl, ap, arith}
 use Rattle.dj_names.specs.declared.descriptor.Ty.{Ty}
 use Rattle.dj_names.specs.trusted.Types.{class_type, array_type}
 use Rattle.dj_names.specs.trusted.Library.{deterministic_library, lang}
 use Rattle.dj_model.specs.trusted.Instructions.{New, ArrayLength}
 use Rattle.dj_model.specs.trusted.Libraries.{library_program}
-use Rattle.dj_class_table.specs.Tables.{class_number}
 use Rattle.dj_accepted.specs.News.{MakesKnown}
 use Rattle.dj_accepted.specs.Laws.{IsFew}
 
@@ -15,13 +13,10 @@ known : MakesKnown (library_program deterministic_library) (New (class_type (lan
 known = (lang (codes "Object"), refl, refl)
 
 -- one that isn't there
-unknown : MakesKnown (library_program deterministic_library) (New (class_type (codes "A"))) → ⊥
-unknown (name, same, there) = by name (same_names (codes "A") name same) there where
-  same_names : (a b : List ℕ) → class_type a ≡ class_type b → a ≡ b
-  same_names a b e = cc
-
-  by : (name : List ℕ) → codes "A" ≡ name → is_some (class_number (library_program deterministic_library) name) ≡ true → ⊥
-  by name e there = let no : false ≡ true = ap (λ (n : List ℕ). is_some (class_number (library_program deterministic_library) n)) e ∙ there in cc
+unknown : MakesKnown [] (New (class_type (codes "A"))) → ⊥
+unknown (name, same, there) = never there where
+  never : false ≡ true → ⊥
+  never e = cc
 
 -- no array is made so
 array : MakesKnown (library_program deterministic_library) (New (array_type (class_type (lang (codes "Object"))))) → ⊥

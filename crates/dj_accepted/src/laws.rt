@@ -5,13 +5,11 @@ use dj_sim::metering_theorem;
 use dj_sound::{accepted_is_sound, others_ask_nothing};
 
 /// Each class file can be rewritten.
-#[tactic(auto, using(crate::proofs::Methods::are_rewritable))]
 pub fn are_rewritable()
     ensures { AreRewritable }
 {}
 
 /// The class of each `new` is one of the program's.
-#[tactic(auto, using(crate::proofs::Methods::are_news_known))]
 pub fn are_news_known()
     ensures { AreNewsKnown }
 {}
@@ -32,7 +30,6 @@ pub fn are_few()
 {}
 
 /// Object stands at the top, each class is below it, and the classes are there of which the machine makes objects.
-#[tactic(auto, using(crate::proofs::Base::have_base))]
 pub fn have_base()
     ensures { HaveBase }
 {}
