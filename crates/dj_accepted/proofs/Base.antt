@@ -1,5 +1,5 @@
 -- Object stands at the top of the program of accepted files, each class is below it, and the classes are there of which the machine makes objects.
-use Rattle.std.proofs.Common.{◌≡◌, ℕ, ◌+◌, ◌≤◌, Bool, true, false, ◌||◌, List, [], ◌∷◌, ◌++◌, map, length, Option, Some, None, Contains, refl, sym, ap, ◌∙◌, subst, inl, inr, arith}
+use Rattle.std.proofs.Common.{◌≡◌, ℕ, ◌+◌, ◌≤◌, Bool, true, false, ◌||◌, List, [], ◌∷◌, ◌++◌, length, Option, Some, None, Contains, refl, sym, ap, ◌∙◌, inl, inr, arith}
 use Rattle.std.specs.Prelude.{is_some, nat_le, IsSome, if◌then◌else◌}
 use Rattle.std.specs.List.{list_all}
 use Rattle.std.proofs.lemmas.List.{length-append}
@@ -19,13 +19,12 @@ use Rattle.dj_model.specs.trusted.Linking.{most_classes}
 use Rattle.dj_model.specs.trusted.Libraries.{library_class, is_name_before, inserted, joined, library_program}
 use Rattle.dj_class_table.proofs.Orders.{names_from_same}
 use Rattle.dj_program.specs.trusted.Programs.{AreSideBySide, IsClassIn, IsProgramIn}
-use Rattle.dj_class_set.specs.trusted.Limits.{most_files}
 use Rattle.dj_class_set.specs.trusted.Checked.{AreGoodFiles}
 use Rattle.dj_sim.specs.Simulation.{HasObject}
 use Rattle.dj_sim.specs.Objects.{HasBase}
 use Rattle.dj_sound.specs.Accepted.{IsAccepted}
 use Rattle.dj_sound.proofs.Tests.{all_at}
-use Rattle.dj_sound.proofs.Origins.{head_in, rows_of, deterministic_alike, as_joined, IsOfFile, origin}
+use Rattle.dj_sound.proofs.Origins.{head_in, rows_of, deterministic_alike, as_joined, origin}
 use Rattle.dj_sound.proofs.Members.{deterministic_sound}
 use Rattle.dj_sound.proofs.Heads.{row_head, no_violation}
 use Rattle.dj_sound.proofs.Ends.{row_at, class_ends}

@@ -25,7 +25,7 @@ use Rattle.dj_early_rules.specs.trusted.Instructions.{index_of}
 use Rattle.dj_class_table.specs.Tables.{class_number}
 use Rattle.dj_class_table.proofs.Numbered.{class_at-number}
 use Rattle.dj_program.specs.trusted.Naming.{named_by, named_at, named_or_another, instruction_in}
-use Rattle.dj_program.specs.trusted.Codes.{CodeParts, catches_in, range_in, code_in}
+use Rattle.dj_program.specs.trusted.Codes.{CodeParts, range_in, code_in}
 use Rattle.dj_rewritten.specs.Rewritable.{HasConstant, HasClass, HasGoodParts}
 use Rattle.dj_accepted.specs.News.{MakesKnown}
 

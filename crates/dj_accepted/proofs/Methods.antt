@@ -1,13 +1,12 @@
 -- The class files of accepted files are rewritable, and the class of each `new` is there.
-use Rattle.std.proofs.Common.{◌≡◌, ℕ, ◌⊎◌, Bool, true, false, ◌||◌, List, [], ◌∷◌, ◌++◌, map, Option, Some, None, Contains, refl, sym, ap, ◌∙◌, subst, inl, inr, IsTrue}
+use Rattle.std.proofs.Common.{◌≡◌, ℕ, Bool, true, false, ◌||◌, List, [], ◌∷◌, ◌++◌, Contains, refl, sym, ap, ◌∙◌, subst, inl, inr}
 use Rattle.std.specs.List.{AllByRecursion}
 use Rattle.dj_edge.specs.trusted.Held.{File}
 use Rattle.dj_names.specs.trusted.Library.{deterministic_library}
 use Rattle.dj_pool.specs.trusted.Pool.{Constant}
 use Rattle.dj_class.specs.trusted.ClassFile.{MemberInfo, ClassFile}
-use Rattle.dj_model.specs.trusted.Program.{Program, Class, Method, Body, Abstract, Runs, Code, has_flag}
+use Rattle.dj_model.specs.trusted.Program.{Program, Class, Method, Runs, has_flag}
 use Rattle.dj_model.specs.Sound.{IsSoundBody, IsSoundCode, IsSound}
-use Rattle.dj_early_rules.specs.trusted.Attributes.{codes_of}
 use Rattle.dj_early_rules.specs.trusted.Malformed.{IsBodiless, IsFaultyMethod}
 use Rattle.dj_declarations.specs.trusted.Files.{is_bodiless}
 use Rattle.dj_class_table.proofs.Rising.{members_joined}
@@ -21,7 +20,6 @@ use Rattle.dj_sound.proofs.Flags.{bit_from_test}
 use Rattle.dj_sound.proofs.Origins.{rows_of, as_joined}
 use Rattle.dj_sound.proofs.Methods.{file_of}
 use Rattle.dj_sound.proofs.Whole.{accepted_is_sound}
-use Rattle.dj_accepted.specs.News.{MakesKnown}
 use Rattle.dj_accepted.specs.Laws.{AreRewritable, AreKnownIn, AreNewsKnown}
 use Rattle.dj_accepted.proofs.Linked.{good_parts, sound_makes_known}
 

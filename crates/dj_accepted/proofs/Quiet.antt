@@ -1,5 +1,5 @@
 -- The rewritten program asks the host nothing where the program asks it nothing.
-use Rattle.std.proofs.Common.{◌≡◌, true, List, [], ◌∷◌, map, Contains, refl, sym, ap, ◌∙◌, subst, inl, inr}
+use Rattle.std.proofs.Common.{◌≡◌, true, List, [], ◌∷◌, Contains, refl, sym, ap, ◌∙◌, subst, inl, inr}
 use Rattle.std.specs.List.{list_all}
 use Rattle.dj_names.specs.declared.native.NativeId.{NativeId}
 use Rattle.dj_names.specs.Types.{in_sandbox}

@@ -3,4 +3,6 @@
 
 mod laws;
 
-pub use laws::{accepted_meters, accepted_read_back, are_few, are_news_known, are_rewritable, have_base};
+pub use laws::{
+    accepted_meters, accepted_read_back, are_few, are_news_known, are_rewritable, have_base,
+};
