@@ -1,6 +1,5 @@
 -- A class whose way upward ends has the class at the end in its chain, where the program has no more classes than a chain has levels.
 use Rattle.std.proofs.Common.{◌≡◌, ℕ, zero, suc, ◌<◌, ◌≤◌, ◌⊎◌, Bool, true, false, ◌||◌, List, [], ◌∷◌, map, length, Option, Some, None, Contains, refl, sym, ap, ◌∙◌, subst, inl, inr, arith}
-use Rattle.std.specs.Prelude.{if◌then◌else◌}
 use Rattle.std.proofs.lemmas.List.{length-map}
 use Rattle.std.proofs.lemmas.Option.{same_Some}
 use Rattle.dj_names.specs.trusted.Types.{Name, same_name}
@@ -9,40 +8,9 @@ use Rattle.dj_model.specs.trusted.Linking.{most_classes, chain_of, chain, is_amo
 use Rattle.dj_model.specs.Sound.{ReachesTop, top, below}
 use Rattle.dj_model.proofs.SoundLinks.{class_contained}
 use Rattle.dj_class_table.specs.Tables.{name_of}
-use Rattle.dj_class_table.proofs.Orders.{names_from_same, same_from_names}
-use Rattle.dj_loader.proofs.Lists.{member_first, member_later, member_none, member_cases, member_mapped}
-
--- ---- lists of names without one
-
-abbrev without : Name → List Name → List Name
-without name [] = []
-without name (n ∷ names) = if same_name n name then without name names else n ∷ without name names
-
-no_longer : (name : Name) (names : List Name) → length (without name names) ≤ length names
-no_longer name [] = omega arith
-no_longer name (n ∷ names) = by (same_name n name) (no_longer name names) where
-  by : (b : Bool) → length (without name names) ≤ length names → length (if b then without name names else n ∷ without name names) ≤ length (n ∷ names)
-  by true le = omega (arith, le)
-  by false le = omega (arith, le)
-
-shorter : (name : Name) (names : List Name) → Contains names name → length (without name names) < length names
-shorter name [] m = absurd (member_none name m)
-shorter name (n ∷ names) m = by (same_name n name) refl (no_longer name names) (member_cases n names name m) (shorter name names) where
-  by : (b : Bool) → same_name n name ≡ b → length (without name names) ≤ length names → (n ≡ name) ⊎ Contains names name → (Contains names name → length (without name names) < length names)
-      → length (if b then without name names else n ∷ without name names) < length (n ∷ names)
-  by true e le either rest = omega (arith, le)
-  by false e le (inl same) rest = let yes : same_name n name ≡ true = same_from_names n name same in absurd cc
-  by false e le (inr later) rest = let lt = rest later in omega (arith, lt)
-
-kept : (name other : Name) (names : List Name) → Contains names other → (other ≡ name → ⊥) → Contains (without name names) other
-kept name other [] m apart = absurd (member_none other m)
-kept name other (n ∷ names) m apart = by (same_name n name) refl (member_cases n names other m) (λ later. kept name other names later apart) where
-  by : (b : Bool) → same_name n name ≡ b → (n ≡ other) ⊎ Contains names other → (Contains names other → Contains (without name names) other)
-      → Contains (if b then without name names else n ∷ without name names) other
-  by true e (inl same) rest = absurd (apart (sym same ∙ names_from_same n name e))
-  by true e (inr later) rest = rest later
-  by false e (inl same) rest = subst (Contains (n ∷ without name names)) same (member_first n (without name names))
-  by false e (inr later) rest = member_later n (without name names) other (rest later)
+use Rattle.dj_class_table.proofs.Orders.{same_from_names}
+use Rattle.dj_loader.proofs.Lists.{member_mapped}
+use Rattle.dj_sound.proofs.Ends.{without, shorter, kept}
 
 -- ---- ways upward
 
