@@ -26,7 +26,7 @@ use Rattle.dj_sound.proofs.Heads.{at_name, at_named, super_there}
 
 -- ---- lists of names without one
 
-abbrev without : Name → List Name → List Name
+abbrev pub without : Name → List Name → List Name
 without name [] = []
 without name (n ∷ names) = if same_name n name then without name names else n ∷ without name names
 
@@ -37,7 +37,7 @@ no_longer name (n ∷ names) = by (same_name n name) (no_longer name names) wher
   by true le = omega (arith, le)
   by false le = omega (arith, le)
 
-shorter : (name : Name) (names : List Name) → Contains names name → length (without name names) < length names
+pub shorter : (name : Name) (names : List Name) → Contains names name → length (without name names) < length names
 shorter name [] m = absurd (member_none name m)
 shorter name (n ∷ names) m = by (same_name n name) refl (no_longer name names) (member_cases n names name m) (shorter name names) where
   by : (b : Bool) → same_name n name ≡ b → length (without name names) ≤ length names → (n ≡ name) ⊎ Contains names name → (Contains names name → length (without name names) < length names)
@@ -46,7 +46,7 @@ shorter name (n ∷ names) m = by (same_name n name) refl (no_longer name names)
   by false e le (inl same) rest = let yes : same_name n name ≡ true = same_from_names n name same in absurd cc
   by false e le (inr later) rest = let lt = rest later in omega (arith, lt)
 
-kept : (name other : Name) (names : List Name) → Contains names other → (other ≡ name → ⊥) → Contains (without name names) other
+pub kept : (name other : Name) (names : List Name) → Contains names other → (other ≡ name → ⊥) → Contains (without name names) other
 kept name other [] m apart = absurd (member_none other m)
 kept name other (n ∷ names) m apart = by (same_name n name) refl (member_cases n names other m) (λ later. kept name other names later apart) where
   by : (b : Bool) → same_name n name ≡ b → (n ≡ other) ⊎ Contains names other → (Contains names other → Contains (without name names) other)

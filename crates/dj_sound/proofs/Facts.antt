@@ -25,7 +25,7 @@ no_file_line judge v (inr line) = elim line.line [
   | inr (file, m, shape) ↦ member_none file m
 ]
 
-no_file : (judge : Library) → IsAcceptedBy judge [] []
+pub no_file : (judge : Library) → IsAcceptedBy judge [] []
 unfolding IsStrictlySortedBy
 no_file judge = record { good = tt; silent = record { in_order = tt; all = λ v. (λ m. absurd (member_none v m), λ line. absurd (no_file_line judge v line)) } }
 

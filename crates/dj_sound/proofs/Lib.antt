@@ -21,4 +21,4 @@ pub mod Asking
 pub mod Running
 pub mod ClassFiles
 pub mod RawAccepted
-mod Facts
+pub mod Facts
