@@ -27,7 +27,7 @@ use Rattle.dj_groups.specs.Rewritten.{rewritten}
 use Rattle.dj_sim.specs.Counting.{IsThrown, CountsAs}
 use Rattle.dj_sim.specs.Metering.{one_if, then_acts, acts_from, acts, Stands, plain_after, RunFollows, Follows, IsNotSpent, Meters}
 use Rattle.dj_sim.specs.Objects.{HasBase, AnswerBelow, RunBelow}
-use Rattle.dj_sim.specs.Simulation.{groups_in, part_at, frame_image, state_image, plain_terms, AreOriginal, EndsWithin, PaidImage, answer_image}
+use Rattle.dj_sim.specs.Simulation.{groups_in, part_at, frame_image, state_image, plain_terms, AreOriginal, EndsWithin, with_stop, PaidImage, answer_image}
 use Rattle.dj_sim.specs.Waiting.{AnswerWaits, RunWaits}
 use Rattle.dj_sim.proofs.Back as back
 use Rattle.dj_sim.proofs.Back.{IsOver, from_start_stays}
@@ -197,14 +197,14 @@ module _ (program : Program) (sound : IsSound program []) (base : HasBase progra
       )
 
       -- within so many steps after the one that throws the object that stops the run
-      stops_after : (outcome : Outcome) (costs : Costs) (bound : ℕ) → bound ≤ 2048 → EndsWithin (rewritten program) most bound (step (rewritten program) sandbox_prefix (plain_terms most) image) (outcome_map in_sandbox outcome) costs
-          → After (suc n) (done + 1) (RunEnds outcome costs)
-      stops_after outcome costs bound few (m, within, u, ends, same) = (
+      stops_after : (outcome : Outcome) (left : State) (bound : ℕ) → bound ≤ 2048 → EndsWithin (rewritten program) most bound (step (rewritten program) sandbox_prefix (plain_terms most) image) (outcome_map in_sandbox outcome) left
+          → After (suc n) (done + 1) (RunEnds outcome left.account.costs)
+      stops_after outcome left bound few (m, within, u, ends, same) = (
         j + suc m,
         omega (arith, stepped, few, within),
         u,
         start_on program most j (suc m) begun image at ∙ ap (adds j) (first_step program most image m ∙ ap one_more ends),
-        same,
+        same.0,
       )
 
       state_of : StepAnswer → State
@@ -233,13 +233,13 @@ module _ (program : Program) (sound : IsSound program []) (base : HasBase progra
           let top : Frame Declared = record th.top { locals = th.locals; operands = th.operands } in
           let original : AreOriginal (th.top ∷ th.below) = subst AreOriginal th.frames (all_original program base.object (sound_pays.handlers program sound) most s.frames) in
           let leaving : StepAnswer = throw_stop_or (rewritten program) sandbox_prefix (plain_terms most) (record th.end { frames = top ∷ th.below }) (stop_from sandbox_prefix 1 th.end.heap.objects) in
-          let ends : EndsWithin (rewritten program) most (2 * suc (length th.below)) leaving (outcomes.Stopped th.charge) th.end.account.costs =
+          let ends : EndsWithin (rewritten program) most (2 * suc (length th.below)) leaving (outcomes.Stopped th.charge) (with_stop th.end) =
           stop_leaves program base.object (sound_pays.handlers program sound) most th.end top th.below th.charge t.heap (ap (λ (u : State). u.heap) (sym end_is)) (original.0, original.1) th.exceeded in
           let deep : suc (length th.below) ≡ length s.frames = sym (ap length th.frames) ∙ length-map s.frames (frame_image program) in
-          stops_after outcome t.account.costs (2 * suc (length th.below)) (omega (arith, deep, stands.few))
-          (subst (λ (a : StepAnswer). EndsWithin (rewritten program) most (2 * suc (length th.below)) a (outcome_map in_sandbox outcome) t.account.costs) (sym (e ∙ th.thrown))
-          (subst (λ (o : Outcome). EndsWithin (rewritten program) most (2 * suc (length th.below)) leaving o t.account.costs) (sym outcome_is)
-          (subst (λ (u : State). EndsWithin (rewritten program) most (2 * suc (length th.below)) leaving (outcomes.Stopped th.charge) u.account.costs) (sym end_is) ends)))
+          stops_after outcome (with_stop t) (2 * suc (length th.below)) (omega (arith, deep, stands.few))
+          (subst (λ (a : StepAnswer). EndsWithin (rewritten program) most (2 * suc (length th.below)) a (outcome_map in_sandbox outcome) (with_stop (state_image program touched t))) (sym (e ∙ th.thrown))
+          (subst (λ (o : Outcome). EndsWithin (rewritten program) most (2 * suc (length th.below)) leaving o (with_stop (state_image program touched t))) (sym outcome_is)
+          (subst (λ (u : State). EndsWithin (rewritten program) most (2 * suc (length th.below)) leaving (outcomes.Stopped th.charge) (with_stop u)) (sym end_is) ends)))
 
       acted : (a : StepAnswer) → RunGood (answer_run a) → step (rewritten program) sandbox_prefix (metered_terms most) image ≡ answer_image program touched a → After (suc n) (done + 1) (answer_run a)
       acted a good e = by a good e (counts.steps (rewritten program) sandbox_prefix None most image) where
@@ -278,7 +278,7 @@ module _ (program : Program) (sound : IsSound program []) (base : HasBase progra
             omega (arith, stepped, few, within, deep, stands.few),
             u,
             start_on program most j m begun (state_image program touched s) at ∙ ap (adds j) ends,
-            same,
+            same.0,
           )
 
     -- ---- either
