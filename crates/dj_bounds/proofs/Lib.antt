@@ -1,0 +1,6 @@
+pub mod Marks
+pub mod Spending
+pub mod Acting
+pub mod Taking
+pub mod Levels
+pub mod Rooms

@@ -1,0 +1,6 @@
+//! Bounded work: how many instructions a metered run does and how many bytes its heap takes under its thresholds, and so the plain run of the rewritten program.
+#![tactic(auto)]
+
+mod laws;
+
+pub use laws::{metered_is_bounded, work_is_bounded};
