@@ -98,7 +98,7 @@ one_at_most : (b : Bool) → one_if b ≤ 1
 one_at_most true = omega arith
 one_at_most false = omega arith
 
-arrived_once : (program : Program) (frames : List (Frame Declared)) → arrived program frames ≤ 1
+pub arrived_once : (program : Program) (frames : List (Frame Declared)) → arrived program frames ≤ 1
 arrived_once program [] = omega arith
 arrived_once program (x ∷ below) = one_at_most (is_at_handler program x)
 

@@ -4,3 +4,6 @@ pub mod Acting
 pub mod Taking
 pub mod Levels
 pub mod Rooms
+pub mod MeteredBounds
+pub mod PlainBounds
+mod Facts

@@ -11,14 +11,14 @@ use Rattle.dj_model.specs.trusted.Types.{Prefix, Declared}
 use Rattle.dj_model.specs.trusted.Instructions.{Instruction, Invoke}
 use Rattle.dj_model.specs.Instructions.{calls}
 use Rattle.dj_model.specs.trusted.Program.{Program, code_of, is_initialiser, has_initialiser, initialiser_of}
-use Rattle.dj_model.specs.trusted.Linking.{chain}
+use Rattle.dj_model.specs.trusted.Linking.{chain, option_list}
 use Rattle.dj_model.specs.trusted.State.{Terms, Metered, Account, Frame, State, instruction_at, Part, Next, To, Raise, Back, Flow, Goes, Catch, Stop, Call, End, Effect}
 use Rattle.dj_model.specs.trusted.Charging.{Fine}
 use Rattle.dj_model.specs.trusted.Kinds.{Signature, Kinds}
 use Rattle.dj_model.specs.trusted.Program.{Code}
 use Rattle.dj_model.specs.trusted.Effects.{effect, used_class}
 use Rattle.dj_model.specs.trusted.Initialisation.{most_frames, Initialised, Ready, Waits, Fails, then_ready, constants_of, mark_all, not_initialised, new_frame, initialiser_frames, with_frames, initialise}
-use Rattle.dj_model.specs.trusted.Step.{StepAnswer, Went, Ended, IllFormed, handler_of, at_handler, unwound, new_exception, at_number, returned, settle, with_part, frame_with, part_of, settled, prepared, done, act, step_of, step}
+use Rattle.dj_model.specs.trusted.Step.{StepAnswer, Went, Ended, IllFormed, handler_of, caught, at_handler, unwound, new_exception, at_number, returned, settle, with_part, frame_with, part_of, settled, prepared, done, act, step_of, step}
 use Rattle.dj_model.specs.Charging.{charge_all}
 use Rattle.dj_model.specs.Effects.{pays}
 use Rattle.dj_model.specs.Runs.{metered_terms, amounts, with_paid, starts_handler}
@@ -39,7 +39,7 @@ use Rattle.dj_bounds.proofs.Levels.{IsLevel, InitLevel, prepared_level}
 
 -- ---- frames that haven't paid
 
-unpaid_bytes : (program : Program) (x : Frame Declared) (o : Option Instruction) → x.paid ≡ false → own_bytes program x o ≡ 0
+pub unpaid_bytes : (program : Program) (x : Frame Declared) (o : Option Instruction) → x.paid ≡ false → own_bytes program x o ≡ 0
 unpaid_bytes program x None unpaid = refl
 unpaid_bytes program x (Some i) unpaid = rw unpaid refl
 
@@ -59,12 +59,12 @@ module _ (program : Program) where
     by false rest = rest
 
   -- frames that were pushed take nothing
-  abbrev InitPending : State → Initialised → Type 0
+  abbrev pub InitPending : State → Initialised → Type 0
   InitPending s (Ready t) = ⊤
   InitPending s (Waits t) = pending_bytes program t.frames ≡ pending_bytes program s.frames
   InitPending s (Fails outcome t) = ⊤
 
-  initialise_pending : (prefix : Prefix) (terms : Terms) (class : Name) (s : State) → InitPending s (initialise program prefix terms class s)
+  pub initialise_pending : (prefix : Prefix) (terms : Terms) (class : Name) (s : State) → InitPending s (initialise program prefix terms class s)
   unfolding initialise KeepsMore
   initialise_pending prefix terms class s = go (constants_of program prefix terms classes marked) (all_constants_keep program prefix terms classes marked) where
     classes : List Name
@@ -116,7 +116,7 @@ module _ (program : Program) where
               → AnswerRoom (at_handler [] s class exception x below h (unwound program [] s class exception below))
           by (Some h) e more =
               let first : starts_handler (code_of program x.method) h ≡ true = code_starts program class x.number (code_of program x.method) h e in
-              rw first omega (arith, base, unpaid_bytes program (record x { number = h; paid = false }) (instruction_at program (record x { number = h; paid = false })) refl)
+              rw first omega (arith, base, unpaid_bytes program (caught x exception h) (instruction_at program (caught x exception h)) refl)
           by None e more = either_way AnswerRoom (is_initialiser x.method) _ _ final more
 
     returned_room : (s : State) (x : Frame Declared) (result : Option Value) (below : List (Frame Declared))
@@ -126,7 +126,7 @@ module _ (program : Program) where
     returned_room s x result [] base final = omega (arith, final)
     returned_room s x result (caller ∷ below) base final = elim (either (is_initialiser x.method)) [
       | inl i ↦ rw i omega (arith, base)
-      | inr i ↦ rw i omega (arith, base, unpaid_bytes program (record caller { number = caller.number + 1; paid = false }) (instruction_at program (record caller { number = caller.number + 1; paid = false })) refl)
+      | inr i ↦ rw i omega (arith, base, unpaid_bytes program (at_number (record caller { operands = option_list result ++ caller.operands }) (caller.number + 1)) (instruction_at program (at_number (record caller { operands = option_list result ++ caller.operands }) (caller.number + 1))) refl)
     ]
 
     -- a caller takes nothing

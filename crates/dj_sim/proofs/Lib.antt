@@ -13,8 +13,6 @@ pub mod Limited
 pub mod Back
 pub mod Shapes
 pub mod Befores
-pub mod Bounds
-pub mod Bounded
 pub mod SoundTurns
 pub mod BelowObject
 pub mod Beginning
