@@ -23,7 +23,7 @@ use Rattle.dj_model.specs.SmallRuns.{entry, verify_with, initialiser_with, catch
 use Rattle.dj_groups.specs.Rewritten.{rewritten}
 use Rattle.dj_bounds.specs.Acts.{way, code_length, AreShort, left_in, goes_elsewhere, is_pending, weight, spent, initialisers, begun, is_at_handler, arrived, paid_ways, ways, IsBounded, most_ways}
 use Rattle.dj_bounds.specs.Bytes.{alloc_of, own_bytes, pending_bytes, literal_bytes, input_bytes, HasRoom, most_bytes}
-use Rattle.dj_bounds.specs.Laws.{RunIsBounded, RanWithin, IsWorkBounded}
+use Rattle.dj_bounds.specs.Laws.{RunIsBounded, RanWithin, IsWorkBounded, RanFits}
 
 -- iconst_1, newarray byte, pop, goto 0; the pop is the handler of the two before it. B has an initialiser
 abbrev loops : Program
@@ -164,6 +164,15 @@ ends_within = omega arith
 
 no_step : RanWithin 24 NoStep → ⊥
 no_step k = k
+
+fits : RanFits 24 24 (Going (start_state [] entry empty_heap []))
+fits = omega arith
+
+not_fitting : RanFits 23 24 (Finished outcomes.Link (start_state [] entry empty_heap []) 5) → ⊥
+not_fitting l = absurd (omega (arith, l))
+
+never_fits : RanFits 24 0 NoStep → ⊥
+never_fits k = k
 
 -- a program that isn't sound may do nothing
 not_bounded : IsWorkBounded [] entry usual [] → ⊥

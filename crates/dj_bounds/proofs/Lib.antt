@@ -1,9 +1,0 @@
-pub mod Marks
-pub mod Spending
-pub mod Acting
-pub mod Taking
-pub mod Levels
-pub mod Rooms
-pub mod MeteredBounds
-pub mod PlainBounds
-mod Facts

@@ -70,7 +70,7 @@ module _ (program : Program) (sound : IsSound program []) (quiet : AsksNothing p
     | inl k ↦ k
     | inr starved ↦ absurd (runs_stay_sound.quiet program [] (metered_terms most) s quiet starved)
   ]) (costs_stay_within.turns program most s holds.paid) where
-    abbrev After : Bool → Run
+    After : Bool → Run
     After b = if b then answer_run (step program [] (metered_terms most) s) else paid_run s (charge_all most (amounts program [] s) s.account)
 
     by : (frames : List (Frame Declared)) → s.frames ≡ frames → AreStanding program frames → RunStands program (After (top_is_paid frames)) → RunWithin most s.account.costs (After (top_is_paid frames))

@@ -43,6 +43,9 @@ pub unpaid_bytes : (program : Program) (x : Frame Declared) (o : Option Instruct
 unpaid_bytes program x None unpaid = refl
 unpaid_bytes program x (Some i) unpaid = rw unpaid refl
 
+paid_bytes : (program : Program) (x : Frame Declared) (i : Instruction) → x.paid ≡ true → own_bytes program x (Some i) ≡ alloc_of (pays program [] i x.operands)
+paid_bytes program x i paid = rw paid refl
+
 -- a call takes no bytes
 call_bytes : (program : Program) (i : Instruction) (operands : List Value) → calls i ≡ true → alloc_of (pays program [] i operands) ≡ 0
 unfolding pays
@@ -172,7 +175,7 @@ module _ (program : Program) (sound : IsSound program []) (quiet : AsksNothing p
     room_before : s.heap.used + own + pending_bytes program below ≤ s.account.costs.alloc + 32 * throws + literal_bytes s.literals + input_bytes input
     room_before =
         let none : arrived program (x ∷ below) ≡ 0 = rw paid refl in
-        let owed : own_bytes program x (instruction_at program x) ≡ own = rw (found_there program sound x ready, paid) refl in
+        let owed : own_bytes program x (instruction_at program x) ≡ own = ap (own_bytes program x) (found_there program sound x ready) ∙ paid_bytes program x ready.at.instruction paid in
         omega (arith, room, none, owed, ap (arrived program) frames, ap (pending_bytes program) frames)
 
     abbrev After : State → Type 0

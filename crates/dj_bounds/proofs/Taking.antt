@@ -190,7 +190,7 @@ module _ (counting : Counting) where
   MakesSo size x (NotMade e) = Takes counting 0 x e
 
   returns_take : (size : ℕ) (x : Part) (m : Making) → MakesSo size x m → Takes counting 0 x (returns_made m)
-  returns_take size x (Made y r) k = record { made = size; bytes = omega (arith, k.0, ap literal_bytes k.1); covered = k.2 _ tt }
+  returns_take size x (Made y r) k = record { made = size; bytes = omega (arith, k.0, ap literal_bytes k.1); covered = k.2 (Goes Next) tt }
   returns_take size x (NotMade e) k = k
 
   keeps_take : (size : ℕ) (x : Part) (object : ℕ) (m : Making) → MakesSo size x m → Takes counting 0 x (keeps_made object m)
@@ -199,7 +199,7 @@ module _ (counting : Counting) where
       record {
         made = size;
         bytes = omega (arith, k.0, set.0, ap literal_bytes (set.1 ∙ k.1));
-        covered = subst (λ (a : Account). Covers counting 0 x.account a (Goes Next) size) (sym set.2) (k.2 _ tt);
+        covered = subst (λ (a : Account). Covers counting 0 x.account a (Goes Next) size) (sym set.2) (k.2 (Goes Next) tt);
       }
   keeps_take size x object (NotMade e) k = k
 

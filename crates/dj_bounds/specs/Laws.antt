@@ -1,22 +1,25 @@
 -- Laws of bounded work: what a run does and takes under its thresholds.
-use Rattle.std.specs.Prelude.{◌≡◌, ℕ, ◌+◌, ◌*◌, ◌≤◌, List, [], Some}
+use Rattle.std.specs.Prelude.{◌≡◌, ℕ, ◌+◌, ◌*◌, ◌≤◌, List, [], length, Some, Contains}
 use Rattle.dj_names.specs.declared.run.Costs.{Costs}
 use Rattle.dj_names.specs.declared.run.Outcome.{Outcome}
 use Rattle.dj_names.specs.declared.run.Thresholds.{Thresholds}
 use Rattle.dj_names.specs.Types.{in_sandbox, sandbox_prefix}
 use Rattle.dj_model.specs.trusted.Types.{Declared}
 use Rattle.dj_model.specs.Types.{declared_map}
-use Rattle.dj_model.specs.trusted.Program.{Program}
+use Rattle.dj_model.specs.trusted.Program.{Program, Class, class_at}
+use Rattle.dj_model.specs.trusted.State.{Accounted}
 use Rattle.dj_model.specs.trusted.Runs.{Ran, Going, Finished, NoStep, plain_run}
+use Rattle.dj_model.specs.Libraries.{metered_program}
 use Rattle.dj_model.specs.Mapping.{outcome_map}
 use Rattle.dj_model.specs.Runs.{Run, Underway, RunEnds, Stuck, RunsTo, metered_run}
 use Rattle.dj_model.specs.Sound.{IsSound}
 use Rattle.dj_model.specs.Standing.{AsksNothing, IsEntry}
 use Rattle.dj_groups.specs.Rewritten.{rewritten}
+use Rattle.dj_sim.specs.Counting.{terms_with}
 use Rattle.dj_sim.specs.Simulation.{plain_terms}
 use Rattle.dj_sim.specs.Objects.{HasBase}
 use Rattle.dj_sim.specs.Metering.{acts, plain_after}
-use Rattle.dj_bounds.specs.Acts.{way, AreShort, IsBounded, most_ways}
+use Rattle.dj_bounds.specs.Acts.{way, AreShort, initialisers, IsBounded, most_ways}
 use Rattle.dj_bounds.specs.Bytes.{literal_bytes, HasRoom, most_bytes}
 
 -- ---- the metered run
@@ -59,3 +62,25 @@ pub record IsWorkBounded (program : Program) (entry : Declared) (most : Threshol
 abbrev pub WorkIsBounded : Type 0
 WorkIsBounded = (program : Program) → IsSound program [] → HasBase program → AsksNothing program → AreShort program → (entry : Declared) → IsEntry program entry
     → (most : Thresholds) (input : List ℕ) → IsWorkBounded program entry most input
+
+-- ---- a limit on the heap's bytes
+
+-- with its literals the heap stays within the limit
+abbrev pub RanFits : ℕ → ℕ → Ran → Type 0
+RanFits limit bytes (Going s) = bytes + literal_bytes s.literals ≤ limit
+RanFits limit bytes (Finished outcome s n) = bytes + literal_bytes s.literals ≤ limit
+RanFits limit bytes NoStep = ⊥
+
+-- Where work is bounded, a limit that the bytes don't reach makes no difference: the heap is never full.
+abbrev pub LimitIsIdle : Type 0
+LimitIsIdle = (program : Program) (entry : Declared) (most : Thresholds) (input : List ℕ) → IsWorkBounded program entry most input
+    → (limit k : ℕ) → RanFits limit (most_bytes most input) (plain_after program most entry input k)
+    → plain_run (rewritten program) sandbox_prefix (terms_with (Some limit) (Accounted most)) (declared_map in_sandbox entry) input [] k
+    ≡ plain_run (rewritten program) sandbox_prefix (plain_terms most) (declared_map in_sandbox entry) input [] k
+
+-- ---- the classes of files
+
+-- Where each class of the files and of the deterministic library is found by its name, no more classes have an initialiser than there are files.
+abbrev pub FewInitialisers : Type 0
+FewInitialisers = (files : List Class) → ((c : Class) → Contains (metered_program files) c → class_at (metered_program files) c.name ≡ Some c)
+    → initialisers (metered_program files) (metered_program files) ≤ length files

@@ -1,4 +1,4 @@
-ghost use Rattle.dj_bounds.specs.Laws.{MeteredIsBounded, WorkIsBounded};
+ghost use Rattle.dj_bounds.specs.Laws.{MeteredIsBounded, WorkIsBounded, LimitIsIdle, FewInitialisers};
 
 /// A metered run of a sound program does and takes no more than what it has paid.
 pub fn metered_is_bounded()
@@ -8,4 +8,14 @@ pub fn metered_is_bounded()
 /// Under its thresholds each run of a sound program ends, and so does the plain run of the rewritten program, in so many steps and bytes.
 pub fn work_is_bounded()
     ensures { WorkIsBounded }
+{}
+
+/// Where work is bounded, a limit on the heap's bytes that the bounds don't reach makes no difference.
+pub fn limit_is_idle()
+    ensures { LimitIsIdle }
+{}
+
+/// No more classes of a program have an initialiser than there are files, since the library's have none.
+pub fn few_initialisers()
+    ensures { FewInitialisers }
 {}

@@ -174,14 +174,14 @@ module _ (program : Program) (sound : IsSound program []) (base : HasBase progra
         let outcome_is : outcome_map in_sandbox outcome ≡ outcomes.Stopped th.charge = ap outcome_of both in
         let top : Frame Declared = record th.top { locals = th.locals; operands = th.operands } in
         let original : AreOriginal (th.top ∷ th.below) = subst AreOriginal th.frames (all_original program base.object (sound_pays.handlers program sound) most s.frames) in
-        let ends : EndsWithin (rewritten program) most (2 * suc (length th.below))
-        (throw_stop_or (rewritten program) sandbox_prefix (plain_terms most) (record th.end { frames = top ∷ th.below }) (stop_from sandbox_prefix 1 th.end.heap.objects)) (outcomes.Stopped th.charge) (with_stop th.end) =
+        let leaving : StepAnswer = throw_stop_or (rewritten program) sandbox_prefix (plain_terms most) (record th.end { frames = top ∷ th.below }) (stop_from sandbox_prefix 1 th.end.heap.objects) in
+        let ends : EndsWithin (rewritten program) most (2 * suc (length th.below)) leaving (outcomes.Stopped th.charge) (with_stop th.end) =
         stop_leaves program base.object (sound_pays.handlers program sound) most th.end top th.below th.charge t.heap (ap (λ (u : State). u.heap) (sym end_is)) (original.0, original.1) th.exceeded in
         let deep : suc (length th.below) ≡ length s.frames = sym (ap length th.frames) ∙ length-map s.frames (frame_image program) in
         subst (λ (k : ℕ). EndsWithin (rewritten program) most (2 * k) accounted (outcome_map in_sandbox outcome) (with_stop (state_image program touched t))) deep
         (subst (λ (a : StepAnswer). EndsWithin (rewritten program) most (2 * suc (length th.below)) a (outcome_map in_sandbox outcome) (with_stop (state_image program touched t))) (sym th.thrown)
-        (subst (λ (o : Outcome). EndsWithin (rewritten program) most (2 * suc (length th.below)) _ o (with_stop (state_image program touched t))) (sym outcome_is)
-        (subst (λ (u : State). EndsWithin (rewritten program) most (2 * suc (length th.below)) _ (outcomes.Stopped th.charge) (with_stop u)) (sym end_is) ends)))
+        (subst (λ (o : Outcome). EndsWithin (rewritten program) most (2 * suc (length th.below)) leaving o (with_stop (state_image program touched t))) (sym outcome_is)
+        (subst (λ (u : State). EndsWithin (rewritten program) most (2 * suc (length th.below)) leaving (outcomes.Stopped th.charge) (with_stop u)) (sym end_is) ends)))
 
   -- ---- one turn
 
