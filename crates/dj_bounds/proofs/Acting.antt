@@ -1,5 +1,5 @@
 -- Each act and each payment keeps a metered run within its ways.
-use Rattle.std.proofs.Common.{◌≡◌, ℕ, suc, ◌+◌, ◌*◌, ◌<◌, ◌≤◌, ◌++◌, Bool, true, false, List, [], ◌∷◌, length, Option, Some, None, refl, sym, ap, subst, ◌∙◌, inl, inr, arith, IsTrue}
+use Rattle.std.proofs.Common.{◌≡◌, ℕ, suc, ◌+◌, ◌*◌, ◌<◌, ◌≤◌, ◌++◌, Bool, true, false, List, [], ◌∷◌, Option, Some, None, refl, sym, ap, subst, ◌∙◌, inl, inr, arith}
 use Rattle.std.specs.Prelude.{⊤}
 use Rattle.dj_names.specs.declared.run.Charge.{Charge}
 use Rattle.dj_names.specs.declared.run.Charge.TheVariants as charges
@@ -11,25 +11,24 @@ use Rattle.dj_model.specs.trusted.Types.{Declared}
 use Rattle.dj_model.specs.trusted.Instructions.{Instruction, Branch, Goto, Switch, Invoke, Throw, New, NewArray}
 use Rattle.dj_model.specs.trusted.Program.{Program, Code, code_of}
 use Rattle.dj_model.specs.trusted.State.{Account, Frame, State, instruction_at, Effect}
-use Rattle.dj_model.specs.trusted.Charging.{Charged, Fine, Over, passes, added, compared_with, charge_after, charge_one}
-use Rattle.dj_model.specs.trusted.Effects.{effect, used_class}
+use Rattle.dj_model.specs.trusted.Charging.{Charged, Fine, Over, passes, added, charge_after, charge_one}
+use Rattle.dj_model.specs.trusted.Effects.{used_class}
 use Rattle.dj_model.specs.trusted.Initialisation.{Initialised, Ready, Waits, Fails}
 use Rattle.dj_model.specs.trusted.Step.{StepAnswer, Went, Ended, IllFormed, part_of, settled, prepared, done, act, step_of, step}
 use Rattle.dj_model.specs.Charging.{Amount, then_charge, charge_all}
 use Rattle.dj_model.specs.Effects.{pays}
-use Rattle.dj_model.specs.Runs.{starts_handler, arrival, own_amounts, metered_terms, amounts, with_paid}
+use Rattle.dj_model.specs.Runs.{starts_handler, arrival, metered_terms, amounts, with_paid}
 use Rattle.dj_model.specs.Sound.{IsSound}
 use Rattle.dj_model.specs.Laws.{IsLess, IsPaid}
-use Rattle.dj_model.specs.Standing.{AsksNothing, HasSoundEffect, IsAt, IsReady, AreStanding}
+use Rattle.dj_model.specs.Standing.{AsksNothing, HasSoundEffect, IsAt, IsReady}
 use Rattle.dj_model.specs.trusted.Kinds.{Kinds}
-use Rattle.dj_model.specs.trusted.Shape.{after}
 use Rattle.dj_model.proofs.Flows.{either_way}
 use Rattle.dj_model.proofs.SoundCalls.{kinds_kept}
 use Rattle.dj_model.proofs.SoundFrames.{code_is, left_there, within}
 use Rattle.dj_sim.specs.Metering.{one_if}
 use Rattle.dj_sim.proofs.SoundTurns.{found_there, linked_there}
 use Rattle.dj_bounds.specs.Acts.{way, code_length, AreShort, goes_elsewhere, is_at_handler, weight, spent, begun, arrived, paid_ways, ways, IsBounded, most_ways}
-use Rattle.dj_bounds.specs.Bytes.{alloc_of, alloc_in}
+use Rattle.dj_bounds.specs.Bytes.{alloc_of}
 use Rattle.dj_bounds.proofs.Marks.{InitSpends, begun_all, initialise_spends}
 use Rattle.dj_bounds.proofs.Spending.{Spends, settle_pays}
 

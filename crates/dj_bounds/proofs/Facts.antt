@@ -1,5 +1,5 @@
 -- Ways, bytes and bounds by plain values.
-use Rattle.std.proofs.Common.{◌≡◌, ℕ, suc, ◌+◌, ◌*◌, ◌<◌, ◌≤◌, Bool, true, false, pos, List, [], ◌∷◌, map, length, replicate, Option, Some, None, codes, refl, ap, arith}
+use Rattle.std.proofs.Common.{◌≡◌, ℕ, suc, ◌+◌, Bool, true, false, pos, List, [], ◌∷◌, map, replicate, Some, None, codes, refl, arith}
 use Rattle.std.proofs.lemmas.List.{length-replicate}
 use Rattle.std.proofs.lemmas.Option.{none-some}
 use Rattle.dj_names.specs.declared.descriptor.Base.TheVariants as bases
@@ -9,7 +9,7 @@ use Rattle.dj_names.specs.declared.run.Element.TheVariants as elements
 use Rattle.dj_names.specs.declared.run.Outcome.TheVariants as outcomes
 use Rattle.dj_names.specs.declared.run.Value.TheVariants as values
 use Rattle.dj_names.specs.trusted.Types.{base_array}
-use Rattle.dj_model.specs.trusted.Instructions.{Instruction, Nop, Push, NewArray, Move, Pop, Goto, Throw, Return}
+use Rattle.dj_model.specs.trusted.Instructions.{Nop, Push, NewArray, Move, Pop, Goto, Throw, Return}
 use Rattle.dj_model.specs.trusted.Program.{Program, code_of, has_initialiser, initialiser_of}
 use Rattle.dj_model.specs.trusted.State.{Frame, State}
 use Rattle.dj_model.specs.trusted.Types.{Declared}
@@ -21,7 +21,7 @@ use Rattle.dj_model.specs.Effects.{pays}
 use Rattle.dj_model.specs.Runs.{Underway, RunEnds, Stuck}
 use Rattle.dj_model.specs.SmallRuns.{entry, verify_with, initialiser_with, catch_all, class_with, a_with, costs, at_most, usual}
 use Rattle.dj_groups.specs.Rewritten.{rewritten}
-use Rattle.dj_bounds.specs.Acts.{way, code_length, AreShort, left_in, goes_elsewhere, is_pending, weight, spent, initialisers, begun, is_at_handler, arrived, paid_ways, ways, IsBounded, most_ways}
+use Rattle.dj_bounds.specs.Acts.{way, code_length, AreShort, left_in, goes_elsewhere, is_pending, spent, initialisers, begun, arrived, ways, IsBounded, most_ways}
 use Rattle.dj_bounds.specs.Bytes.{alloc_of, own_bytes, pending_bytes, literal_bytes, input_bytes, HasRoom, most_bytes}
 use Rattle.dj_bounds.specs.Laws.{RunIsBounded, RanWithin, IsWorkBounded, RanFits}
 

@@ -1,15 +1,14 @@
 -- The library's classes have no initialisers.
-use Rattle.std.proofs.Common.{◌≡◌, ℕ, zero, suc, ◌+◌, ◌≤◌, ◌&&◌, ◌||◌, Bool, true, false, List, [], ◌∷◌, length, Option, Some, None, refl, ap, subst, ◌∙◌, sym, inl, inr, arith, Contains, if◌then◌else◌}
+use Rattle.std.proofs.Common.{◌≡◌, ℕ, zero, suc, ◌+◌, ◌≤◌, ◌&&◌, ◌||◌, Bool, true, false, List, [], ◌∷◌, length, Option, Some, refl, ap, ◌∙◌, sym, arith, Contains, if◌then◌else◌}
 use Rattle.std.specs.List.{list_any}
 use Rattle.dj_names.specs.declared.descriptor.Desc.{Desc}
 use Rattle.dj_names.specs.trusted.Types.{Name}
 use Rattle.dj_names.specs.trusted.Library.{deterministic_library}
-use Rattle.dj_model.specs.trusted.Program.{Program, Class, Method, Body, Runs, is_named, is_static, method_in, method_of, has_code, runs_static, class_at, has_initialiser}
+use Rattle.dj_model.specs.trusted.Program.{Program, Class, Method, is_named, is_static, method_in, method_of, has_code, runs_static, class_at, has_initialiser}
 use Rattle.dj_model.specs.trusted.Types.{initialiser_name, no_parameters}
 use Rattle.dj_model.specs.trusted.Libraries.{is_name_before, inserted, joined, library_program}
 use Rattle.dj_model.specs.Libraries.{metered_program}
 use Rattle.dj_sim.specs.Metering.{one_if}
-use Rattle.dj_sim.proofs.Places.{either}
 use Rattle.dj_bounds.specs.Acts.{initialisers}
 use Rattle.dj_bounds.specs.Laws.{FewInitialisers}
 

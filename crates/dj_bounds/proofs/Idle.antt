@@ -1,20 +1,16 @@
 -- A limit that the bounds don't reach makes no difference.
-use Rattle.std.proofs.Common.{◌≡◌, ℕ, ◌+◌, ◌≤◌, ◌<◌, List, [], Some, None, ap, inl, inr, arith}
-use Rattle.dj_names.specs.declared.run.Thresholds.{Thresholds}
+use Rattle.std.proofs.Common.{◌≡◌, ℕ, [], Some, ap, inl, inr, arith}
 use Rattle.dj_names.specs.Types.{in_sandbox, sandbox_prefix}
-use Rattle.dj_model.specs.trusted.Types.{Declared}
 use Rattle.dj_model.specs.Types.{declared_map}
-use Rattle.dj_model.specs.trusted.Program.{Program}
 use Rattle.dj_model.specs.trusted.State.{Accounted}
 use Rattle.dj_model.specs.trusted.Runs.{Ran, Going, Finished, NoStep, from_start, steps, begin, report_of, plain_run}
 use Rattle.dj_groups.specs.Rewritten.{rewritten}
 use Rattle.dj_sim.specs.Counting.{terms_with}
-use Rattle.dj_sim.specs.Limits.{RanFull, RanAbove, RanLimited}
+use Rattle.dj_sim.specs.Limits.{RanAbove, RanLimited}
 use Rattle.dj_sim.specs.Metering.{plain_after}
-use Rattle.dj_sim.specs.Simulation.{plain_terms}
 use Rattle.dj_sim.proofs.Limited.{begin_limited, run_limited}
-use Rattle.dj_bounds.specs.Bytes.{literal_bytes, most_bytes}
-use Rattle.dj_bounds.specs.Laws.{RanWithin, RanFits, IsWorkBounded, LimitIsIdle}
+use Rattle.dj_bounds.specs.Bytes.{most_bytes}
+use Rattle.dj_bounds.specs.Laws.{RanWithin, RanFits, LimitIsIdle}
 
 not_above : (limit bytes : ℕ) (r : Ran) → RanWithin bytes r → RanFits limit bytes r → RanAbove limit r → ⊥
 not_above limit bytes (Going s) within fits above = absurd (omega (arith, within, fits, above))

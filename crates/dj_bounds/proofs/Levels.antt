@@ -1,5 +1,5 @@
 -- After a step the heap has no less beside the literals than before.
-use Rattle.std.proofs.Common.{◌≡◌, ℕ, ◌+◌, ◌≤◌, ◌++◌, Bool, true, false, List, [], ◌∷◌, length, reverse, Option, Some, None, nat_le, nat_lt, refl, sym, ap, subst, ◌∙◌, arith, if◌then◌else◌}
+use Rattle.std.proofs.Common.{◌≡◌, ℕ, ◌+◌, ◌≤◌, List, [], ◌∷◌, length, reverse, Option, Some, None, nat_le, nat_lt, refl, arith, if◌then◌else◌}
 use Rattle.std.specs.Prelude.{⊤, IfSome}
 use Rattle.dj_names.specs.declared.descriptor.Ty.{Ty}
 use Rattle.dj_names.specs.declared.run.Value.{Value}
@@ -7,13 +7,13 @@ use Rattle.dj_names.specs.trusted.Heaps.{Object, object_size, with_new, next_num
 use Rattle.dj_names.specs.trusted.Types.{Name}
 use Rattle.dj_model.specs.trusted.Types.{Prefix, Declared}
 use Rattle.dj_model.specs.trusted.Instructions.{Instruction}
-use Rattle.dj_model.specs.trusted.Program.{Program, Field, Constant, Int, Long, Text, Unfit, class_at, fields_of, is_static, is_initialiser, code_of, has_initialiser, initialiser_of}
+use Rattle.dj_model.specs.trusted.Program.{Program, Field, Constant, Int, Long, Text, Unfit, class_at, fields_of, is_static, is_initialiser, code_of}
 use Rattle.dj_model.specs.trusted.Linking.{chain, static_place}
 use Rattle.dj_model.specs.trusted.State.{Terms, Frame, State, instruction_at, Next, To, Raise, Back, Flow, Goes, Catch, Stop, Call, End, Effect}
 use Rattle.dj_model.specs.trusted.Arrays.{passes_limit}
 use Rattle.dj_model.specs.trusted.Members.{Kept, with_literal}
-use Rattle.dj_model.specs.trusted.Effects.{effect, used_class}
-use Rattle.dj_model.specs.trusted.Initialisation.{most_frames, Initialised, Ready, Waits, Fails, then_ready, with_text, with_constant, with_constants, constants_of, mark_all, not_initialised, new_frame, initialiser_frames, with_frames, initialise}
+use Rattle.dj_model.specs.trusted.Effects.{used_class}
+use Rattle.dj_model.specs.trusted.Initialisation.{most_frames, Initialised, Ready, Waits, Fails, then_ready, with_text, with_constant, with_constants, constants_of, mark_all, not_initialised, initialiser_frames, with_frames, initialise}
 use Rattle.dj_model.specs.trusted.Step.{StepAnswer, Went, Ended, IllFormed, handler_of, at_handler, unwound, throw_new, new_exception, new_stop, stop_from, throw_stop_or, returned, settle, with_part, frame_with, part_of, settled, prepared, done, act, step_of, step}
 use Rattle.dj_model.proofs.Flows.{either_way}
 use Rattle.dj_bounds.specs.Bytes.{literal_bytes}

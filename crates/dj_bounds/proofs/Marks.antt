@@ -1,12 +1,12 @@
 -- Initialisers: as many ways as frames are pushed.
-use Rattle.std.proofs.Common.{◌≡◌, ◌≢◌, ℕ, suc, ◌+◌, ◌*◌, ◌<◌, ◌≤◌, ◌&&◌, Bool, true, false, List, [], ◌∷◌, ◌++◌, length, reverse, Option, Some, None, nat_lt, refl, sym, ap, subst, ◌∙◌, inl, inr, arith, IsTrue, IsFalse, if◌then◌else◌}
+use Rattle.std.proofs.Common.{◌≡◌, ℕ, suc, ◌+◌, ◌*◌, ◌≤◌, ◌&&◌, Bool, true, false, List, [], ◌∷◌, ◌++◌, length, reverse, nat_lt, refl, sym, ap, ◌∙◌, inl, inr, arith, IsFalse, if◌then◌else◌}
 use Rattle.std.specs.Prelude.{⊤}
 use Rattle.std.specs.List.{AllByRecursion}
 use Rattle.std.specs.Cmp.Lexicographic.{bytes_decides}
 use Rattle.std.proofs.lemmas.List.{reverse-append}
 use Rattle.dj_names.specs.trusted.Types.{Name, same_name}
 use Rattle.dj_model.specs.trusted.Types.{Prefix, Declared}
-use Rattle.dj_model.specs.trusted.Program.{Program, code_of, has_initialiser, initialiser_of}
+use Rattle.dj_model.specs.trusted.Program.{Program, has_initialiser, initialiser_of}
 use Rattle.dj_model.specs.trusted.Linking.{chain}
 use Rattle.dj_model.specs.trusted.State.{Terms, Frame, State}
 use Rattle.dj_model.specs.trusted.Initialisation.{most_frames, new_frame, is_initialised, mark, mark_all, not_initialised, Initialised, Ready, Waits, Fails, then_ready, constants_of, initialiser_frames, with_frames, initialise}

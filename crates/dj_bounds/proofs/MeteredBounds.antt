@@ -1,14 +1,10 @@
 -- A metered run does and takes no more than what it has paid.
-use Rattle.std.proofs.Common.{◌≡◌, ℕ, zero, suc, ◌+◌, ◌*◌, ◌<◌, ◌≤◌, Bool, true, false, List, [], ◌∷◌, length, replicate, Option, Some, None, refl, sym, ap, subst, ◌∙◌, inl, inr, arith, if◌then◌else◌}
-use Rattle.std.specs.Prelude.{⊤}
-use Rattle.dj_names.specs.declared.run.Charge.{Charge}
-use Rattle.dj_names.specs.declared.run.Costs.{Costs}
-use Rattle.dj_names.specs.declared.run.Outcome.{Outcome}
+use Rattle.std.proofs.Common.{◌≡◌, ℕ, zero, suc, ◌+◌, ◌*◌, ◌≤◌, Bool, true, false, List, [], ◌∷◌, refl, ap, subst, inl, inr, arith, if◌then◌else◌}
 use Rattle.dj_names.specs.declared.run.Thresholds.{Thresholds}
 use Rattle.dj_names.specs.declared.run.Value.TheVariants as values
 use Rattle.dj_model.specs.trusted.Types.{Declared}
-use Rattle.dj_model.specs.trusted.Program.{Program, code_of}
-use Rattle.dj_model.specs.trusted.State.{Account, Frame, State, instruction_at}
+use Rattle.dj_model.specs.trusted.Program.{Program}
+use Rattle.dj_model.specs.trusted.State.{Frame, State, instruction_at}
 use Rattle.dj_model.specs.trusted.Charging.{Charged, Fine, Over, no_costs}
 use Rattle.dj_model.specs.trusted.Initialisation.{Initialised, Ready, Waits, Fails, new_frame, initialise}
 use Rattle.dj_model.specs.trusted.Step.{StepAnswer, Went, Ended, IllFormed, step}
@@ -21,8 +17,8 @@ use Rattle.dj_model.specs.Standing.{AsksNothing, IsReady, AreStanding, AnswerSta
 use Rattle.dj_model.proofs.LawProofs.{costs_stay_within, runs_stay_sound}
 use Rattle.dj_sim.specs.Metering.{one_if, then_acts, acts_from, acts}
 use Rattle.dj_sim.proofs.SoundTurns.{found_there}
-use Rattle.dj_bounds.specs.Acts.{way, code_length, AreShort, spent, IsBounded, most_ways}
-use Rattle.dj_bounds.specs.Bytes.{pending_bytes, literal_bytes, HasRoom}
+use Rattle.dj_bounds.specs.Acts.{way, AreShort, spent, IsBounded, most_ways}
+use Rattle.dj_bounds.specs.Bytes.{pending_bytes, HasRoom}
 use Rattle.dj_bounds.specs.Laws.{RunIsBounded, MeteredIsBounded}
 use Rattle.dj_bounds.proofs.Marks.{InitSpends, initialise_spends}
 use Rattle.dj_bounds.proofs.Acting.{acts_within, act_bounded, ways_within, pay_bounded}

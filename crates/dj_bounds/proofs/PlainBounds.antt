@@ -1,6 +1,5 @@
 -- The plain run of the rewritten program ends within so many steps, and its heap stays within so many bytes.
-use Rattle.std.proofs.Common.{◌≡◌, ℕ, zero, suc, ◌+◌, ◌-◌, ◌*◌, ◌≤◌, ◌⊎◌, Bool, true, false, List, [], ◌∷◌, length, Option, Some, None, nat_le, refl, sym, ap, subst, ◌∙◌, inl, inr, arith, if◌then◌else◌}
-use Rattle.std.specs.Prelude.{⊤}
+use Rattle.std.proofs.Common.{◌≡◌, ℕ, zero, suc, ◌+◌, ◌-◌, ◌*◌, ◌≤◌, Bool, true, false, List, [], ◌∷◌, length, Some, None, nat_le, refl, sym, ap, subst, ◌∙◌, inl, inr, arith, if◌then◌else◌}
 use Rattle.std.proofs.lemmas.Bool.Decides.{nat_tests}
 use Rattle.dj_names.specs.declared.run.Charge.{Charge}
 use Rattle.dj_names.specs.declared.run.Costs.{Costs}
@@ -18,7 +17,7 @@ use Rattle.dj_model.specs.trusted.Step.{StepAnswer, Went, Ended, IllFormed, step
 use Rattle.dj_model.specs.trusted.Runs.{Ran, Going, Finished, NoStep, one_more, then_steps, from_start, steps, input_heap, start_state, begun, begin, report_of, taken_of, plain_run}
 use Rattle.dj_model.specs.Charging.{charge_all}
 use Rattle.dj_model.specs.Mapping.{outcome_map}
-use Rattle.dj_model.specs.Runs.{Run, Underway, RunEnds, Stuck, RunsTo, amounts, top_is_paid, with_paid, paid_run, answer_run, metered_terms, turn, then_turn, turns, metered_run}
+use Rattle.dj_model.specs.Runs.{Run, Underway, RunEnds, Stuck, RunsTo, amounts, top_is_paid, paid_run, answer_run, metered_terms, turn, then_turn, turns, metered_run}
 use Rattle.dj_model.specs.Sound.{IsSound}
 use Rattle.dj_model.specs.Standing.{AsksNothing, IsReady, AreStanding, IsEntry}
 use Rattle.dj_groups.specs.Rewritten.{rewritten}
@@ -31,8 +30,8 @@ use Rattle.dj_sim.proofs.LawProofs.{begins, counts, sound_acts, sound_pays}
 use Rattle.dj_sim.proofs.Metering.{adds, start_on, first_step, one_end, thrown_ends, meters}
 use Rattle.dj_sim.proofs.Places.{either}
 use Rattle.dj_sim.proofs.Waiting.{top_alike}
-use Rattle.dj_bounds.specs.Acts.{way, AreShort, arrived, most_ways}
-use Rattle.dj_bounds.specs.Bytes.{literal_bytes, input_bytes, HasRoom, most_bytes}
+use Rattle.dj_bounds.specs.Acts.{way, AreShort, most_ways}
+use Rattle.dj_bounds.specs.Bytes.{literal_bytes, most_bytes}
 use Rattle.dj_bounds.specs.Laws.{RanWithin, IsWorkBounded, WorkIsBounded}
 use Rattle.dj_bounds.proofs.Acting.{arrived_once}
 use Rattle.dj_bounds.proofs.Levels.{AnswerHas, IsNoLess, step_no_less, InitLevel, initialise_level}

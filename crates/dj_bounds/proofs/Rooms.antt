@@ -1,8 +1,7 @@
 -- Each act and each payment leaves a metered run the room that it has paid.
-use Rattle.std.proofs.Common.{◌≡◌, ℕ, ◌+◌, ◌*◌, ◌≤◌, ◌⊎◌, ◌++◌, Bool, true, false, List, [], ◌∷◌, length, reverse, Option, Some, None, nat_le, nat_lt, refl, sym, ap, subst, ◌∙◌, inl, inr, arith, if◌then◌else◌, IsTrue}
+use Rattle.std.proofs.Common.{◌≡◌, ℕ, ◌+◌, ◌*◌, ◌≤◌, ◌⊎◌, ◌++◌, Bool, true, false, List, [], ◌∷◌, length, reverse, Option, Some, None, nat_le, nat_lt, refl, sym, ap, subst, ◌∙◌, inl, inr, arith, if◌then◌else◌}
 use Rattle.std.specs.Prelude.{⊤, IfSome}
 use Rattle.dj_names.specs.declared.descriptor.Ty.{Ty}
-use Rattle.dj_names.specs.declared.run.Raised.{Raised}
 use Rattle.dj_names.specs.declared.run.Value.{Value}
 use Rattle.dj_names.specs.declared.run.Thresholds.{Thresholds}
 use Rattle.dj_names.specs.trusted.Heaps.{next_number, with_new}
@@ -16,7 +15,7 @@ use Rattle.dj_model.specs.trusted.State.{Terms, Metered, Account, Frame, State, 
 use Rattle.dj_model.specs.trusted.Charging.{Fine}
 use Rattle.dj_model.specs.trusted.Kinds.{Signature, Kinds}
 use Rattle.dj_model.specs.trusted.Program.{Code}
-use Rattle.dj_model.specs.trusted.Effects.{effect, used_class}
+use Rattle.dj_model.specs.trusted.Effects.{used_class}
 use Rattle.dj_model.specs.trusted.Initialisation.{most_frames, Initialised, Ready, Waits, Fails, then_ready, constants_of, mark_all, not_initialised, new_frame, initialiser_frames, with_frames, initialise}
 use Rattle.dj_model.specs.trusted.Step.{StepAnswer, Went, Ended, IllFormed, handler_of, caught, at_handler, unwound, new_exception, at_number, returned, settle, with_part, frame_with, part_of, settled, prepared, done, act, step_of, step}
 use Rattle.dj_model.specs.Charging.{charge_all}
@@ -30,11 +29,11 @@ use Rattle.dj_model.proofs.Frames.{KeepsMore, all_constants_keep}
 use Rattle.dj_sim.specs.Metering.{one_if}
 use Rattle.dj_sim.proofs.Places.{either}
 use Rattle.dj_sim.proofs.SoundTurns.{found_there}
-use Rattle.dj_bounds.specs.Acts.{goes_elsewhere, AreShort, arrived}
+use Rattle.dj_bounds.specs.Acts.{AreShort, arrived}
 use Rattle.dj_bounds.specs.Bytes.{alloc_of, own_bytes, pending_bytes, literal_bytes, input_bytes, HasRoom}
 use Rattle.dj_bounds.proofs.Spending.{code_starts}
 use Rattle.dj_bounds.proofs.Acting.{sound_effect, payment_adds}
-use Rattle.dj_bounds.proofs.Taking.{NotStopped, Covers, Takes, effect_takes}
+use Rattle.dj_bounds.proofs.Taking.{NotStopped, Takes, effect_takes}
 use Rattle.dj_bounds.proofs.Levels.{IsLevel, InitLevel, prepared_level}
 
 -- ---- frames that haven't paid

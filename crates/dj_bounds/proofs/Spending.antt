@@ -1,5 +1,5 @@
 -- Each instruction is paid by the way on which it is.
-use Rattle.std.proofs.Common.{◌≡◌, ℕ, suc, ◌+◌, ◌*◌, ◌<◌, ◌≤◌, ◌&&◌, ◌||◌, Bool, true, false, List, [], ◌∷◌, length, Option, Some, None, nat_eq, nat_le, nat_lt, refl, sym, ap, ◌∙◌, inl, inr, arith, if◌then◌else◌, IsTrue}
+use Rattle.std.proofs.Common.{◌≡◌, ℕ, suc, ◌+◌, ◌*◌, ◌<◌, ◌≤◌, ◌&&◌, ◌||◌, Bool, true, false, List, [], ◌∷◌, length, Option, Some, None, nat_eq, nat_le, nat_lt, refl, inl, inr, arith, if◌then◌else◌}
 use Rattle.std.specs.Prelude.{⊤}
 use Rattle.std.specs.List.{list_any}
 use Rattle.std.proofs.lemmas.Option.{none-some}
@@ -12,14 +12,13 @@ use Rattle.dj_model.specs.trusted.Types.{Declared}
 use Rattle.dj_model.specs.trusted.Instructions.{Instruction, Branch, Goto, Switch, Invoke, targets}
 use Rattle.dj_model.specs.Instructions.{calls}
 use Rattle.dj_model.specs.trusted.Program.{Program, Code, Range, code_of, is_initialiser}
-use Rattle.dj_model.specs.trusted.State.{Frame, State, instruction_at, Part, Next, To, Raise, Back, Flow, Goes, Catch, Stop, Call, End, Effect}
+use Rattle.dj_model.specs.trusted.State.{Frame, State, instruction_at, Part, Next, To, Raise, Back, Flow, Goes, Catch, Stop, Call, End}
 use Rattle.dj_model.specs.trusted.Kinds.{Signature, Kinds}
 use Rattle.dj_model.specs.trusted.Initialisation.{most_frames, new_frame}
 use Rattle.dj_model.specs.trusted.Step.{StepAnswer, Went, Ended, IllFormed, catches, handler_in, handler_of, at_handler, unwound, throw_new, new_exception, new_stop, stop_from, throw_stop_or, at_number, resumed, returned, settle, with_part, frame_with}
 use Rattle.dj_model.specs.Runs.{metered_terms, starts_handler}
 use Rattle.dj_model.specs.Standing.{IsAmong, IsSoundFlow}
 use Rattle.dj_model.proofs.Flows.{either_way}
-use Rattle.dj_sim.specs.Metering.{one_if}
 use Rattle.dj_sim.proofs.Places.{either}
 use Rattle.dj_bounds.specs.Acts.{way, code_length, AreShort, left_in, goes_elsewhere, is_pending, weight, spent, begun, arrived}
 

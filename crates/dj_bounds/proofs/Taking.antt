@@ -1,5 +1,5 @@
 -- The bytes that each instruction takes: those of literals, and those that were paid.
-use Rattle.std.proofs.Common.{◌≡◌, ℕ, ◌+◌, ◌*◌, ◌<◌, ◌≤◌, ◌⊎◌, Bool, true, false, ℤ, pos, negsuc, List, [], ◌∷◌, ◌++◌, length, replicate, Option, Some, None, nat_eq, nat_lt, refl, sym, ap, subst, ◌∙◌, inl, inr, arith, if◌then◌else◌}
+use Rattle.std.proofs.Common.{◌≡◌, ℕ, ◌+◌, ◌≤◌, ◌⊎◌, Bool, true, false, ℤ, pos, negsuc, List, [], ◌∷◌, ◌++◌, length, replicate, Option, Some, None, nat_eq, nat_lt, refl, sym, ap, subst, ◌∙◌, inl, inr, arith, if◌then◌else◌}
 use Rattle.std.specs.Prelude.{⊤, IfSome}
 use Rattle.std.specs.Option.{option_map}
 use Rattle.std.proofs.lemmas.List.{length-replicate}
@@ -22,12 +22,12 @@ use Rattle.dj_model.specs.trusted.Instructions.{Access, Mode, Virtual, Special, 
 use Rattle.dj_model.specs.trusted.Numbers.{is_of_kind}
 use Rattle.dj_model.specs.trusted.Program.{Program, Body, Abstract, Native, Runs}
 use Rattle.dj_model.specs.trusted.Linking.{member_class, field_count, FoundMethod, FoundField, resolve_method, resolve_field, select, special_method, place_of}
-use Rattle.dj_model.specs.trusted.State.{Terms, Counting, Uncounted, Metered, Accounted, Literal, Account, Part, Next, To, Raise, Back, Flow, Goes, Catch, Stop, Call, End, Effect, goes}
+use Rattle.dj_model.specs.trusted.State.{Terms, Counting, Uncounted, Metered, Accounted, Literal, Account, Part, Next, Flow, Goes, Stop, Effect, goes}
 use Rattle.dj_model.specs.trusted.Values.{Values}
 use Rattle.dj_model.specs.trusted.Charging.{Charged, Fine, Over, passes, added, charge_after, charge_one}
 use Rattle.dj_model.specs.trusted.Arrays.{OnHeap, Found, Null, NoArray, IsArray, array_at, only, access_kind, load_at, load_from, store_at, store_in, is_taken, length_of, load_element, store_element, array_length, make, make_elements, make_array, passes_limit}
 use Rattle.dj_model.specs.trusted.Natives.{Answer, Returns, Raises, MakesText, KeepsText, MakesChars, SetsFields, SetsElements, Adds, Rethrows, Question, asks, answered, answer, host_answer}
-use Rattle.dj_model.specs.trusted.Performing.{class_at_number, is_instance, takes, seen, ended_by, thrown_by, Counted, Within, Halts, counted, Making, Made, NotMade, making_then, text_object, chars_object, with_fields_in, with_elements_in, set_object, set_fields, set_elements, raises_after, returns_made, keeps_made, goes_on, perform, with_answer, host_asked, native_asked, native}
+use Rattle.dj_model.specs.trusted.Performing.{class_at_number, is_instance, takes, seen, ended_by, thrown_by, counted, Making, Made, NotMade, making_then, text_object, chars_object, with_fields_in, with_elements_in, set_object, set_fields, set_elements, raises_after, returns_made, keeps_made, goes_on, perform, with_answer, host_asked, native_asked, native}
 use Rattle.dj_model.specs.trusted.Members.{get_static, put_static, Holder, NullHolder, NoHolder, Holds, holder_at, get_from, put_in, get_field, put_field, Kept, kept_or_made, literal_in, with_literal, push_kept, check_cast, instance_of, throw_top, kinds_of, Arguments, arguments_of, are_instances, run_body, run_method, received, asked_class, call, call_with, invoke}
 use Rattle.dj_model.specs.trusted.Effects.{values_effect, flow_of, heap_effect, new_object, effect}
 use Rattle.dj_model.specs.Effects.{array_charge, pays}
