@@ -1,5 +1,5 @@
 -- Ways, bytes and bounds by plain values.
-use Rattle.std.proofs.Common.{◌≡◌, ℕ, suc, ◌+◌, Bool, true, false, pos, List, [], ◌∷◌, map, replicate, Some, None, codes, refl, arith}
+use Rattle.std.proofs.Common.{◌≡◌, ℕ, suc, ◌+◌, Bool, true, false, pos, List, [], ◌∷◌, map, replicate, Some, None, codes, refl, arith, zero, Contains}
 use Rattle.std.proofs.lemmas.List.{length-replicate}
 use Rattle.std.proofs.lemmas.Option.{none-some}
 use Rattle.dj_names.specs.declared.descriptor.Base.TheVariants as bases
@@ -9,8 +9,8 @@ use Rattle.dj_names.specs.declared.run.Element.TheVariants as elements
 use Rattle.dj_names.specs.declared.run.Outcome.TheVariants as outcomes
 use Rattle.dj_names.specs.declared.run.Value.TheVariants as values
 use Rattle.dj_names.specs.trusted.Types.{base_array}
-use Rattle.dj_model.specs.trusted.Instructions.{Nop, Push, NewArray, Move, Pop, Goto, Throw, Return}
-use Rattle.dj_model.specs.trusted.Program.{Program, code_of, has_initialiser, initialiser_of}
+use Rattle.dj_model.specs.trusted.Instructions.{Nop, Push, NewArray, Move, Pop, Goto, Throw, Return, PushText}
+use Rattle.dj_model.specs.trusted.Program.{Program, code_of, has_initialiser, initialiser_of, Field, Text}
 use Rattle.dj_model.specs.trusted.State.{Frame, State}
 use Rattle.dj_model.specs.trusted.Types.{Declared}
 use Rattle.dj_model.specs.trusted.Linking.{most_classes, chain_of}
@@ -19,8 +19,10 @@ use Rattle.dj_model.specs.trusted.Step.{step}
 use Rattle.dj_model.specs.trusted.Runs.{Going, Finished, NoStep, empty_heap, start_state, begin, steps, plain_run}
 use Rattle.dj_model.specs.Effects.{pays}
 use Rattle.dj_model.specs.Runs.{Underway, RunEnds, Stuck}
-use Rattle.dj_model.specs.SmallRuns.{entry, verify_with, initialiser_with, catch_all, class_with, a_with, costs, at_most, usual}
+use Rattle.dj_model.specs.SmallRuns.{entry, verify_with, initialiser_with, catch_all, class_with, a_with, costs, at_most, usual, field_with}
 use Rattle.dj_groups.specs.Rewritten.{rewritten}
+use Rattle.dj_names.specs.trusted.Library.{string}
+use Rattle.dj_bounds.specs.Texts.{AreTextsOf, text_bytes, AreLiteralsWithin}
 use Rattle.dj_bounds.specs.Acts.{way, code_length, AreShort, left_in, goes_elsewhere, is_pending, spent, initialisers, begun, arrived, ways, IsBounded, most_ways}
 use Rattle.dj_bounds.specs.Bytes.{alloc_of, own_bytes, pending_bytes, literal_bytes, input_bytes, HasRoom, most_bytes}
 use Rattle.dj_bounds.specs.Laws.{RunIsBounded, RanWithin, IsWorkBounded, RanFits}
@@ -178,3 +180,44 @@ never_fits k = k
 not_bounded : IsWorkBounded [] entry usual [] → ⊥
 unfolding steps step begin initialise rewritten is_initialised mark constants_of plain_run code_of has_initialiser most_classes chain_of
 not_bounded k = absurd (none-some _ (k.plain (suc k.steps) (omega arith)))
+
+-- ---- texts
+
+abbrev pushing : Program
+pushing = a_with (verify_with (PushText (65 ∷ []) ∷ Goto 0 ∷ []) [] ∷ []) ∷ []
+
+abbrev beginning : Field
+beginning = field_with 8 (codes "s") string (Some (Text (66 ∷ [])))
+
+no_texts : AreTextsOf [] []
+unfolding code_of
+no_texts = record { pushed = λ m code units e there. absurd (none-some code e); begun = λ class field units there e. absurd (omega (arith, there.1)) }
+
+abbrev another : List ℕ
+another = 66 ∷ []
+
+abbrev pushed : List ℕ
+pushed = 65 ∷ []
+
+-- a text that code pushes, and one with which a field begins
+not_pushed : AreTextsOf pushing (another ∷ []) → ⊥
+unfolding code_of
+not_pushed are = go (are.pushed entry _ pushed refl (zero, omega arith, refl)) where
+  go : Contains {X = List ℕ} (another ∷ []) pushed → ⊥
+  go (zero, l, e) = absurd cc
+  go (suc k, l, e) = absurd (omega (arith, l))
+
+not_begun : AreTextsOf (class_with (codes "A") (beginning ∷ []) [] ∷ []) [] → ⊥
+not_begun are = absurd (omega (arith, (are.begun (codes "A") beginning another (zero, omega arith, refl) refl).1))
+
+text_bytes_so : text_bytes ((65 ∷ 66 ∷ []) ∷ [] ∷ []) ≡ 40
+text_bytes_so = refl
+
+abbrev one_literal : State
+one_literal = record (start_state [] entry empty_heap []) { literals = record { units = 65 ∷ []; object = 1 } ∷ [] }
+
+literals_there : AreLiteralsWithin 24 (Going one_literal)
+literals_there = omega arith
+
+too_many_literals : AreLiteralsWithin 23 (Finished outcomes.Link one_literal 5) → ⊥
+too_many_literals l = absurd (omega (arith, l))

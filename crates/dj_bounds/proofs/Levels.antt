@@ -17,7 +17,7 @@ use Rattle.dj_model.specs.trusted.Initialisation.{most_frames, Initialised, Read
 use Rattle.dj_model.specs.trusted.Step.{StepAnswer, Went, Ended, IllFormed, handler_of, at_handler, unwound, throw_new, new_exception, new_stop, stop_from, throw_stop_or, returned, settle, with_part, frame_with, part_of, settled, prepared, done, act, step_of, step}
 use Rattle.dj_model.proofs.Flows.{either_way}
 use Rattle.dj_bounds.specs.Bytes.{literal_bytes}
-use Rattle.dj_bounds.proofs.Taking.{Takes, literal_taken, effect_takes}
+use Rattle.dj_bounds.proofs.Taking.{text_of, Takes, IsKept, literal_taken, effect_takes}
 
 -- such is the answer's state
 abbrev pub AnswerHas : (State → Type 0) → StepAnswer → Type 0
@@ -47,9 +47,9 @@ module _ (program : Program) (prefix : Prefix) (terms : Terms) (s : State) where
   constant_level t place (Some (Int z)) k = k
   constant_level t place (Some (Long z)) k = k
   constant_level t place (Some (Text units)) k = go (with_literal terms.limit prefix t.heap t.literals units) (literal_taken program prefix terms terms.limit t.heap t.literals units) where
-    go : (o : Option Kept) → IfSome o (λ kept. kept.heap.used + literal_bytes t.literals ≡ t.heap.used + literal_bytes kept.literals) → InitLevel (with_text t place units o)
+    go : (o : Option Kept) → IfSome o (IsKept program prefix terms units t.heap t.literals) → InitLevel (with_text t place units o)
     go None e = k
-    go (Some kept) e = (omega (arith, e, k.0), k.1)
+    go (Some kept) e = (omega (arith, e.0, k.0), k.1)
   constant_level t place (Some Unfit) k = k
 
   constants_level : (class : Name) (fields : List Field) (t : State) → IsLevel s t → InitLevel (with_constants program prefix terms class fields t)
@@ -124,13 +124,13 @@ module _ (program : Program) (prefix : Prefix) (terms : Terms) (s : State) where
   settle_no_less t f below (Call m arguments) k = either_way NoLess (nat_le most_frames (length (f ∷ below))) _ _ k k
   settle_no_less t f below (End outcome) k = k
 
-  settled_no_less : (paid : ℕ) (t : State) (f : Frame Declared) (below : List (Frame Declared)) (o : Option Effect) → IsLevel s t → IfSome o (Takes terms.counting paid (part_of f t))
+  settled_no_less : (text : Option (List ℕ)) (paid : ℕ) (t : State) (f : Frame Declared) (below : List (Frame Declared)) (o : Option Effect) → IsLevel s t → IfSome o (Takes terms.counting text paid (part_of f t))
       → NoLess (settled program prefix terms t f below o)
-  settled_no_less paid t f below None k takes = tt
-  settled_no_less paid t f below (Some e) k takes = settle_no_less (with_part t e.part) (frame_with f e.part) below e.flow (omega (arith, k.0, takes.bytes))
+  settled_no_less text paid t f below None k takes = tt
+  settled_no_less text paid t f below (Some e) k takes = settle_no_less (with_part t e.part) (frame_with f e.part) below e.flow (omega (arith, k.0, takes.bytes))
 
   done_no_less : (f : Frame Declared) (below : List (Frame Declared)) (i : Instruction) (r : Initialised) → InitLevel program prefix terms s r → NoLess (done program prefix terms f below i r)
-  done_no_less f below i (Ready t) k = settled_no_less _ t f below _ k (effect_takes program prefix terms f.method.class i (part_of f t))
+  done_no_less f below i (Ready t) k = settled_no_less (text_of i) _ t f below _ k (effect_takes program prefix terms f.method.class i (part_of f t))
   done_no_less f below i (Waits t) k = omega (arith, k.0)
   done_no_less f below i (Fails outcome t) k = omega (arith, k.0)
 

@@ -8,4 +8,5 @@ pub mod MeteredBounds
 pub mod PlainBounds
 pub mod Idle
 pub mod Files
+pub mod Literals
 mod Facts

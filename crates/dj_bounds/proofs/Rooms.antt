@@ -33,7 +33,7 @@ use Rattle.dj_bounds.specs.Acts.{AreShort, arrived}
 use Rattle.dj_bounds.specs.Bytes.{alloc_of, own_bytes, pending_bytes, literal_bytes, input_bytes, HasRoom}
 use Rattle.dj_bounds.proofs.Spending.{code_starts}
 use Rattle.dj_bounds.proofs.Acting.{sound_effect, payment_adds}
-use Rattle.dj_bounds.proofs.Taking.{NotStopped, Takes, effect_takes}
+use Rattle.dj_bounds.proofs.Taking.{text_of, NotStopped, Takes, effect_takes}
 use Rattle.dj_bounds.proofs.Levels.{IsLevel, InitLevel, prepared_level}
 
 -- ---- frames that haven't paid
@@ -181,7 +181,7 @@ module _ (program : Program) (sound : IsSound program []) (quiet : AsksNothing p
     After t = (t.heap.used + pending_bytes program below ≤ t.account.costs.alloc + 32 * throws + literal_bytes t.literals + input_bytes input)
         × (t.heap.used ≤ most.alloc + 32 * throws + literal_bytes t.literals + input_bytes input)
 
-    after_effect : (t : State) → IsLevel s t → (e : Effect) → Takes (Metered most) own (part_of x t) e → After (with_part t e.part)
+    after_effect : (t : State) → IsLevel s t → (e : Effect) → Takes (Metered most) (text_of ready.at.instruction) own (part_of x t) e → After (with_part t e.part)
     after_effect t level e takes = by takes.covered.1 where
       same : t.account.costs.alloc ≡ s.account.costs.alloc
       same = ap (λ (a : Account). a.costs.alloc) level.1
@@ -197,8 +197,8 @@ module _ (program : Program) (sound : IsSound program []) (quiet : AsksNothing p
     done_room : (r : Initialised) → InitLevel program [] (metered_terms most) s r → InitPending program s r → Room (done program [] (metered_terms most) x below ready.at.instruction r)
     done_room (Ready t) level pending =
         let d = sound_effect program sound quiet short most x ready t in
-        let takes : Takes (Metered most) own (part_of x t) d.does =
-        subst (λ (o : Option Effect). IfSome o (Takes (Metered most) own (part_of x t))) d.has (effect_takes program [] (metered_terms most) x.method.class ready.at.instruction (part_of x t)) in
+        let takes : Takes (Metered most) (text_of ready.at.instruction) own (part_of x t) d.does =
+        subst (λ (o : Option Effect). IfSome o (Takes (Metered most) (text_of ready.at.instruction) own (part_of x t))) d.has (effect_takes program [] (metered_terms most) x.method.class ready.at.instruction (part_of x t)) in
         let after = after_effect t level d.does takes in
         subst (λ (o : Option Effect). Room (settled program [] (metered_terms most) t x below o)) (sym d.has)
         (settle_room program most input throws (with_part t d.does.part) (frame_with x d.does.part) below d.does.flow after.0 after.1 takes.covered.0

@@ -6,6 +6,7 @@ use Rattle.std.proofs.lemmas.List.{length-replicate}
 use Rattle.std.proofs.lemmas.Bool.Decides.{nat_tests}
 use Rattle.dj_names.specs.declared.descriptor.Kind.{Kind}
 use Rattle.dj_names.specs.declared.descriptor.Ty.{Ty}
+use Rattle.dj_names.specs.declared.run.Outcome.TheVariants as outcomes
 use Rattle.dj_names.specs.declared.run.Value.{Value}
 use Rattle.dj_names.specs.declared.run.Value.TheVariants as values
 use Rattle.dj_names.specs.declared.run.Raised.{Raised}
@@ -22,7 +23,7 @@ use Rattle.dj_model.specs.trusted.Instructions.{Access, Mode, Virtual, Special, 
 use Rattle.dj_model.specs.trusted.Numbers.{is_of_kind}
 use Rattle.dj_model.specs.trusted.Program.{Program, Body, Abstract, Native, Runs}
 use Rattle.dj_model.specs.trusted.Linking.{member_class, field_count, FoundMethod, FoundField, resolve_method, resolve_field, select, special_method, place_of}
-use Rattle.dj_model.specs.trusted.State.{Terms, Counting, Uncounted, Metered, Accounted, Literal, Account, Part, Next, Flow, Goes, Stop, Effect, goes}
+use Rattle.dj_model.specs.trusted.State.{Terms, Counting, Uncounted, Metered, Accounted, Literal, Account, Part, Next, Flow, Goes, Stop, Effect, goes, End}
 use Rattle.dj_model.specs.trusted.Values.{Values}
 use Rattle.dj_model.specs.trusted.Charging.{Charged, Fine, Over, passes, added, charge_after, charge_one}
 use Rattle.dj_model.specs.trusted.Arrays.{OnHeap, Found, Null, NoArray, IsArray, array_at, only, access_kind, load_at, load_from, store_at, store_in, is_taken, length_of, load_element, store_element, array_length, make, make_elements, make_array, passes_limit}
@@ -46,15 +47,26 @@ Covers (Accounted most) paid before after flow made = ⊤
 Covers (Metered most) paid before after flow made = NotStopped flow
     × (((made ≤ paid) × (before.costs.alloc ≤ after.costs.alloc)) ⊎ ((made + before.costs.alloc ≤ after.costs.alloc) × (after.costs.alloc ≤ most.alloc)))
 
+-- the text that an instruction pushes
+abbrev pub text_of : Instruction → Option (List ℕ)
+text_of (PushText units) = Some units
+text_of i = None
+
+-- no other literal is made, and this one only where there was none of its text
+abbrev pub NewText : Option (List ℕ) → List Literal → List Literal → Type 0
+NewText None before after = after ≡ before
+NewText (Some units) before after = (after ≡ before) ⊎ ((object : ℕ) × (literal_in before units ≡ None) × (after ≡ before ++ record { units = units; object = object } ∷ []))
+
 -- so many bytes are taken beside those of literals
-pub record Takes (counting : Counting) (paid : ℕ) (x : Part) (e : Effect) : Type 0 where
+pub record Takes (counting : Counting) (text : Option (List ℕ)) (paid : ℕ) (x : Part) (e : Effect) : Type 0 where
   pub made : ℕ
   pub bytes : e.part.heap.used + literal_bytes x.literals ≡ x.heap.used + literal_bytes e.part.literals + made
   pub covered : Covers counting paid x.account e.part.account e.flow made
+  pub texts : NewText text x.literals e.part.literals
 
 module _ (counting : Counting) where
   abbrev TakesSome : ℕ → Part → Option Effect → Type 0
-  TakesSome paid x o = IfSome o (Takes counting paid x)
+  TakesSome paid x o = IfSome o (Takes counting None paid x)
 
   paid_before : (paid : ℕ) (a b : Account) (flow : Flow) (made : ℕ) → NotStopped flow → made ≤ paid → a.costs.alloc ≤ b.costs.alloc → Covers counting paid a b flow made
   paid_before paid a b flow made plain within less = by counting where
@@ -64,11 +76,12 @@ module _ (counting : Counting) where
     by (Metered most) = (plain, inl (within, less))
 
   -- nothing is taken
-  quiet : (paid : ℕ) (x : Part) (e : Effect) → e.part.heap.used ≡ x.heap.used → e.part.literals ≡ x.literals → e.part.account ≡ x.account → NotStopped e.flow → Takes counting paid x e
+  quiet : (paid : ℕ) (x : Part) (e : Effect) → e.part.heap.used ≡ x.heap.used → e.part.literals ≡ x.literals → e.part.account ≡ x.account → NotStopped e.flow → Takes counting None paid x e
   quiet paid x e used literals account plain = record {
     made = 0;
     bytes = omega (arith, used, ap literal_bytes literals);
     covered = paid_before paid x.account e.part.account e.flow 0 plain (omega arith) (omega (arith, ap (λ (a : Account). a.costs.alloc) account));
+    texts = literals;
   }
 
   -- ---- arrays
@@ -147,7 +160,7 @@ module _ (counting : Counting) where
     go (Some (Array class element contents)) = either_way (λ (o : Option (Object Ty)). SameBytes x (set_object x r o)) (nat_eq (length now) (length contents)) _ _ (refl, refl, refl) (refl, refl, refl)
     go (Some (Text class units)) = (refl, refl, refl)
 
-  raises_take : (x y : Part) (raised : Option Raised) → SameBytes x y → Takes counting 0 x (raises_after y raised)
+  raises_take : (x y : Part) (raised : Option Raised) → SameBytes x y → Takes counting None 0 x (raises_after y raised)
   raises_take x y None k = quiet 0 x _ k.0 k.1 k.2 tt
   raises_take x y (Some raised) k = quiet 0 x _ k.0 k.1 k.2 tt
 
@@ -187,19 +200,20 @@ module _ (counting : Counting) where
   -- what is made took so many bytes, which were charged
   abbrev MakesSo : ℕ → Part → Making → Type 0
   MakesSo size x (Made y r) = (y.heap.used ≡ x.heap.used + size) × (y.literals ≡ x.literals) × ((flow : Flow) → NotStopped flow → Covers counting 0 x.account y.account flow size)
-  MakesSo size x (NotMade e) = Takes counting 0 x e
+  MakesSo size x (NotMade e) = Takes counting None 0 x e
 
-  returns_take : (size : ℕ) (x : Part) (m : Making) → MakesSo size x m → Takes counting 0 x (returns_made m)
-  returns_take size x (Made y r) k = record { made = size; bytes = omega (arith, k.0, ap literal_bytes k.1); covered = k.2 (Goes Next) tt }
+  returns_take : (size : ℕ) (x : Part) (m : Making) → MakesSo size x m → Takes counting None 0 x (returns_made m)
+  returns_take size x (Made y r) k = record { made = size; bytes = omega (arith, k.0, ap literal_bytes k.1); covered = k.2 (Goes Next) tt; texts = k.1 }
   returns_take size x (NotMade e) k = k
 
-  keeps_take : (size : ℕ) (x : Part) (object : ℕ) (m : Making) → MakesSo size x m → Takes counting 0 x (keeps_made object m)
+  keeps_take : (size : ℕ) (x : Part) (object : ℕ) (m : Making) → MakesSo size x m → Takes counting None 0 x (keeps_made object m)
   keeps_take size x object (Made y r) k =
       let set = fields_same y object (values.Ref r ∷ []) in
       record {
         made = size;
         bytes = omega (arith, k.0, set.0, ap literal_bytes (set.1 ∙ k.1));
         covered = subst (λ (a : Account). Covers counting 0 x.account a (Goes Next) size) (sym set.2) (k.2 (Goes Next) tt);
+        texts = set.1 ∙ k.1;
       }
   keeps_take size x object (NotMade e) k = k
 
@@ -209,24 +223,24 @@ counted_makes Uncounted limit x o = either_way (MakesSo Uncounted (object_size o
 counted_makes (Accounted most) limit x o = go (charge_one most x.account charges.Alloc (object_size o)) where
   go : (c : Charged) → MakesSo (Accounted most) (object_size o) x (making_then limit o (thrown_by x c))
   go (Fine account) = either_way (MakesSo (Accounted most) (object_size o) x) (passes_limit limit (x.heap.used + object_size o)) _ _
-      (record { made = 0; bytes = omega arith; covered = tt }) (refl, refl, λ flow plain. tt)
-  go (Over charge account) = record { made = 0; bytes = omega arith; covered = tt }
+      (record { made = 0; bytes = omega arith; covered = tt; texts = refl }) (refl, refl, λ flow plain. tt)
+  go (Over charge account) = record { made = 0; bytes = omega arith; covered = tt; texts = refl }
 counted_makes (Metered most) limit x o = go (charge_one most x.account charges.Alloc (object_size o)) (charges_so (Metered most) most x.account (object_size o)) where
   go : (c : Charged) → ChargesSo (Metered most) most x.account (object_size o) c → MakesSo (Metered most) (object_size o) x (making_then limit o (ended_by x c))
   go (Fine account) k = either_way (MakesSo (Metered most) (object_size o) x) (passes_limit limit (x.heap.used + object_size o)) _ _
-      (record { made = 0; bytes = omega arith; covered = (tt, inl (omega arith, omega (arith, k.0))) }) (refl, refl, λ flow plain. (plain, inr k))
-  go (Over charge account) k = record { made = 0; bytes = omega arith; covered = (tt, inl (omega arith, k)) }
+      (record { made = 0; bytes = omega arith; covered = (tt, inl (omega arith, omega (arith, k.0))); texts = refl }) (refl, refl, λ flow plain. (plain, inr k))
+  go (Over charge account) k = record { made = 0; bytes = omega arith; covered = (tt, inl (omega arith, k)); texts = refl }
 
-counted_goes : (counting : Counting) (x : Part) (charge : Charge) (n : ℕ) → Takes counting 0 x (goes_on (counted counting x charge n))
+counted_goes : (counting : Counting) (x : Part) (charge : Charge) (n : ℕ) → Takes counting None 0 x (goes_on (counted counting x charge n))
 counted_goes Uncounted x charge n = quiet Uncounted 0 x _ refl refl refl tt
 counted_goes (Accounted most) x charge n = go (charge_one most x.account charge n) where
-  go : (c : Charged) → Takes (Accounted most) 0 x (goes_on (thrown_by x c))
-  go (Fine account) = record { made = 0; bytes = omega arith; covered = tt }
-  go (Over over account) = record { made = 0; bytes = omega arith; covered = tt }
+  go : (c : Charged) → Takes (Accounted most) None 0 x (goes_on (thrown_by x c))
+  go (Fine account) = record { made = 0; bytes = omega arith; covered = tt; texts = refl }
+  go (Over over account) = record { made = 0; bytes = omega arith; covered = tt; texts = refl }
 counted_goes (Metered most) x charge n = go (charge_one most x.account charge n) (rises (Metered most) most x.account charge n) where
-  go : (c : Charged) → Rises (Metered most) x.account c → Takes (Metered most) 0 x (goes_on (ended_by x c))
-  go (Fine account) k = record { made = 0; bytes = omega arith; covered = (tt, inl (omega arith, k)) }
-  go (Over over account) k = record { made = 0; bytes = omega arith; covered = (tt, inl (omega arith, k)) }
+  go : (c : Charged) → Rises (Metered most) x.account c → Takes (Metered most) None 0 x (goes_on (ended_by x c))
+  go (Fine account) k = record { made = 0; bytes = omega arith; covered = (tt, inl (omega arith, k)); texts = refl }
+  go (Over over account) k = record { made = 0; bytes = omega arith; covered = (tt, inl (omega arith, k)); texts = refl }
 
 literals_append : (a b : List Literal) → literal_bytes (a ++ b) ≡ literal_bytes a + literal_bytes b
 literals_append [] b = omega arith
@@ -234,12 +248,12 @@ literals_append (l ∷ a) b = omega (arith, literals_append a b)
 
 module _ (program : Program) (prefix : Prefix) (terms : Terms) where
   abbrev Taken : ℕ → Part → Option Effect → Type 0
-  Taken paid x o = IfSome o (Takes terms.counting paid x)
+  Taken paid x o = IfSome o (Takes terms.counting None paid x)
 
-  quiets : (x : Part) (e : Effect) → e.part.heap.used ≡ x.heap.used → e.part.literals ≡ x.literals → e.part.account ≡ x.account → NotStopped e.flow → Takes terms.counting 0 x e
+  quiets : (x : Part) (e : Effect) → e.part.heap.used ≡ x.heap.used → e.part.literals ≡ x.literals → e.part.account ≡ x.account → NotStopped e.flow → Takes terms.counting None 0 x e
   quiets x e used literals account plain = quiet terms.counting 0 x e used literals account plain
 
-  performs : (x : Part) (a : Answer) → Takes terms.counting 0 x (perform prefix terms x a)
+  performs : (x : Part) (a : Answer) → Takes terms.counting None 0 x (perform prefix terms x a)
   unfolding perform
   performs x (Returns result) = quiets x _ refl refl refl tt
   performs x (Raises raised) = quiets x _ refl refl refl tt
@@ -249,7 +263,7 @@ module _ (program : Program) (prefix : Prefix) (terms : Terms) where
   performs x (SetsFields object vs) = let set = fields_same terms.counting x object vs in quiets x _ set.0 set.1 set.2 tt
   performs x (SetsElements array contents raised) = raises_take terms.counting x (set_elements x array contents) raised (elements_same terms.counting x array contents)
   performs x (Adds charge n) = counted_goes terms.counting x charge n
-  performs x (Rethrows object) = either_way (λ (flow : Flow). Takes terms.counting 0 x (goes x flow)) (is_stop prefix (class_at_number x.heap object)) _ _ (quiets x _ refl refl refl tt) (quiets x _ refl refl refl tt)
+  performs x (Rethrows object) = either_way (λ (flow : Flow). Takes terms.counting None 0 x (goes x flow)) (is_stop prefix (class_at_number x.heap object)) _ _ (quiets x _ refl refl refl tt) (quiets x _ refl refl refl tt)
 
   answer_takes : (x : Part) (id : NativeId) (args : List Value) (z : Option ℤ) → Taken 0 x (with_answer program prefix terms x id args z)
   answer_takes x id args None = tt
@@ -257,7 +271,7 @@ module _ (program : Program) (prefix : Prefix) (terms : Terms) where
 
   moved : (x : Part) (answers : List HostAnswer) (o : Option Effect) → Taken 0 (record x { answers = answers }) o → Taken 0 x o
   moved x answers None k = tt
-  moved x answers (Some e) k = record { made = k.made; bytes = k.bytes; covered = k.covered }
+  moved x answers (Some e) k = record { made = k.made; bytes = k.bytes; covered = k.covered; texts = k.texts }
 
   host_takes : (x : Part) (id : NativeId) (args : List Value) (question : Question) (answers : List HostAnswer) → Taken 0 x (host_asked program prefix terms x id args question answers)
   host_takes x id args question [] = tt
@@ -285,12 +299,12 @@ module _ (program : Program) (prefix : Prefix) (terms : Terms) where
   put_static_takes x (Some kind) (Some found) [] = tt
   put_static_takes x (Some kind) (Some found) (v ∷ rest) = either_way (Taken 0 x) (is_of_kind kind v) _ _ (quiets x _ refl refl refl tt) tt
 
-  get_from_takes : (x : Part) (rest : List Value) (kind : Kind) (place : ℕ) (h : Holder) → Takes terms.counting 0 x (get_from x rest kind place h)
+  get_from_takes : (x : Part) (rest : List Value) (kind : Kind) (place : ℕ) (h : Holder) → Takes terms.counting None 0 x (get_from x rest kind place h)
   get_from_takes x rest kind place NullHolder = quiets x _ refl refl refl tt
   get_from_takes x rest kind place NoHolder = quiets x _ refl refl refl tt
   get_from_takes x rest kind place (Holds class fields) = quiets x _ refl refl refl tt
 
-  put_in_takes : (x : Part) (rest : List Value) (place r : ℕ) (v : Value) (h : Holder) → Takes terms.counting 0 x (put_in x rest place r v h)
+  put_in_takes : (x : Part) (rest : List Value) (place r : ℕ) (v : Value) (h : Holder) → Takes terms.counting None 0 x (put_in x rest place r v h)
   put_in_takes x rest place r v NullHolder = quiets x _ refl refl refl tt
   put_in_takes x rest place r v NoHolder = quiets x _ refl refl refl tt
   put_in_takes x rest place r v (Holds class fields) = quiets x _ refl refl refl tt
@@ -309,7 +323,7 @@ module _ (program : Program) (prefix : Prefix) (terms : Terms) where
   put_field_takes x None found operands = tt
 
   cast_takes : (x : Part) (class : Ty) (operands : List Value) → Taken 0 x (check_cast program prefix x class operands)
-  cast_takes x class (values.Ref r ∷ rest) = either_way (Takes terms.counting 0 x) (is_instance program prefix x.heap r class) _ _ (quiets x _ refl refl refl tt) (quiets x _ refl refl refl tt)
+  cast_takes x class (values.Ref r ∷ rest) = either_way (Takes terms.counting None 0 x) (is_instance program prefix x.heap r class) _ _ (quiets x _ refl refl refl tt) (quiets x _ refl refl refl tt)
   cast_takes x class _ = tt
 
   instance_of_takes : (x : Part) (class : Ty) (operands : List Value) → Taken 0 x (instance_of program prefix x class operands)
@@ -317,23 +331,35 @@ module _ (program : Program) (prefix : Prefix) (terms : Terms) where
   instance_of_takes x class _ = tt
 
   throw_takes : (x : Part) (operands : List Value) → Taken 0 x (throw_top program prefix x operands)
-  throw_takes x (values.Ref r ∷ rest) = either_way (Takes terms.counting 0 x) (nat_eq r 0) _ _ (quiets x _ refl refl refl tt)
-      (either_way (Takes terms.counting 0 x) (is_instance program prefix x.heap r (class_type (throwable_name prefix))) _ _ (quiets x _ refl refl refl tt) (quiets x _ refl refl refl tt))
+  throw_takes x (values.Ref r ∷ rest) = either_way (Takes terms.counting None 0 x) (nat_eq r 0) _ _ (quiets x _ refl refl refl tt)
+      (either_way (Takes terms.counting None 0 x) (is_instance program prefix x.heap r (class_type (throwable_name prefix))) _ _ (quiets x _ refl refl refl tt) (quiets x _ refl refl refl tt))
   throw_takes x _ = tt
 
-  -- a literal is told by its bytes
-  pub literal_taken : (limit : Option ℕ) (heap : Heap Ty) (literals : List Literal) (units : List ℕ)
-      → IfSome (with_literal limit prefix heap literals units) (λ k. k.heap.used + literal_bytes literals ≡ heap.used + literal_bytes k.literals)
-  unfolding with_literal
-  literal_taken limit heap literals units = go (literal_in literals units) where
-    go : (r : Option ℕ) → IfSome (kept_or_made limit prefix heap literals units r) (λ k. k.heap.used + literal_bytes literals ≡ heap.used + literal_bytes k.literals)
-    go (Some r) = refl
-    go None = either_way (λ (k : Option Kept). IfSome k (λ k. k.heap.used + literal_bytes literals ≡ heap.used + literal_bytes k.literals)) (passes_limit limit (heap.used + text_size units)) _ _ tt
-        (omega (arith, literals_append literals (record { units = units; object = length heap.objects + 1 } ∷ [])))
+  -- a literal is told by its bytes, and is of a text that had none
+  abbrev pub IsKept : List ℕ → Heap Ty → List Literal → Kept → Type 0
+  IsKept units heap literals k = (k.heap.used + literal_bytes literals ≡ heap.used + literal_bytes k.literals) × NewText (Some units) literals k.literals
 
-  text_takes : (x : Part) (units : List ℕ) (k : Option Kept) → IfSome k (λ k. k.heap.used + literal_bytes x.literals ≡ x.heap.used + literal_bytes k.literals) → Takes terms.counting 0 x (push_kept x units k)
-  text_takes x units None e = quiets x _ refl refl refl tt
-  text_takes x units (Some k) e = record { made = 0; bytes = omega (arith, e); covered = paid_before terms.counting 0 x.account x.account (Goes Next) 0 tt (omega arith) (omega arith) }
+  pub literal_taken : (limit : Option ℕ) (heap : Heap Ty) (literals : List Literal) (units : List ℕ) → IfSome (with_literal limit prefix heap literals units) (IsKept units heap literals)
+  unfolding with_literal
+  literal_taken limit heap literals units = go (literal_in literals units) refl where
+    go : (r : Option ℕ) → literal_in literals units ≡ r → IfSome (kept_or_made limit prefix heap literals units r) (IsKept units heap literals)
+    go (Some r) e = (refl, inl refl)
+    go None e = either_way (λ (k : Option Kept). IfSome k (IsKept units heap literals)) (passes_limit limit (heap.used + text_size units)) _ _ tt
+        (omega (arith, literals_append literals (record { units = units; object = length heap.objects + 1 } ∷ [])), inr (length heap.objects + 1, e, refl))
+
+  text_takes : (x : Part) (units : List ℕ) (k : Option Kept) → IfSome k (IsKept units x.heap x.literals) → Takes terms.counting (Some units) 0 x (push_kept x units k)
+  text_takes x units None e = record {
+    made = 0;
+    bytes = omega arith;
+    covered = paid_before terms.counting 0 x.account x.account (End (outcomes.HeapFull x.heap.used (text_size units))) 0 tt (omega arith) (omega arith);
+    texts = inl refl;
+  }
+  text_takes x units (Some k) e = record {
+    made = 0;
+    bytes = omega (arith, e.0);
+    covered = paid_before terms.counting 0 x.account x.account (Goes Next) 0 tt (omega arith) (omega arith);
+    texts = e.1;
+  }
 
   -- ---- calls
 
@@ -352,7 +378,7 @@ module _ (program : Program) (prefix : Prefix) (terms : Terms) where
 
   below_arguments : (x : Part) (rest : List Value) (o : Option Effect) → Taken 0 (record x { operands = rest }) o → Taken 0 x o
   below_arguments x rest None k = tt
-  below_arguments x rest (Some e) k = record { made = k.made; bytes = k.bytes; covered = k.covered }
+  below_arguments x rest (Some e) k = record { made = k.made; bytes = k.bytes; covered = k.covered; texts = k.texts }
 
   call_takes : (own : Name) (mode : Mode) (x : Part) (resolved : FoundMethod) (types : List Ty) (args rest : List Value) → Taken 0 x (call program prefix terms own mode x resolved types args rest)
   call_takes own Static x resolved types args rest = below_arguments x rest _ (method_takes (record x { operands = rest }) [] args types (Some resolved))
@@ -373,13 +399,13 @@ module _ (program : Program) (prefix : Prefix) (terms : Terms) where
 
   -- ---- new objects
 
-  makes_object : (x : Part) (o : Object Ty) → Takes terms.counting (object_size o) x (heap_effect x (make terms.limit x.heap x.operands x.operands o))
-  makes_object x o = either_way (λ (e : OnHeap Ty). Takes terms.counting (object_size o) x (heap_effect x e)) (passes_limit terms.limit (x.heap.used + object_size o)) _ _
+  makes_object : (x : Part) (o : Object Ty) → Takes terms.counting None (object_size o) x (heap_effect x (make terms.limit x.heap x.operands x.operands o))
+  makes_object x o = either_way (λ (e : OnHeap Ty). Takes terms.counting None (object_size o) x (heap_effect x e)) (passes_limit terms.limit (x.heap.used + object_size o)) _ _
       (quiet terms.counting (object_size o) x _ refl refl refl tt)
-      (record { made = object_size o; bytes = omega arith; covered = paid_before terms.counting (object_size o) x.account x.account (Goes Next) (object_size o) tt (omega arith) (omega arith) })
+      (record { made = object_size o; bytes = omega arith; covered = paid_before terms.counting (object_size o) x.account x.account (Goes Next) (object_size o) tt (omega arith) (omega arith); texts = refl })
 
   makes_elements : (x : Part) (full : Bool) (class : Ty) (element : Element) (operands rest : List Value) (n : ℕ)
-      → Takes terms.counting (array_size element n) x (heap_effect x (make_elements full class element x.heap operands rest n))
+      → Takes terms.counting None (array_size element n) x (heap_effect x (make_elements full class element x.heap operands rest n))
   makes_elements x true class element operands rest n = quiet terms.counting (array_size element n) x _ refl refl refl tt
   makes_elements x false class element operands rest n =
       let same : array_size element (length (replicate n (pos 0))) ≡ array_size element n = ap (array_size element) (length-replicate n (pos 0)) in
@@ -387,27 +413,28 @@ module _ (program : Program) (prefix : Prefix) (terms : Terms) where
         made = array_size element (length (replicate n (pos 0)));
         bytes = omega arith;
         covered = paid_before terms.counting (array_size element n) x.account x.account (Goes Next) (array_size element (length (replicate n (pos 0)))) tt (omega (arith, same)) (omega arith);
+        texts = refl;
       }
 
-  new_takes : (x : Part) (class : Ty) → Takes terms.counting (instance_size (field_count program (member_class prefix class)) + 0) x (heap_effect x (make terms.limit x.heap x.operands x.operands (new_object program prefix class)))
+  new_takes : (x : Part) (class : Ty) → Takes terms.counting None (instance_size (field_count program (member_class prefix class)) + 0) x (heap_effect x (make terms.limit x.heap x.operands x.operands (new_object program prefix class)))
   new_takes x class =
       let n : ℕ = field_count program (member_class prefix class) in
       let same : instance_size (length (replicate n 0)) ≡ instance_size n + 0 = ap instance_size (length-replicate n 0) ∙ omega arith in
-      subst (λ (size : ℕ). Takes terms.counting size x (heap_effect x (make terms.limit x.heap x.operands x.operands (new_object program prefix class)))) same
+      subst (λ (size : ℕ). Takes terms.counting None size x (heap_effect x (make terms.limit x.heap x.operands x.operands (new_object program prefix class)))) same
       (makes_object x (new_object program prefix class))
 
   array_takes : (x : Part) (class : Ty) (element : Element) (operands : List Value) → Taken (array_charge element operands + 0) x (option_map (heap_effect x) (make_array terms.limit class element x.heap operands))
   unfolding make_array
   array_takes x class element (values.Int (pos n) ∷ rest) =
       let same : array_size element n ≡ array_size element n + 0 = omega arith in
-      subst (λ (size : ℕ). Takes terms.counting size x (heap_effect x (make_elements (passes_limit terms.limit (x.heap.used + array_size element n)) class element x.heap (values.Int (pos n) ∷ rest) rest n))) same
+      subst (λ (size : ℕ). Takes terms.counting None size x (heap_effect x (make_elements (passes_limit terms.limit (x.heap.used + array_size element n)) class element x.heap (values.Int (pos n) ∷ rest) rest n))) same
       (makes_elements x (passes_limit terms.limit (x.heap.used + array_size element n)) class element (values.Int (pos n) ∷ rest) rest n)
   array_takes x class element (values.Int (negsuc n) ∷ rest) = quiets x _ refl refl refl tt
   array_takes x class element _ = tt
 
   -- ---- every instruction, for what it pays
 
-  pub effect_takes : (own : Name) (i : Instruction) (x : Part) → Taken (alloc_of (pays program prefix i x.operands)) x (effect program prefix terms own i x)
+  pub effect_takes : (own : Name) (i : Instruction) (x : Part) → IfSome (effect program prefix terms own i x) (Takes terms.counting (text_of i) (alloc_of (pays program prefix i x.operands)) x)
   unfolding effect pays
   effect_takes own (PushText units) x = text_takes x units _ (literal_taken terms.limit x.heap x.literals units)
   effect_takes own (LoadElement access) x = heap_takes terms.counting x _ (load_quiet terms.counting access x.heap x.operands)

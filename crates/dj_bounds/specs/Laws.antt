@@ -4,11 +4,13 @@ use Rattle.dj_names.specs.declared.run.Costs.{Costs}
 use Rattle.dj_names.specs.declared.run.Outcome.{Outcome}
 use Rattle.dj_names.specs.declared.run.Thresholds.{Thresholds}
 use Rattle.dj_names.specs.Types.{in_sandbox, sandbox_prefix}
-use Rattle.dj_model.specs.trusted.Types.{Declared}
+use Rattle.dj_edge.specs.declared.host.HostAnswer.{HostAnswer}
+use Rattle.dj_model.specs.trusted.Types.{Prefix, Declared}
 use Rattle.dj_model.specs.Types.{declared_map}
 use Rattle.dj_model.specs.trusted.Program.{Program, Class, class_at}
-use Rattle.dj_model.specs.trusted.State.{Accounted}
-use Rattle.dj_model.specs.trusted.Runs.{Ran, Going, Finished, NoStep, plain_run}
+use Rattle.dj_model.specs.trusted.State.{Terms, Accounted}
+use Rattle.dj_model.specs.trusted.Runs as runs
+use Rattle.dj_model.specs.trusted.Runs.{Ran, Going, Finished, NoStep, plain_run, begin, from_start}
 use Rattle.dj_model.specs.Libraries.{metered_program}
 use Rattle.dj_model.specs.Mapping.{outcome_map}
 use Rattle.dj_model.specs.Runs.{Run, Underway, RunEnds, Stuck, RunsTo, metered_run}
@@ -20,6 +22,7 @@ use Rattle.dj_sim.specs.Simulation.{plain_terms}
 use Rattle.dj_sim.specs.Objects.{HasBase}
 use Rattle.dj_sim.specs.Metering.{acts, plain_after}
 use Rattle.dj_bounds.specs.Acts.{way, AreShort, initialisers, IsBounded, most_ways}
+use Rattle.dj_bounds.specs.Texts.{AreTextsOf, text_bytes, AreLiteralsWithin}
 use Rattle.dj_bounds.specs.Bytes.{literal_bytes, HasRoom, most_bytes}
 
 -- ---- the metered run
@@ -84,3 +87,10 @@ LimitIsIdle = (program : Program) (entry : Declared) (most : Thresholds) (input 
 abbrev pub FewInitialisers : Type 0
 FewInitialisers = (files : List Class) → ((c : Class) → Contains (metered_program files) c → class_at (metered_program files) c.name ≡ Some c)
     → initialisers (metered_program files) (metered_program files) ≤ length files
+
+-- ---- literals
+
+-- The literals of a run are of different texts, each one of the program's, so they take no more bytes than objects of all its texts: after each step, on any terms.
+abbrev pub LiteralsAreWithin : Type 0
+LiteralsAreWithin = (program : Program) (prefix : Prefix) (terms : Terms) (texts : List (List ℕ)) → AreTextsOf program texts → (entry : Declared) (input : List ℕ) (answers : List HostAnswer) (n : ℕ)
+    → AreLiteralsWithin (text_bytes texts) (from_start (runs.steps program prefix terms n) (begin program prefix terms entry input answers))

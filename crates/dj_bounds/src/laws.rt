@@ -1,4 +1,4 @@
-ghost use Rattle.dj_bounds.specs.Laws.{MeteredIsBounded, WorkIsBounded, LimitIsIdle, FewInitialisers};
+ghost use Rattle.dj_bounds.specs.Laws.{MeteredIsBounded, WorkIsBounded, LimitIsIdle, FewInitialisers, LiteralsAreWithin};
 
 /// A metered run of a sound program does and takes no more than what it has paid.
 pub fn metered_is_bounded()
@@ -18,4 +18,9 @@ pub fn limit_is_idle()
 /// No more classes of a program have an initialiser than there are files, since the library's have none.
 pub fn few_initialisers()
     ensures { FewInitialisers }
+{}
+
+/// The literals of a run take no more bytes than objects of all texts of its program.
+pub fn literals_are_within()
+    ensures { LiteralsAreWithin }
 {}

@@ -3,4 +3,4 @@
 
 mod laws;
 
-pub use laws::{few_initialisers, limit_is_idle, metered_is_bounded, work_is_bounded};
+pub use laws::{few_initialisers, limit_is_idle, literals_are_within, metered_is_bounded, work_is_bounded};
