@@ -199,11 +199,14 @@ another = 66 ∷ []
 abbrev pushed : List ℕ
 pushed = 65 ∷ []
 
+abbrev empty : List ℕ
+empty = []
+
 -- a text that code pushes, and one with which a field begins
-not_pushed : AreTextsOf pushing (another ∷ []) → ⊥
+not_pushed : AreTextsOf pushing (empty ∷ []) → ⊥
 unfolding code_of
 not_pushed are = go (are.pushed entry _ pushed refl (zero, omega arith, refl)) where
-  go : Contains {X = List ℕ} (another ∷ []) pushed → ⊥
+  go : Contains {X = List ℕ} (empty ∷ []) pushed → ⊥
   go (zero, l, e) = absurd cc
   go (suc k, l, e) = absurd (omega (arith, l))
 
