@@ -1,11 +1,11 @@
 -- Literals are of different texts, each one of the program's.
-use Rattle.std.proofs.Common.{◌≡◌, ℕ, zero, suc, ◌+◌, ◌<◌, ◌≤◌, ◌⊎◌, Bool, true, false, List, [], ◌∷◌, ◌++◌, length, reverse, Option, Some, None, nat_le, nat_lt, slice_get, refl, sym, ap, subst, ◌∙◌, inl, inr, arith, Contains, if◌then◌else◌}
+use Rattle.std.proofs.Common.{◌≡◌, ℕ, zero, suc, ◌+◌, ◌≤◌, Bool, true, false, List, [], ◌∷◌, ◌++◌, length, reverse, Option, Some, None, nat_le, nat_lt, refl, sym, ap, subst, ◌∙◌, inl, inr, arith, Contains, if◌then◌else◌}
 use Rattle.std.specs.Prelude.{⊤, IfSome}
 use Rattle.std.specs.Cmp.Lexicographic.{bytes_decides}
 use Rattle.std.proofs.lemmas.Option.{none-some}
 use Rattle.dj_names.specs.declared.descriptor.Ty.{Ty}
 use Rattle.dj_names.specs.declared.run.Value.{Value}
-use Rattle.dj_names.specs.trusted.Heaps.{Object, object_size, with_new, next_number, text_size}
+use Rattle.dj_names.specs.trusted.Heaps.{Object, object_size, with_new, next_number}
 use Rattle.dj_names.specs.trusted.Types.{Name, same_name}
 use Rattle.dj_edge.specs.declared.host.HostAnswer.{HostAnswer}
 use Rattle.dj_model.specs.trusted.Types.{Prefix, Declared}
@@ -15,10 +15,10 @@ use Rattle.dj_model.specs.trusted.Linking.{chain, static_place}
 use Rattle.dj_model.specs.trusted.State.{Terms, Literal, Frame, State, instruction_in, instruction_at, Next, To, Raise, Back, Flow, Goes, Catch, Stop, Call, End, Effect}
 use Rattle.dj_model.specs.trusted.Arrays.{passes_limit}
 use Rattle.dj_model.specs.trusted.Members.{Kept, literal_in, with_literal}
-use Rattle.dj_model.specs.trusted.Effects.{effect, used_class}
+use Rattle.dj_model.specs.trusted.Effects.{used_class}
 use Rattle.dj_model.specs.trusted.Initialisation.{most_frames, Initialised, Ready, Waits, Fails, then_ready, with_text, with_constant, with_constants, constants_of, mark_all, not_initialised, initialiser_frames, with_frames, initialise}
 use Rattle.dj_model.specs.trusted.Step.{StepAnswer, Went, Ended, IllFormed, throw_new, new_exception, new_stop, stop_from, throw_stop_or, returned, settle, with_part, frame_with, part_of, settled, prepared, done, act, step_of, step}
-use Rattle.dj_model.specs.trusted.Runs.{Ran, Going, Finished, NoStep, one_more, then_steps, from_start, steps, input_array, input_heap, empty_heap, start_state, begun, begin}
+use Rattle.dj_model.specs.trusted.Runs.{Ran, Going, Finished, NoStep, one_more, then_steps, from_start, steps, input_array, input_heap, start_state, begun, begin}
 use Rattle.dj_model.proofs.Flows.{either_way}
 use Rattle.dj_model.proofs.SoundFrames.{contained}
 use Rattle.dj_bounds.specs.Bytes.{literal_bytes}

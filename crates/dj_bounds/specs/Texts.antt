@@ -1,11 +1,10 @@
 -- The texts of which a run keeps literals.
-use Rattle.std.specs.Prelude.{◌≡◌, ◌⊎◌, ℕ, ◌+◌, ◌≤◌, ⊤, List, [], ◌∷◌, ◌++◌, Option, Some, None, Contains}
+use Rattle.std.specs.Prelude.{◌≡◌, ℕ, ◌+◌, ◌≤◌, ⊤, List, [], ◌∷◌, Some, Contains}
 use Rattle.dj_names.specs.trusted.Heaps.{text_size}
 use Rattle.dj_names.specs.trusted.Types.{Name}
 use Rattle.dj_model.specs.trusted.Types.{Declared}
 use Rattle.dj_model.specs.trusted.Instructions.{PushText}
 use Rattle.dj_model.specs.trusted.Program.{Program, Code, Field, Text, class_at, fields_of, code_of}
-use Rattle.dj_model.specs.trusted.State.{Literal}
 use Rattle.dj_model.specs.trusted.Runs.{Ran, Going, Finished, NoStep}
 use Rattle.dj_bounds.specs.Bytes.{literal_bytes}
 
