@@ -1,4 +1,5 @@
-//! Bounded work: how many instructions a metered run does and how many bytes its heap takes under its thresholds, and so the plain run of the rewritten program.
+//! Bounded work: how many instructions a metered run does and how many bytes its heap takes under its thresholds, and so how many steps and bytes the plain run of
+//! the rewritten program.
 #![tactic(auto)]
 
 mod laws;
