@@ -325,8 +325,8 @@ module _ (program : Program) (base : HasBase program) where
     unfolding initialise
     initialise_below class t all = then_below (λ next. with_frames next (initialiser_frames program classes)) (frames_below (initialiser_frames program classes))
         (constants_of program [] terms classes (record t { initialised = mark_all program classes t.initialised })) (all_constants_below classes _ all) where
-      classes : List Name
-      classes = reverse (not_initialised program t.initialised (chain program class))
+          classes : List Name
+          classes = reverse (not_initialised program t.initialised (chain program class))
 
     prepared_below : (used : Option Name) (t : State) → AreBelow t.heap → InitBelow (prepared program [] terms used t)
     prepared_below None t all = all

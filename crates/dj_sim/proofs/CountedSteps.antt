@@ -191,9 +191,9 @@ module _ (program : Program) (prefix : Prefix) (limit : Option ℕ) (most : Thre
   constants_same class [] s = refl
   constants_same class (f ∷ fields) s = ap (then_ready (with_constants program prefix accounted class fields)) (one (is_static f.flags))
       ∙ ready_same (with_constants program prefix accounted class fields) (with_constants program prefix metered class fields) (constants_same class fields) _ where
-    one : (b : Bool) → (if b then with_constant prefix accounted s (static_place program class f.name f.desc) f.constant else Ready s) ≡ (if b then with_constant prefix metered s (static_place program class f.name f.desc) f.constant else Ready s)
-    one true = constant_same s (static_place program class f.name f.desc) f.constant
-    one false = refl
+        one : (b : Bool) → (if b then with_constant prefix accounted s (static_place program class f.name f.desc) f.constant else Ready s) ≡ (if b then with_constant prefix metered s (static_place program class f.name f.desc) f.constant else Ready s)
+        one true = constant_same s (static_place program class f.name f.desc) f.constant
+        one false = refl
 
   all_constants_same : (classes : List Name) (s : State) → constants_of program prefix accounted classes s ≡ constants_of program prefix metered classes s
   unfolding constants_of

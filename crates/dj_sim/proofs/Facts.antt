@@ -13,7 +13,7 @@ class_or other None = other
 class_or other (Some c) = c
 
 -- Object of the library stands at the top, and has nothing to initialise
-library_has_object : HasObject (metered_program [])
+pub library_has_object : HasObject (metered_program [])
 unfolding metered_program has_initialiser code_of class_or
 library_has_object = record {
   object = class_or (library_class (below_object stop_class [])) (class_at (metered_program []) (object_name []));

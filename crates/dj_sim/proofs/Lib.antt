@@ -20,3 +20,5 @@ pub mod Waiting
 pub mod LawProofs
 pub mod Metering
 mod Facts
+mod ImageFacts
+mod MeteringFacts

@@ -309,8 +309,8 @@ module _ (program : Program) (prefix : Prefix) (limit : ℕ) (counting : Countin
   unfolding initialise
   initialise_above class t l = then_above (λ next. with_frames next (initialiser_frames program classes)) (frames_above (initialiser_frames program classes))
       (constants_of program prefix free classes (record t { initialised = mark_all program classes t.initialised })) (all_constants_above classes _ l) where
-    classes : List Name
-    classes = reverse (not_initialised program t.initialised (chain program class))
+        classes : List Name
+        classes = reverse (not_initialised program t.initialised (chain program class))
 
   text_limited : (t : State) (place : ℕ) (units : List ℕ)
       → InitLimited (with_text t place units (with_literal (Some limit) prefix t.heap t.literals units)) (with_text t place units (with_literal None prefix t.heap t.literals units))
@@ -355,8 +355,8 @@ module _ (program : Program) (prefix : Prefix) (limit : ℕ) (counting : Countin
   unfolding initialise
   initialise_limited class t = then_limited (λ next. with_frames next (initialiser_frames program classes)) (λ next. with_frames next (initialiser_frames program classes)) (λ next. inl refl)
       (frames_above (initialiser_frames program classes)) _ _ (all_constants_limited classes (record t { initialised = mark_all program classes t.initialised })) where
-    classes : List Name
-    classes = reverse (not_initialised program t.initialised (chain program class))
+        classes : List Name
+        classes = reverse (not_initialised program t.initialised (chain program class))
 
   prepared_limited : (used : Option Name) (t : State) → InitLimited (prepared program prefix limited used t) (prepared program prefix free used t)
   prepared_limited None t = inl refl

@@ -11,7 +11,7 @@ use Rattle.dj_names.specs.Types.{in_sandbox, sandbox_prefix}
 use Rattle.dj_model.specs.trusted.Types.{Declared}
 use Rattle.dj_model.specs.Types.{declared_map}
 use Rattle.dj_model.specs.trusted.Program.{Program, Code, code_of}
-use Rattle.dj_model.specs.trusted.State.{Frame, State}
+use Rattle.dj_model.specs.trusted.State.{Terms, Accounted, Frame, State}
 use Rattle.dj_model.specs.trusted.Charging.{Charged, Fine, Over, no_costs}
 use Rattle.dj_model.specs.trusted.Initialisation.{most_frames}
 use Rattle.dj_model.specs.trusted.Step.{StepAnswer, Went, Ended, IllFormed, stop_from, throw_stop_or, step}
@@ -24,14 +24,16 @@ use Rattle.dj_model.specs.Sound.{IsSound}
 use Rattle.dj_model.specs.Standing.{AsksNothing, AnswerStands, RunStands, IsEntry}
 use Rattle.dj_model.proofs.LawProofs.{few_frames, costs_stay_within, runs_stay_sound}
 use Rattle.dj_groups.specs.Rewritten.{rewritten}
-use Rattle.dj_sim.specs.Counting.{IsThrown, CountsAs}
-use Rattle.dj_sim.specs.Metering.{one_if, then_acts, acts_from, acts, Stands, plain_after, RunFollows, Follows, IsNotSpent, Meters}
+use Rattle.dj_sim.specs.Counting.{terms_with, IsThrown, CountsAs}
+use Rattle.dj_sim.specs.Limits.{IsFull, RanLimited}
+use Rattle.dj_sim.specs.Metering.{one_if, then_acts, acts_from, acts, Stands, plain_after, RunFollows, Follows, IsNotSpent, IsNotFull, Meters}
 use Rattle.dj_sim.specs.Objects.{HasBase, AnswerBelow, RunBelow}
 use Rattle.dj_sim.specs.Simulation.{groups_in, part_at, frame_image, state_image, plain_terms, AreOriginal, EndsWithin, with_stop, PaidImage, answer_image}
 use Rattle.dj_sim.specs.Waiting.{AnswerWaits, RunWaits}
 use Rattle.dj_sim.proofs.Back as back
 use Rattle.dj_sim.proofs.Back.{IsOver, from_start_stays}
 use Rattle.dj_sim.proofs.BelowObject.{begin_below, turn_below}
+use Rattle.dj_sim.proofs.Limited.{begin_limited, run_limited}
 use Rattle.dj_sim.proofs.LawProofs.{begins, counts, sound_acts, sound_pays, stop_leaves, all_original}
 use Rattle.dj_sim.proofs.Places.{either}
 use Rattle.dj_sim.proofs.Unwinding.{step_more}
@@ -271,8 +273,7 @@ module _ (program : Program) (sound : IsSound program []) (base : HasBase progra
 
       pays_to : (k : ℕ) → k ≤ 6 → (c : Charged) → RunGood (paid_run s c) → PaidImage program (rewritten program) most k touched s x below c → After (suc n) (done + 0) (paid_run s c)
       pays_to k few (Fine account) good (now, goes) =
-          let one : one_if (top_is_paid (with_paid s.frames)) ≡ 1 = ap one_if paid_top in
-          (
+          let one : one_if (top_is_paid (with_paid s.frames)) ≡ 1 = ap one_if paid_top in (
             now,
             j + k,
             omega (arith, turned, one),
@@ -282,8 +283,7 @@ module _ (program : Program) (sound : IsSound program []) (base : HasBase progra
             good,
           )
       pays_to k few (Over charge account) good (m, within, u, ends, same) =
-          let deep : length s.frames ≡ suc (length below) = ap length frames in
-          (
+          let deep : length s.frames ≡ suc (length below) = ap length frames in (
             j + m,
             omega (arith, stepped, few, within, deep, stands.few),
             u,
@@ -369,8 +369,8 @@ module _ (program : Program) (sound : IsSound program []) (base : HasBase progra
             let later : N k ≡ Finished (outcome_map in_sandbox outcome) t j = from_start_stays (rewritten program) sandbox_prefix (plain_terms most) j k begun l (subst IsOver (sym finished) tt) ∙ finished in
             let none : taken_of [] t ≡ 0 = omega arith in
             ap (report_of [] k) later
-                ∙ (ap (λ c. Some (record { outcome = outcome_map in_sandbox outcome; costs = c; steps = j; taken = taken_of [] t })) same
-                ∙ ap (λ m. Some (record { outcome = outcome_map in_sandbox outcome; costs = costs; steps = j; taken = m })) none),
+            ∙ (ap (λ c. Some (record { outcome = outcome_map in_sandbox outcome; costs = c; steps = j; taken = taken_of [] t })) same
+            ∙ ap (λ m. Some (record { outcome = outcome_map in_sandbox outcome; costs = costs; steps = j; taken = m })) none),
       )
 
     weaker : (n done : ℕ) (r : Run) → RunFollows program most entry input n done r → back.Follows (rewritten program) sandbox_prefix (plain_terms most) begun (metered_run program entry input most) n r
@@ -389,8 +389,7 @@ module _ (program : Program) (sound : IsSound program []) (base : HasBase progra
           absurd (subst IsNotSpent (sym (ap (λ (r : Report). r.outcome) same)) unspent)
       go (Finished outcome s m) at e =
           let same : record { outcome = outcome; costs = s.account.costs; steps = m; taken = taken_of [] s } ≡ report = cc in
-          let found = back.back (rewritten program) sandbox_prefix (plain_terms most) begun (metered_run program entry input most) (λ n. weaker n (acts program entry input most n) (metered_run program entry input most n) (all n)) k m outcome s at in
-          (
+          let found = back.back (rewritten program) sandbox_prefix (plain_terms most) begun (metered_run program entry input most) (λ n. weaker n (acts program entry input most n) (metered_run program entry input most n) (all n)) k m outcome s at in (
             found.1,
             (found.0, found.2 ∙ ap (RunEnds found.1) (ap (λ (r : Report). r.costs) same)),
             found.3 ∙ ap (λ (r : Report). r.outcome) same,
@@ -399,3 +398,38 @@ module _ (program : Program) (sound : IsSound program []) (base : HasBase progra
 
     pub meters : IsEntry program entry → Meters program most entry input
     meters is = record { follows = follows is; ends = ends (follows is); back = comes_back (follows is) }
+
+    -- ---- with a limit on the heap's bytes
+
+    full_or_not : (limit : ℕ) (outcome : Outcome) → IsFull limit outcome → IsNotFull outcome → ⊥
+    full_or_not limit (outcomes.HeapFull used size) full not_full = not_full
+    full_or_not limit outcomes.OkNull full not_full = full
+    full_or_not limit (outcomes.OkBytes bytes) full not_full = full
+    full_or_not limit (outcomes.Threw class message) full not_full = full
+    full_or_not limit (outcomes.Init class exception message) full not_full = full
+    full_or_not limit outcomes.Link full not_full = full
+    full_or_not limit outcomes.TooDeep full not_full = full
+    full_or_not limit (outcomes.Stopped charge) full not_full = full
+    full_or_not limit (outcomes.OutOfSteps steps) full not_full = full
+
+    pub limited_ends : IsEntry program entry → (limit k : ℕ) (report : Report)
+        → plain_run (rewritten program) sandbox_prefix (terms_with (Some limit) (Accounted most)) (declared_map in_sandbox entry) input [] k ≡ Some report
+        → IsNotSpent report.outcome → IsNotFull report.outcome
+        → (outcome : Outcome) × RunsTo program entry input most outcome report.costs × (outcome_map in_sandbox outcome ≡ report.outcome)
+    unfolding plain_run
+    limited_ends is limit k report e unspent not_full = go (from_start (steps (rewritten program) sandbox_prefix terms k) first)
+        (run_limited (rewritten program) sandbox_prefix limit (Accounted most) k first begun (begin_limited (rewritten program) sandbox_prefix limit (Accounted most) (declared_map in_sandbox entry) input [])) e where
+          terms : Terms
+          terms = terms_with (Some limit) (Accounted most)
+
+          first : StepAnswer
+          first = begin (rewritten program) sandbox_prefix terms (declared_map in_sandbox entry) input []
+
+          go : (r : Ran) → RanLimited limit r (N k) → report_of [] k r ≡ Some report
+              → (outcome : Outcome) × RunsTo program entry input most outcome report.costs × (outcome_map in_sandbox outcome ≡ report.outcome)
+          go r (inl same) e = comes_back (follows is) k report (ap (report_of [] k) (sym same) ∙ e) unspent
+          go (Going s) (inr both) e = absurd both.0
+          go (Finished outcome s m) (inr both) e =
+              let same : record { outcome = outcome; costs = s.account.costs; steps = m; taken = taken_of [] s } ≡ report = cc in
+              absurd (full_or_not limit outcome both.0 (subst IsNotFull (sym (ap (λ (r : Report). r.outcome) same)) not_full))
+          go NoStep (inr both) e = absurd both.0

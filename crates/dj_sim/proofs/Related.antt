@@ -4,6 +4,7 @@ use Rattle.std.specs.Prelude.{⊤, IfSome, slice_get}
 use Rattle.std.specs.Option.{option_map}
 use Rattle.dj_names.specs.declared.descriptor.Kind.{Kind}
 use Rattle.dj_names.specs.declared.descriptor.Ty.{Ty}
+use Rattle.dj_names.specs.declared.run.Element.{Element}
 use Rattle.dj_names.specs.declared.run.Value.{Value}
 use Rattle.dj_names.specs.declared.run.Value.TheVariants as values
 use Rattle.dj_names.specs.declared.native.NativeId.{NativeId}
@@ -24,7 +25,6 @@ use Rattle.dj_model.specs.trusted.Members.{get_static, put_static, Holder, NullH
 use Rattle.dj_model.specs.trusted.Effects.{values_effect, flow_of, heap_effect, new_object, effect}
 use Rattle.dj_model.proofs.Flows.{either_way}
 use Rattle.dj_model.proofs.Fits.{PlainFlow}
-use Rattle.dj_names.specs.declared.run.Element.{Element}
 
 -- ---- instructions that make nothing
 

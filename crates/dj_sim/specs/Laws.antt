@@ -1,6 +1,7 @@
 -- Laws of the two runs: the metered run of a program, and the plain run of the rewritten program.
 use Rattle.std.specs.Prelude.{◌≡◌, ℕ, ◌*◌, ◌≤◌, Bool, true, false, List, [], ◌∷◌, length, Option, Some, None}
 use Rattle.dj_names.specs.declared.run.Charge.{Charge}
+use Rattle.dj_names.specs.declared.run.Outcome.{Outcome}
 use Rattle.dj_names.specs.declared.run.Outcome.TheVariants as outcomes
 use Rattle.dj_names.specs.declared.run.Thresholds.{Thresholds}
 use Rattle.dj_names.specs.trusted.Types.{Name, class_type}
@@ -16,10 +17,11 @@ use Rattle.dj_model.specs.trusted.Effects.{used_class}
 use Rattle.dj_model.specs.trusted.Initialisation.{Ready, initialise}
 use Rattle.dj_model.specs.trusted.Step.{prepared, unwound, step}
 use Rattle.dj_model.specs.trusted.Runs as runs
-use Rattle.dj_model.specs.trusted.Runs.{begin, from_start}
+use Rattle.dj_model.specs.trusted.Runs.{begin, from_start, Report, plain_run}
 use Rattle.dj_model.specs.Types.{declared_map}
 use Rattle.dj_model.specs.Charging.{charge_all}
-use Rattle.dj_model.specs.Runs.{amounts, metered_terms, turn}
+use Rattle.dj_model.specs.Mapping.{outcome_map}
+use Rattle.dj_model.specs.Runs.{RunsTo, amounts, metered_terms, turn}
 use Rattle.dj_model.specs.Sound.{IsSound}
 use Rattle.dj_model.specs.Standing.{AsksNothing, AreStanding, IsEntry}
 use Rattle.dj_groups.specs.Groups.{groups_of}
@@ -28,7 +30,7 @@ use Rattle.dj_sim.specs.Paying.{Paying}
 use Rattle.dj_sim.specs.Counting.{terms_with, CountsAs}
 use Rattle.dj_sim.specs.Limits.{IsLimited, RanLimited}
 use Rattle.dj_sim.specs.Objects.{HasBase, AnswerBelow, RunBelow}
-use Rattle.dj_sim.specs.Metering.{Meters}
+use Rattle.dj_sim.specs.Metering.{Meters, IsNotSpent, IsNotFull}
 use Rattle.dj_sim.specs.Waiting.{AnswerWaits, RunWaits}
 use Rattle.dj_sim.specs.Simulation.{groups_in, part_at, state_image, AreWaitingPaid, AreActing, AreBelowObject, HasObject, AreHandlersWithin, HasEffect, EndsWithin, AreOriginal, PaidImage, answer_image, initialised_image}
 
@@ -117,3 +119,11 @@ pub record KeepsBelow : Type 0 where
 abbrev pub MeteringTheorem : Type 0
 MeteringTheorem = (program : Program) → IsSound program [] → HasBase program → AsksNothing program → (entry : Declared) → IsEntry program entry → (most : Thresholds) (input : List ℕ)
     → Meters program most entry input
+
+-- So where its plain run ends under a limit on the heap's bytes, with enough steps and room, the metered run, which has no limit, ends so.
+abbrev pub LimitedEnds : Type 0
+LimitedEnds = (program : Program) → IsSound program [] → HasBase program → AsksNothing program → (entry : Declared) → IsEntry program entry → (most : Thresholds) (input : List ℕ)
+    → (limit k : ℕ) (report : Report)
+    → plain_run (rewritten program) sandbox_prefix (terms_with (Some limit) (Accounted most)) (declared_map in_sandbox entry) input [] k ≡ Some report
+    → IsNotSpent report.outcome → IsNotFull report.outcome
+    → (outcome : Outcome) × RunsTo program entry input most outcome report.costs × (outcome_map in_sandbox outcome ≡ report.outcome)

@@ -80,3 +80,8 @@ pub record Meters (program : Program) (most : Thresholds) (entry : Declared) (in
       ≡ Some (record { outcome = outcome_map in_sandbox outcome; costs = costs; steps = j; taken = 0 }))
   pub back : (k : ℕ) (report : Report) → plain_run (rewritten program) sandbox_prefix (plain_terms most) (declared_map in_sandbox entry) input [] k ≡ Some report → IsNotSpent report.outcome
       → (outcome : Outcome) × RunsTo program entry input most outcome report.costs × (outcome_map in_sandbox outcome ≡ report.outcome)
+
+-- the heap had room
+abbrev pub IsNotFull : Outcome → Type 0
+IsNotFull (outcomes.HeapFull used size) = ⊥
+IsNotFull outcome = ⊤

@@ -1,4 +1,4 @@
-ghost use Rattle.dj_sim.specs.Laws.{Initialises, Begins, Acts, Pays, Stops, KeepsWaiting, Counts, Limits, SoundActs, SoundPays, KeepsBelow, MeteringTheorem};
+ghost use Rattle.dj_sim.specs.Laws.{Initialises, Begins, Acts, Pays, Stops, KeepsWaiting, Counts, Limits, SoundActs, SoundPays, KeepsBelow, MeteringTheorem, LimitedEnds};
 
 /// The rewritten program initialises a class as the program does.
 pub fn initialises()
@@ -58,4 +58,9 @@ pub fn objects()
 /// The plain run of the rewritten program ends as the metered run of the program does, at the same costs.
 pub fn metering_theorem()
     ensures { MeteringTheorem }
+{}
+
+/// Under a limit on the heap's bytes that isn't passed, the plain run of the rewritten program ends as the metered run does.
+pub fn limited_ends()
+    ensures { LimitedEnds }
 {}

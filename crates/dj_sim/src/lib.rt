@@ -3,4 +3,7 @@
 
 mod laws;
 
-pub use laws::{act, begins, counting, initialises, limits, metering_theorem, objects, pays, sound_act, sound_pays, stops, waiting_paid};
+pub use laws::{
+    act, begins, counting, initialises, limited_ends, limits, metering_theorem, objects, pays,
+    sound_act, sound_pays, stops, waiting_paid,
+};

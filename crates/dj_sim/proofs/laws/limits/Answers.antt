@@ -1,4 +1,3 @@
-use Rattle.dj_model.specs.trusted.State.{Counting}
 use Rattle.dj_sim.proofs.Limited.{begin_limited, step_limited, run_limited}
 use Rattle.dj_sim.proofs.laws.limits.Goals as goal
 
