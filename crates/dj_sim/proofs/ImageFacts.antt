@@ -5,7 +5,6 @@ use Rattle.dj_names.specs.declared.descriptor.Base.TheVariants as bases
 use Rattle.dj_names.specs.declared.descriptor.Of.{Of}
 use Rattle.dj_names.specs.declared.descriptor.Of.TheVariants as ofs
 use Rattle.dj_names.specs.declared.descriptor.Ty.{Ty}
-use Rattle.dj_names.specs.declared.run.Costs.{Costs}
 use Rattle.dj_names.specs.declared.run.Element.TheVariants as elements
 use Rattle.dj_names.specs.declared.run.Message.TheVariants as messages
 use Rattle.dj_names.specs.declared.run.Outcome.{Outcome}
@@ -33,7 +32,7 @@ use Rattle.dj_model.specs.Runs.{Underway}
 use Rattle.dj_model.specs.SmallRuns.{entry, verify_of, verify_with, catch_all, class_with, a_with, lang_name, costs, usual}
 use Rattle.dj_groups.specs.Groups.{Group, groups_of, start}
 use Rattle.dj_sim.specs.Paying.{copy, push_element, record_jump, record_array, record_throw, check_catch, Paying, none, arrived, jump as pays_jump, invocation, array, throw, allocation}
-use Rattle.dj_sim.specs.Simulation.{groups_in, part_at, place_in, frame_image, flags_image, state_image, AreWaitingPaid, AreActing, AreBelowObject, AreHandlersWithin, JumpsAmong, HasEffect, EndsWithin, AreOriginal, PaidImage, answer_image, initialised_image}
+use Rattle.dj_sim.specs.Simulation.{groups_in, part_at, place_in, frame_image, flags_image, state_image, AreWaitingPaid, AreActing, AreBelowObject, AreHandlersWithin, JumpsAmong, HasEffect, IsLeft, EndsWithin, with_stop, AreOriginal, PaidImage, answer_image, initialised_image}
 use Rattle.dj_sim.specs.Waiting.{AnswerWaits, RunWaits}
 
 -- iconst_1, newarray byte, pop, goto 0; the pop is the handler of the two before it
@@ -199,10 +198,17 @@ unfolding effect
 has_none h = absurd (none-some _ h.has)
 
 -- a run that goes on doesn't end in no steps
-ends_later : (s : State) (outcome : Outcome) (c : Costs) → EndsWithin loops usual 0 (Went s) outcome c → ⊥
+ends_later : (s left : State) (outcome : Outcome) → EndsWithin loops usual 0 (Went s) outcome left → ⊥
 unfolding steps
-ends_later s outcome c (zero, l, t, e, same) = absurd (let no : Going s ≡ Finished outcome t 0 = e in cc)
-ends_later s outcome c (suc n, l, t, e, same) = absurd (omega (arith, l))
+ends_later s left outcome (zero, l, t, e, same) = absurd (let no : Going s ≡ Finished outcome t 0 = e in cc)
+ends_later s left outcome (suc n, l, t, e, same) = absurd (omega (arith, l))
+
+stop_takes : (with_stop (state_with [])).heap.used ≡ 64
+stop_takes = refl
+
+-- the object that stops the run has its bytes
+not_left : IsLeft (with_stop (state_with [])) (state_with []) → ⊥
+not_left k = absurd (omega (arith, k.1))
 
 -- ---- payments
 

@@ -13,7 +13,7 @@ use Rattle.dj_model.specs.trusted.State.{Frame, State}
 use Rattle.dj_model.specs.trusted.Step.{stop_from, throw_stop_or}
 use Rattle.dj_groups.specs.Rewritten.{rewritten}
 use Rattle.dj_sim.specs.Laws.{Begins, Counts, SoundActs, SoundPays}
-use Rattle.dj_sim.specs.Simulation.{HasObject, AreHandlersWithin, AreOriginal, frame_image, plain_terms, EndsWithin}
+use Rattle.dj_sim.specs.Simulation.{HasObject, AreHandlersWithin, AreOriginal, frame_image, plain_terms, EndsWithin, with_stop}
 use Rattle.dj_sim.proofs.Beginning.{begins as begins_law}
 use Rattle.dj_sim.proofs.CountedSteps.{begin_same, step_counts}
 use Rattle.dj_sim.proofs.Payments.{thrown_leaves, originals}
@@ -41,7 +41,7 @@ sound_pays = record {
 pub stop_leaves : (program : Program) → HasObject program → AreHandlersWithin program → (most : Thresholds) (r : State) (y : Frame Declared) (ys : List (Frame Declared)) (charge : Charge) (before : Heap Ty)
     → r.heap ≡ heap_map (type_map in_sandbox) before → AreOriginal (y ∷ ys) → r.account.exceeded ≡ Some charge
     → EndsWithin (rewritten program) most (2 * suc (length ys))
-    (throw_stop_or (rewritten program) sandbox_prefix (plain_terms most) (record r { frames = y ∷ ys }) (stop_from sandbox_prefix 1 r.heap.objects)) (outcomes.Stopped charge) r.account.costs
+    (throw_stop_or (rewritten program) sandbox_prefix (plain_terms most) (record r { frames = y ∷ ys }) (stop_from sandbox_prefix 1 r.heap.objects)) (outcomes.Stopped charge) (with_stop r)
 unfolding rewritten
 stop_leaves program base handled most r y ys charge before heap_is original over = thrown_leaves program base most handled r y ys charge before heap_is original over
 

@@ -11,8 +11,6 @@ pub mod Related
 pub mod CountedSteps
 pub mod Limited
 pub mod Back
-pub mod Bounds
-pub mod Bounded
 pub mod SoundTurns
 pub mod BelowObject
 pub mod Beginning

@@ -28,7 +28,7 @@ use Rattle.dj_sim.specs.Counting.{terms_with, IsThrown, CountsAs}
 use Rattle.dj_sim.specs.Limits.{IsFull, RanLimited}
 use Rattle.dj_sim.specs.Metering.{one_if, then_acts, acts_from, acts, Stands, plain_after, RunFollows, Follows, IsNotSpent, IsNotFull, Meters}
 use Rattle.dj_sim.specs.Objects.{HasBase, AnswerBelow, RunBelow}
-use Rattle.dj_sim.specs.Simulation.{groups_in, part_at, frame_image, state_image, plain_terms, AreOriginal, EndsWithin, PaidImage, answer_image}
+use Rattle.dj_sim.specs.Simulation.{groups_in, part_at, frame_image, state_image, plain_terms, AreOriginal, EndsWithin, with_stop, PaidImage, answer_image}
 use Rattle.dj_sim.specs.Waiting.{AnswerWaits, RunWaits}
 use Rattle.dj_sim.proofs.Back as back
 use Rattle.dj_sim.proofs.Back.{IsOver, from_start_stays}
@@ -42,7 +42,7 @@ use Rattle.dj_sim.proofs.Waiting.{begin_waits, turn_waits, top_alike}
 -- ---- steps after steps
 
 -- the same, after so many more steps
-abbrev adds : ℕ → Ran → Ran
+abbrev pub adds : ℕ → Ran → Ran
 adds j (Going s) = Going s
 adds j (Finished outcome s n) = Finished outcome s (j + n)
 adds j NoStep = NoStep
@@ -88,7 +88,7 @@ module _ (program : Program) (most : Thresholds) where
         go (Ended outcome t) going more = absurd (subst IsOver going tt)
         go IllFormed going more = absurd (subst IsOver going tt)
 
-  start_on : (j m : ℕ) (a : StepAnswer) (r : State) → from_start (run j) a ≡ Going r → from_start (run (j + m)) a ≡ adds j (run m r)
+  pub start_on : (j m : ℕ) (a : StepAnswer) (r : State) → from_start (run j) a ≡ Going r → from_start (run (j + m)) a ≡ adds j (run m r)
   start_on j m (Went s) r e = then_on j m s r e
   start_on j m (Ended outcome s) r e = absurd (subst IsOver e tt)
   start_on j m IllFormed r e = absurd (subst IsOver e tt)
@@ -97,11 +97,11 @@ module _ (program : Program) (most : Thresholds) where
   unfolding steps
   one_step s t e = ap (then_steps (run 0)) e
 
-  one_end : (s t : State) (outcome : Outcome) → step R sandbox_prefix (plain_terms most) s ≡ Ended outcome t → run 1 s ≡ Finished outcome t 1
+  pub one_end : (s t : State) (outcome : Outcome) → step R sandbox_prefix (plain_terms most) s ≡ Ended outcome t → run 1 s ≡ Finished outcome t 1
   unfolding steps
   one_end s t outcome e = ap (then_steps (run 0)) e
 
-  first_step : (s : State) (n : ℕ) → run (suc n) s ≡ one_more (from_start (run n) (step R sandbox_prefix (plain_terms most) s))
+  pub first_step : (s : State) (n : ℕ) → run (suc n) s ≡ one_more (from_start (run n) (step R sandbox_prefix (plain_terms most) s))
   unfolding steps
   first_step s n = step_more (run n) (step R sandbox_prefix (plain_terms most) s)
 
@@ -153,6 +153,38 @@ module _ (program : Program) (sound : IsSound program []) (base : HasBase progra
     | inr starved ↦ absurd (runs_stay_sound.quiet program [] (metered_terms most) s quiet starved)
   ]) (turn_waits program most s stands.waiting) (costs_stay_within.turns program most s stands.paid) (turn_below program base sound most s stands.standing stands.below) (turn_few s stands.few)
 
+  -- ---- an act whose own charge ends the run: the plain run throws the object that stops it
+
+  module _ (s : State) (touched : Bool) where
+    state_of : StepAnswer → State
+    state_of (Went t) = t
+    state_of (Ended outcome t) = t
+    state_of IllFormed = s
+
+    outcome_of : StepAnswer → Outcome
+    outcome_of (Went t) = outcomes.OkNull
+    outcome_of (Ended outcome t) = outcome
+    outcome_of IllFormed = outcomes.OkNull
+
+    pub thrown_ends : (t : State) (outcome : Outcome) (accounted metered : StepAnswer) → metered ≡ Ended (outcome_map in_sandbox outcome) (state_image program touched t)
+        → IsThrown (rewritten program) sandbox_prefix (plain_terms most) (state_image program touched s) accounted metered
+        → EndsWithin (rewritten program) most (2 * length s.frames) accounted (outcome_map in_sandbox outcome) (with_stop (state_image program touched t))
+    unfolding state_of outcome_of
+    thrown_ends t outcome accounted metered same th =
+        let both : Ended (outcome_map in_sandbox outcome) (state_image program touched t) ≡ Ended (outcomes.Stopped th.charge) th.end = sym same ∙ th.ends in
+        let end_is : state_image program touched t ≡ th.end = ap state_of both in
+        let outcome_is : outcome_map in_sandbox outcome ≡ outcomes.Stopped th.charge = ap outcome_of both in
+        let top : Frame Declared = record th.top { locals = th.locals; operands = th.operands } in
+        let original : AreOriginal (th.top ∷ th.below) = subst AreOriginal th.frames (all_original program base.object (sound_pays.handlers program sound) most s.frames) in
+        let leaving : StepAnswer = throw_stop_or (rewritten program) sandbox_prefix (plain_terms most) (record th.end { frames = top ∷ th.below }) (stop_from sandbox_prefix 1 th.end.heap.objects) in
+        let ends : EndsWithin (rewritten program) most (2 * suc (length th.below)) leaving (outcomes.Stopped th.charge) (with_stop th.end) =
+        stop_leaves program base.object (sound_pays.handlers program sound) most th.end top th.below th.charge t.heap (ap (λ (u : State). u.heap) (sym end_is)) (original.0, original.1) th.exceeded in
+        let deep : suc (length th.below) ≡ length s.frames = sym (ap length th.frames) ∙ length-map s.frames (frame_image program) in
+        subst (λ (k : ℕ). EndsWithin (rewritten program) most (2 * k) accounted (outcome_map in_sandbox outcome) (with_stop (state_image program touched t))) deep
+        (subst (λ (a : StepAnswer). EndsWithin (rewritten program) most (2 * suc (length th.below)) a (outcome_map in_sandbox outcome) (with_stop (state_image program touched t))) (sym th.thrown)
+        (subst (λ (o : Outcome). EndsWithin (rewritten program) most (2 * suc (length th.below)) leaving o (with_stop (state_image program touched t))) (sym outcome_is)
+        (subst (λ (u : State). EndsWithin (rewritten program) most (2 * suc (length th.below)) leaving (outcomes.Stopped th.charge) (with_stop u)) (sym end_is) ends)))
+
   -- ---- one turn
 
   module _ (entry : Declared) (input : List ℕ) where
@@ -199,25 +231,15 @@ module _ (program : Program) (sound : IsSound program []) (base : HasBase progra
       )
 
       -- within so many steps after the one that throws the object that stops the run
-      stops_after : (outcome : Outcome) (costs : Costs) (bound : ℕ) → bound ≤ 2048 → EndsWithin (rewritten program) most bound (step (rewritten program) sandbox_prefix (plain_terms most) image) (outcome_map in_sandbox outcome) costs
-          → After (suc n) (done + 1) (RunEnds outcome costs)
-      stops_after outcome costs bound few (m, within, u, ends, same) = (
+      stops_after : (outcome : Outcome) (left : State) (bound : ℕ) → bound ≤ 2048 → EndsWithin (rewritten program) most bound (step (rewritten program) sandbox_prefix (plain_terms most) image) (outcome_map in_sandbox outcome) left
+          → After (suc n) (done + 1) (RunEnds outcome left.account.costs)
+      stops_after outcome left bound few (m, within, u, ends, same) = (
         j + suc m,
         omega (arith, stepped, few, within),
         u,
         start_on program most j (suc m) begun image at ∙ ap (adds j) (first_step program most image m ∙ ap one_more ends),
-        same,
+        same.0,
       )
-
-      state_of : StepAnswer → State
-      state_of (Went t) = t
-      state_of (Ended outcome t) = t
-      state_of IllFormed = image
-
-      outcome_of : StepAnswer → Outcome
-      outcome_of (Went t) = outcomes.OkNull
-      outcome_of (Ended outcome t) = outcome
-      outcome_of IllFormed = outcomes.OkNull
 
       abbrev HasEnded : StepAnswer → Type 0
       HasEnded (Went t) = ⊥
@@ -227,21 +249,9 @@ module _ (program : Program) (sound : IsSound program []) (base : HasBase progra
       thrown : (t : State) (outcome : Outcome) (accounted metered : StepAnswer) → step (rewritten program) sandbox_prefix (plain_terms most) image ≡ accounted
           → metered ≡ Ended (outcome_map in_sandbox outcome) (state_image program touched t) → IsThrown (rewritten program) sandbox_prefix (plain_terms most) image accounted metered
           → After (suc n) (done + 1) (RunEnds outcome t.account.costs)
-      unfolding state_of outcome_of
-      thrown t outcome accounted metered e same th =
-          let both : Ended (outcome_map in_sandbox outcome) (state_image program touched t) ≡ Ended (outcomes.Stopped th.charge) th.end = sym same ∙ th.ends in
-          let end_is : state_image program touched t ≡ th.end = ap state_of both in
-          let outcome_is : outcome_map in_sandbox outcome ≡ outcomes.Stopped th.charge = ap outcome_of both in
-          let top : Frame Declared = record th.top { locals = th.locals; operands = th.operands } in
-          let original : AreOriginal (th.top ∷ th.below) = subst AreOriginal th.frames (all_original program base.object (sound_pays.handlers program sound) most s.frames) in
-          let leaving : StepAnswer = throw_stop_or (rewritten program) sandbox_prefix (plain_terms most) (record th.end { frames = top ∷ th.below }) (stop_from sandbox_prefix 1 th.end.heap.objects) in
-          let ends : EndsWithin (rewritten program) most (2 * suc (length th.below)) leaving (outcomes.Stopped th.charge) th.end.account.costs =
-          stop_leaves program base.object (sound_pays.handlers program sound) most th.end top th.below th.charge t.heap (ap (λ (u : State). u.heap) (sym end_is)) (original.0, original.1) th.exceeded in
-          let deep : suc (length th.below) ≡ length s.frames = sym (ap length th.frames) ∙ length-map s.frames (frame_image program) in
-          stops_after outcome t.account.costs (2 * suc (length th.below)) (omega (arith, deep, stands.few))
-          (subst (λ (a : StepAnswer). EndsWithin (rewritten program) most (2 * suc (length th.below)) a (outcome_map in_sandbox outcome) t.account.costs) (sym (e ∙ th.thrown))
-          (subst (λ (o : Outcome). EndsWithin (rewritten program) most (2 * suc (length th.below)) leaving o t.account.costs) (sym outcome_is)
-          (subst (λ (u : State). EndsWithin (rewritten program) most (2 * suc (length th.below)) leaving (outcomes.Stopped th.charge) u.account.costs) (sym end_is) ends)))
+      thrown t outcome accounted metered e same th = stops_after outcome (with_stop t) (2 * length s.frames) (omega (arith, stands.few))
+          (subst (λ (a : StepAnswer). EndsWithin (rewritten program) most (2 * length s.frames) a (outcome_map in_sandbox outcome) (with_stop (state_image program touched t))) (sym e)
+          (thrown_ends s touched t outcome accounted metered same th))
 
       acted : (a : StepAnswer) → RunGood (answer_run a) → step (rewritten program) sandbox_prefix (metered_terms most) image ≡ answer_image program touched a → After (suc n) (done + 1) (answer_run a)
       acted a good e = by a good e (counts.steps (rewritten program) sandbox_prefix None most image) where
@@ -278,7 +288,7 @@ module _ (program : Program) (sound : IsSound program []) (base : HasBase progra
             omega (arith, stepped, few, within, deep, stands.few),
             u,
             start_on program most j m begun (state_image program touched s) at ∙ ap (adds j) ends,
-            same,
+            same.0,
           )
 
     -- ---- either

@@ -33,7 +33,7 @@ use Rattle.dj_model.specs.trusted.Initialisation.{Ready, initialise}
 use Rattle.dj_model.specs.trusted.Step.{StepAnswer, Went, stop_from, throw_stop_or, settle, settled, part_of, act, step}
 use Rattle.dj_model.specs.trusted.Runs.{Going, one_more, then_steps, steps}
 use Rattle.dj_sim.specs.Paying.{copy, push_bytes, record_jump, record_invocation, record_throw, record_allocation, record_array, check_catch, Paying, none, arrived, jump, invocation, array, throw, allocation}
-use Rattle.dj_sim.specs.Simulation.{plain_terms, EndsWithin}
+use Rattle.dj_sim.specs.Simulation.{plain_terms, EndsWithin, IsLeft, with_stop}
 use Rattle.dj_sim.proofs.Acts.{other}
 
 module _ (program : Program) (most : Thresholds) (flags : State → List Bool)
@@ -189,7 +189,7 @@ module _ (program : Program) (most : Thresholds) (flags : State → List Bool)
   -- the charges are added within k steps, or one stops the run
   abbrev pub Paid : ℕ → ℕ → State → (Account → List Bool → State) → Charged → Type 0
   Paid k depth s final (Fine account) = (now : List Bool) × Good now × (steps R sandbox_prefix (plain_terms most) k s ≡ Going (final account now))
-  Paid k depth s final (Over charge account) = EndsWithin R most (k + 2 * depth) (Went s) (outcomes.Stopped charge) account.costs
+  Paid k depth s final (Over charge account) = EndsWithin R most (k + 2 * depth) (Went s) (outcomes.Stopped charge) (with_stop (final account []))
 
   one_step : (k depth : ℕ) (s t : State) (final : Account → List Bool → State) (c : Charged) → step R sandbox_prefix (plain_terms most) s ≡ Went t → Paid k depth t final c → Paid (suc k) depth s final c
   unfolding steps
@@ -203,14 +203,14 @@ module _ (program : Program) (most : Thresholds) (flags : State → List Bool)
       (Stopping : Heap Ty → Declared → List (Frame Declared) → Type 0)
       (stops : (r : State) (y : Frame Declared) (ys : List (Frame Declared)) (charge : Charge) (account : Account) → Stopping r.heap y.method ys → account.exceeded ≡ Some charge
       → EndsWithin R most (2 * suc (length ys)) (throw_stop_or R sandbox_prefix (plain_terms most) (record r { initialised = flags r; account = account; frames = y ∷ ys }) (stop_from sandbox_prefix 1 r.heap.objects))
-      (outcomes.Stopped charge) account.costs) where
+      (outcomes.Stopped charge) (with_stop (record r { account = account }))) where
     -- a call that charges, and then the rest
-    charged : (r : State) (y : Frame Declared) (ys : List (Frame Declared)) (k : ℕ) (charge : Charge) (n : ℕ) (amounts : List Amount) (final : Account → List Bool → State) → Stopping r.heap y.method ys
+    charged : (r : State) (y : Frame Declared) (ys : List (Frame Declared)) (k : ℕ) (charge : Charge) (n : ℕ) (amounts : List Amount) (final : Account → List Bool → State) → ((account : Account) → IsLeft (with_stop (final account [])) (with_stop (record r { account = account }))) → Stopping r.heap y.method ys
         → (s : State) → step R sandbox_prefix (plain_terms most) s ≡ after_charge r y ys (charge_one most r.account charge n)
         → ((account : Account) → Paid k (suc (length ys)) (record r { initialised = flags r; account = account; frames = record y { number = y.number + 1; paid = false } ∷ ys }) final (charge_all most amounts account))
         → Paid (suc k) (suc (length ys)) s final (charge_all most (record { charge = charge; amount = n } ∷ amounts) r.account)
     unfolding charge_all steps
-    charged r y ys k charge n amounts final stopping s e more = go (charge_one most r.account charge n) (over_exceeds r.account charge n) e where
+    charged r y ys k charge n amounts final kept stopping s e more = go (charge_one most r.account charge n) (over_exceeds r.account charge n) e where
       go : (c : Charged) → IsExceeded c → step R sandbox_prefix (plain_terms most) s ≡ after_charge r y ys c → Paid (suc k) (suc (length ys)) s final (then_charge (charge_all most amounts) c)
       go (Fine account) x e = one_step k (suc (length ys)) s _ final (charge_all most amounts account) e (more account)
       go (Over over account) x e =
@@ -220,7 +220,7 @@ module _ (program : Program) (most : Thresholds) (flags : State → List Bool)
             end.2,
             ap (then_steps (steps R sandbox_prefix (plain_terms most) end.0)) e
                 ∙ (step_more (steps R sandbox_prefix (plain_terms most) end.0) _ ∙ ap one_more end.3),
-            end.4,
+            (end.4.0 ∙ (kept account).0, end.4.1 ∙ (kept account).1, end.4.2 ∙ (kept account).2),
           )
 
     -- the calls that are inserted, from the number n to before the number e
@@ -236,13 +236,13 @@ module _ (program : Program) (most : Thresholds) (flags : State → List Bool)
     all_paid is operands amounts (jump more _ rest p) r y ys n e at f fine stopping below clean =
         let s : State = at_place r y ys n operands in
         let z : Frame Declared = record y { number = n; operands = operands; paid = false } in
-        charged s z ys (length more) charges.Jump 1 rest _ stopping s
+        charged s z ys (length more) charges.Jump 1 rest _ (λ account. (refl, refl, refl)) stopping s
         (ap (act R sandbox_prefix (plain_terms most) s z ys) (fetched_first y n record_jump more f) ∙ call_step record_jump charges.Jump 1 s z ys operands uses_jump (does_jump y.method.class _))
         (λ account. all_paid more operands rest p (record s { initialised = flags s; account = account }) y ys (n + 1) e (omega (arith, at)) (fetched_more y n record_jump more f) (good s fine) stopping below clean)
     all_paid is operands amounts (throw more _ rest p) r y ys n e at f fine stopping below clean =
         let s : State = at_place r y ys n operands in
         let z : Frame Declared = record y { number = n; operands = operands; paid = false } in
-        charged s z ys (length more) charges.Throw 1 rest _ stopping s
+        charged s z ys (length more) charges.Throw 1 rest _ (λ account. (refl, refl, refl)) stopping s
         (ap (act R sandbox_prefix (plain_terms most) s z ys) (fetched_first y n record_throw more f) ∙ call_step record_throw charges.Throw 1 s z ys operands uses_throw (does_throw y.method.class _))
         (λ account. all_paid more operands rest p (record s { initialised = flags s; account = account }) y ys (n + 1) e (omega (arith, at)) (fetched_more y n record_throw more f) (good s fine) stopping below clean)
     all_paid is operands amounts (allocation size more _ rest p) r y ys n e at f fine stopping below clean =
@@ -254,7 +254,7 @@ module _ (program : Program) (most : Thresholds) (flags : State → List Bool)
         one_step (suc (length more)) (suc (length ys)) s t _ _
         (ap (act R sandbox_prefix (plain_terms most) s z ys) (fetched_first y n (push_bytes size) (record_allocation ∷ more) f)
         ∙ plain_step (push_bytes size) (uses_push size) s z ys (values.Int (pos size) ∷ operands) (does_push y.method.class _ size))
-        (charged t (record w { operands = operands }) ys (length more) charges.Alloc size rest _ stopping t
+        (charged t (record w { operands = operands }) ys (length more) charges.Alloc size rest _ (λ account. (refl, refl, refl)) stopping t
         (ap (act R sandbox_prefix (plain_terms most) t w ys) (fetched_first y (n + 1) record_allocation more g)
         ∙ call_step record_allocation charges.Alloc size t w ys operands uses_allocation (does_allocation y.method.class _ size operands refl))
         (λ account. all_paid more operands rest p (record t { initialised = flags t; account = account }) y ys (n + 1 + 1) e (omega (arith, at)) (fetched_more y (n + 1) record_allocation more g) (good t fine) stopping below clean))
@@ -274,7 +274,7 @@ module _ (program : Program) (most : Thresholds) (flags : State → List Bool)
     all_paid is operands amounts (invocation more _ rest p) r y ys n e at f fine stopping below clean =
         let s : State = at_place r y ys n operands in
         let z : Frame Declared = record y { number = n; operands = operands; paid = false } in
-        charged s z ys (length more) charges.Invoke 1 rest _ stopping s
+        charged s z ys (length more) charges.Invoke 1 rest _ (λ account. (refl, refl, refl)) stopping s
         (ap (act R sandbox_prefix (plain_terms most) s z ys) (fetched_first y n record_invocation more f) ∙ call_step record_invocation charges.Invoke 1 s z ys operands uses_invocation (does_invocation y.method.class _))
         (λ account. all_paid more operands rest p (record s { initialised = flags s; account = account }) y ys (n + 1) e (omega (arith, at)) (fetched_more y n record_invocation more f) (good s fine) stopping below clean)
     all_paid is operands amounts (array element i under more rest p) r y ys n e at f fine stopping below clean =
@@ -293,7 +293,7 @@ module _ (program : Program) (most : Thresholds) (flags : State → List Bool)
         (one_step (suc (length more)) (suc (length ys)) t u _ _
         (ap (act R sandbox_prefix (plain_terms most) t w ys) (fetched_first y (n + 1) (push_bytes size) (record_array ∷ more) g)
         ∙ plain_step (push_bytes size) (uses_push size) t w ys (values.Int (pos size) ∷ (values.Int i ∷ (values.Int i ∷ under))) (does_push y.method.class _ size))
-        (charged u (record v { operands = values.Int i ∷ under }) ys (length more) charges.Alloc (array_charge element (values.Int i ∷ under)) rest _ stopping u
+        (charged u (record v { operands = values.Int i ∷ under }) ys (length more) charges.Alloc (array_charge element (values.Int i ∷ under)) rest _ (λ account. (refl, refl, refl)) stopping u
         (ap (act R sandbox_prefix (plain_terms most) u v ys) (fetched_first y (n + 1 + 1) record_array more h)
         ∙ call_step record_array charges.Alloc (array_charge element (values.Int i ∷ under)) u v ys (values.Int i ∷ under) uses_array (does_array y.method.class _ element i under (values.Int i ∷ under) refl))
         (λ account. all_paid more (values.Int i ∷ under) rest p (record u { initialised = flags u; account = account }) y ys (n + 1 + 1 + 1) e (omega (arith, at)) (fetched_more y (n + 1 + 1) record_array more h) (good u fine) stopping below clean)))

@@ -31,7 +31,7 @@ use Rattle.dj_model.proofs.NameMaps.{sandbox_map}
 use Rattle.dj_groups.specs.Groups.{Group, groups_of, start, own}
 use Rattle.dj_groups.specs.Rewritten.{in_groups, rewritten_code}
 use Rattle.dj_sim.specs.Paying.{Paying}
-use Rattle.dj_sim.specs.Simulation.{HasObject, AreHandlersWithin, AreOriginal, PaidImage, part_at, plain_terms, EndsWithin, flags_image, groups_in, place_in, frame_image, state_image}
+use Rattle.dj_sim.specs.Simulation.{HasObject, AreHandlersWithin, AreOriginal, PaidImage, part_at, plain_terms, EndsWithin, with_stop, flags_image, groups_in, place_in, frame_image, state_image}
 use Rattle.dj_sim.proofs.Places.{past, own_is}
 use Rattle.dj_sim.proofs.Acts.{other, at, statics, code_image, frames_image, part_there}
 use Rattle.dj_sim.proofs.Ready.{two, flags_after, ready}
@@ -106,7 +106,7 @@ module _ (program : Program) (base : HasObject program) (most : Thresholds)
   pub thrown_leaves : (r : State) (y : Frame Declared) (ys : List (Frame Declared)) (charge : Charge) (before : Heap Ty) → r.heap ≡ heap_map (type_map in_sandbox) before → AreOriginal (y ∷ ys)
       → r.account.exceeded ≡ Some charge
       → EndsWithin (other program) most (2 * suc (length ys))
-      (throw_stop_or (other program) sandbox_prefix (plain_terms most) (record r { frames = y ∷ ys }) (stop_from sandbox_prefix 1 r.heap.objects)) (outcomes.Stopped charge) r.account.costs
+      (throw_stop_or (other program) sandbox_prefix (plain_terms most) (record r { frames = y ∷ ys }) (stop_from sandbox_prefix 1 r.heap.objects)) (outcomes.Stopped charge) (with_stop r)
   thrown_leaves r y ys charge before heap_is original over =
       let made : State = record r { heap = with_new r.heap new_stop; frames = y ∷ ys } in
       let none : stop_from sandbox_prefix 1 r.heap.objects ≡ None = ap (λ (heap : Heap Ty). stop_from sandbox_prefix 1 heap.objects) heap_is ∙ no_stop_from 1 before.objects in
@@ -116,7 +116,7 @@ module _ (program : Program) (base : HasObject program) (most : Thresholds)
   stop_leaves : (r : State) (y : Frame Declared) (ys : List (Frame Declared)) (charge : Charge) (account : Account) → Stopping r.heap y.method ys → account.exceeded ≡ Some charge
       → EndsWithin (other program) most (2 * suc (length ys))
       (throw_stop_or (other program) sandbox_prefix (plain_terms most) (record r { initialised = flags_after program base (plain_terms most) r; account = account; frames = y ∷ ys }) (stop_from sandbox_prefix 1 r.heap.objects))
-      (outcomes.Stopped charge) account.costs
+      (outcomes.Stopped charge) (with_stop (record r { account = account }))
   stop_leaves r y ys charge account s over =
       thrown_leaves (record r { initialised = flags_after program base (plain_terms most) r; account = account }) y ys charge s.before s.heap_is ((s.of, s.method), s.below) over
 

@@ -133,15 +133,15 @@ module _ (program : Program) (most : Thresholds)
       → ends_with sandbox_prefix r stop_type outcome ≡ Ended (outcomes.Stopped charge) r
   ended r charge outcome e = rw e refl
 
-  at_once : (r : State) (charge : Charge) (bound : ℕ) (a : StepAnswer) → a ≡ Ended (outcomes.Stopped charge) r → EndsWithin (other program) most bound a (outcomes.Stopped charge) r.account.costs
-  at_once r charge bound a e = (0, omega arith, r, ap (from_start (steps (other program) sandbox_prefix (plain_terms most) 0)) e, refl)
+  at_once : (r : State) (charge : Charge) (bound : ℕ) (a : StepAnswer) → a ≡ Ended (outcomes.Stopped charge) r → EndsWithin (other program) most bound a (outcomes.Stopped charge) r
+  at_once r charge bound a e = (0, omega arith, r, ap (from_start (steps (other program) sandbox_prefix (plain_terms most) 0)) e, (refl, refl, refl))
 
   -- two steps before such an end
-  two_before : (r s : State) (a : StepAnswer) (bound : ℕ) (outcome : Outcome) (charge : Charge)
+  two_before : (r s left : State) (a : StepAnswer) (bound : ℕ) (outcome : Outcome) (charge : Charge)
       → step (other program) sandbox_prefix (plain_terms most) r ≡ Went s → step (other program) sandbox_prefix (plain_terms most) s ≡ a
-      → EndsWithin (other program) most bound a outcome s.account.costs → r.account.costs ≡ s.account.costs → EndsWithin (other program) most (bound + 2) (Went r) outcome r.account.costs
+      → EndsWithin (other program) most bound a outcome left → EndsWithin (other program) most (bound + 2) (Went r) outcome left
   unfolding steps
-  two_before r s a bound outcome charge one two (n, within, t, ends, costs) same = (
+  two_before r s left a bound outcome charge one two (n, within, t, ends, same) = (
     suc (suc n),
     omega (arith, within),
     t,
@@ -149,13 +149,13 @@ module _ (program : Program) (most : Thresholds)
         ∙ (ap (λ (b : StepAnswer). one_more (then_steps (steps (other program) sandbox_prefix (plain_terms most) n) b)) two
         ∙ (ap one_more (step_more (steps (other program) sandbox_prefix (plain_terms most) n) a)
         ∙ ap (λ (q : Ran). one_more (one_more q)) ends)),
-    costs ∙ sym same,
+    same,
   )
 
   -- the frame is left
   left : (z : Frame Declared) (s : State) (a : StepAnswer) (x bound : ℕ) (charge : Charge) → s.account.exceeded ≡ Some charge
-      → EndsWithin (other program) most bound a (outcomes.Stopped charge) s.account.costs
-      → EndsWithin (other program) most bound (leaves_frame sandbox_prefix s stop_type x z a) (outcomes.Stopped charge) s.account.costs
+      → EndsWithin (other program) most bound a (outcomes.Stopped charge) s
+      → EndsWithin (other program) most bound (leaves_frame sandbox_prefix s stop_type x z a) (outcomes.Stopped charge) s
   left z s a x bound charge over below = elim (either (is_initialiser z.method)) [
     | inl i ↦ rw i (at_once s charge bound _ (ended s charge _ over))
     | inr i ↦ rw i below
@@ -181,8 +181,8 @@ module _ (program : Program) (most : Thresholds)
   caught_again : (code : Code) (z : Frame Declared) (ys : List (Frame Declared)) (r : State) (x : ℕ) (charge : Charge) (h : ℕ) → r.account.exceeded ≡ Some charge → class_at_number r.heap x ≡ stop_type
       → code_of (other program) z.method ≡ Some (rewritten_code program code) → (k : ℕ) → h ≡ start (groups_of program code) k → starts_handler (Some code) k ≡ true → k < length code.instructions
       → ((s : State) → s.account.exceeded ≡ Some charge → class_at_number s.heap x ≡ stop_type
-      → EndsWithin (other program) most (2 * length ys) (unwound (other program) sandbox_prefix s stop_type x ys) (outcomes.Stopped charge) s.account.costs)
-      → EndsWithin (other program) most (2 * suc (length ys)) (Went (record r { frames = caught z x h ∷ ys })) (outcomes.Stopped charge) r.account.costs
+      → EndsWithin (other program) most (2 * length ys) (unwound (other program) sandbox_prefix s stop_type x ys) (outcomes.Stopped charge) s)
+      → EndsWithin (other program) most (2 * suc (length ys)) (Went (record r { frames = caught z x h ∷ ys })) (outcomes.Stopped charge) r
   unfolding unwound step rewritten_code in_groups
   caught_again code z ys r x charge h over stop coded k at first within below =
       let gs : List Group = groups_of program code in
@@ -210,30 +210,30 @@ module _ (program : Program) (most : Thresholds)
       ∙ covers_none code stop_type k (h + 1) code.ranges b.arrives (omega (arith, at)) (omega (arith, at, long, own_is gs k)) in
       let three : unwound (other program) sandbox_prefix r2 stop_type x (y2 ∷ ys) ≡ leaves_frame sandbox_prefix r2 stop_type x y2 (unwound (other program) sandbox_prefix r2 stop_type x ys) =
       ap (λ (handler : Option ℕ). at_handler sandbox_prefix r2 stop_type x y2 ys handler (unwound (other program) sandbox_prefix r2 stop_type x ys)) uncovered in
-      let ends : EndsWithin (other program) most (2 * length ys) (leaves_frame sandbox_prefix r2 stop_type x y2 (unwound (other program) sandbox_prefix r2 stop_type x ys)) (outcomes.Stopped charge) r.account.costs =
+      let ends : EndsWithin (other program) most (2 * length ys) (leaves_frame sandbox_prefix r2 stop_type x y2 (unwound (other program) sandbox_prefix r2 stop_type x ys)) (outcomes.Stopped charge) r =
       left y2 r2 (unwound (other program) sandbox_prefix r2 stop_type x ys) x (2 * length ys) charge over (below r2 over stop) in
-      let all : EndsWithin (other program) most (2 * length ys + 2) (Went (record r { frames = y0 ∷ ys })) (outcomes.Stopped charge) r.account.costs =
-      two_before (record r { frames = y0 ∷ ys }) r1 (leaves_frame sandbox_prefix r2 stop_type x y2 (unwound (other program) sandbox_prefix r2 stop_type x ys)) (2 * length ys) (outcomes.Stopped charge) charge one (two ∙ three) ends refl in
+      let all : EndsWithin (other program) most (2 * length ys + 2) (Went (record r { frames = y0 ∷ ys })) (outcomes.Stopped charge) r =
+      two_before (record r { frames = y0 ∷ ys }) r1 r (leaves_frame sandbox_prefix r2 stop_type x y2 (unwound (other program) sandbox_prefix r2 stop_type x ys)) (2 * length ys) (outcomes.Stopped charge) charge one (two ∙ three) ends in
       (all.0, omega (arith, all.1), all.2, all.3, all.4)
 
   by_handler : (z : Frame Declared) (ys : List (Frame Declared)) (r : State) (x : ℕ) (charge : Charge) (m : Declared) (h : Option ℕ) → z.method ≡ declared_map in_sandbox m
       → r.account.exceeded ≡ Some charge → class_at_number r.heap x ≡ stop_type
       → handler_of (other program) sandbox_prefix stop_type z.number (code_of (other program) z.method) ≡ h
       → ((s : State) → s.account.exceeded ≡ Some charge → class_at_number s.heap x ≡ stop_type
-      → EndsWithin (other program) most (2 * length ys) (unwound (other program) sandbox_prefix s stop_type x ys) (outcomes.Stopped charge) s.account.costs)
-      → EndsWithin (other program) most (2 * suc (length ys)) (at_handler sandbox_prefix r stop_type x z ys h (unwound (other program) sandbox_prefix r stop_type x ys)) (outcomes.Stopped charge) r.account.costs
+      → EndsWithin (other program) most (2 * length ys) (unwound (other program) sandbox_prefix s stop_type x ys) (outcomes.Stopped charge) s)
+      → EndsWithin (other program) most (2 * suc (length ys)) (at_handler sandbox_prefix r stop_type x z ys h (unwound (other program) sandbox_prefix r stop_type x ys)) (outcomes.Stopped charge) r
   unfolding rewritten_code in_groups
   by_handler z ys r x charge m None named over stop at below =
-      let ends : EndsWithin (other program) most (2 * length ys) (leaves_frame sandbox_prefix r stop_type x z (unwound (other program) sandbox_prefix r stop_type x ys)) (outcomes.Stopped charge) r.account.costs =
+      let ends : EndsWithin (other program) most (2 * length ys) (leaves_frame sandbox_prefix r stop_type x z (unwound (other program) sandbox_prefix r stop_type x ys)) (outcomes.Stopped charge) r =
       left z r (unwound (other program) sandbox_prefix r stop_type x ys) x (2 * length ys) charge over (below r over stop) in
       (ends.0, omega (arith, ends.1), ends.2, ends.3, ends.4)
   by_handler z ys r x charge m (Some h) named over stop at below = by_code (code_of program m) refl (ap (code_of (other program)) named ∙ code_image program m) where
     by_code : (c : Option Code) → code_of program m ≡ c → code_of (other program) z.method ≡ option_map (rewritten_code program) c
-        → EndsWithin (other program) most (2 * suc (length ys)) (Went (record r { frames = caught z x h ∷ ys })) (outcomes.Stopped charge) r.account.costs
+        → EndsWithin (other program) most (2 * suc (length ys)) (Went (record r { frames = caught z x h ∷ ys })) (outcomes.Stopped charge) r
     by_code None own coded = absurd (none-some h (sym (ap (handler_of (other program) sandbox_prefix stop_type z.number) coded) ∙ at))
     by_code (Some code) own coded = from_start_of
         (begins_handler code z.number stop_type code.ranges (λ k e. e) h (unfolded (sym (ap (handler_of (other program) sandbox_prefix stop_type z.number) coded) ∙ at))) where
-          from_start_of : IsHandlerStart code h → EndsWithin (other program) most (2 * suc (length ys)) (Went (record r { frames = caught z x h ∷ ys })) (outcomes.Stopped charge) r.account.costs
+          from_start_of : IsHandlerStart code h → EndsWithin (other program) most (2 * suc (length ys)) (Went (record r { frames = caught z x h ∷ ys })) (outcomes.Stopped charge) r
           from_start_of hs = caught_again code z ys r x charge h over stop coded hs.number hs.place hs.first (handled m code hs.number own hs.first) below
 
           unfolded : handler_of (other program) sandbox_prefix stop_type z.number (Some (rewritten_code program code)) ≡ Some h
@@ -241,7 +241,7 @@ module _ (program : Program) (most : Thresholds)
           unfolded e = e
 
   pub unwound_stops : (ys : List (Frame Declared)) → AreOriginal ys → (r : State) (x : ℕ) (charge : Charge) → r.account.exceeded ≡ Some charge → class_at_number r.heap x ≡ stop_type
-      → EndsWithin (other program) most (2 * length ys) (unwound (other program) sandbox_prefix r stop_type x ys) (outcomes.Stopped charge) r.account.costs
+      → EndsWithin (other program) most (2 * length ys) (unwound (other program) sandbox_prefix r stop_type x ys) (outcomes.Stopped charge) r
   unfolding unwound
   unwound_stops [] original r x charge exceeded stop = at_once r charge 0 _ (ended r charge _ exceeded)
   unwound_stops (y ∷ ys) original r x charge exceeded stop =

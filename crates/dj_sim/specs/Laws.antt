@@ -63,7 +63,7 @@ Pays = (program : Program) → HasObject program → AreHandlersWithin program �
 abbrev pub Stops : Type 0
 Stops = (program : Program) → HasObject program → AreHandlersWithin program → (most : Thresholds) (frames : List (Frame Declared)) → AreOriginal frames
     → (r : State) (exception : ℕ) (charge : Charge) → r.account.exceeded ≡ Some charge → class_at_number r.heap exception ≡ class_type stop_class
-    → EndsWithin (rewritten program) most (2 * length frames) (unwound (rewritten program) sandbox_prefix r (class_type stop_class) exception frames) (outcomes.Stopped charge) r.account.costs
+    → EndsWithin (rewritten program) most (2 * length frames) (unwound (rewritten program) sandbox_prefix r (class_type stop_class) exception frames) (outcomes.Stopped charge) r
 
 -- Each frame that waits for one that isn't an initialiser's is paid when a metered run begins, and stays so.
 pub record KeepsWaiting : Type 0 where

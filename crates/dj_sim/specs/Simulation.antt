@@ -1,11 +1,10 @@
 -- States of a metered run, and of the plain run of the rewritten program.
 use Rattle.std.specs.Prelude.{◌≡◌, ℕ, suc, ◌+◌, ◌*◌, ◌<◌, ◌≤◌, Bool, true, false, List, [], ◌∷◌, map, length, Option, Some, None, ⊤}
 use Rattle.dj_names.specs.declared.descriptor.Ty.{Ty}
-use Rattle.dj_names.specs.declared.run.Costs.{Costs}
 use Rattle.dj_names.specs.declared.run.Outcome.{Outcome}
 use Rattle.dj_names.specs.declared.run.Outcome.TheVariants as outcomes
 use Rattle.dj_names.specs.declared.run.Thresholds.{Thresholds}
-use Rattle.dj_names.specs.trusted.Heaps.{Object, class_of}
+use Rattle.dj_names.specs.trusted.Heaps.{Object, class_of, with_new}
 use Rattle.dj_names.specs.Heaps.{heap_map}
 use Rattle.dj_names.specs.trusted.Types.{class_type}
 use Rattle.dj_names.specs.Types.{in_sandbox, sandbox_prefix, type_map}
@@ -17,7 +16,7 @@ use Rattle.dj_model.specs.trusted.Linking.{is_subtype}
 use Rattle.dj_model.specs.trusted.State.{Terms, Accounted, Frame, State, To, Flow, Goes, Effect}
 use Rattle.dj_model.specs.trusted.Effects.{effect}
 use Rattle.dj_model.specs.trusted.Initialisation.{mark, Initialised, Ready, Waits, Fails}
-use Rattle.dj_model.specs.trusted.Step.{StepAnswer, Went, Ended, IllFormed, part_of}
+use Rattle.dj_model.specs.trusted.Step.{StepAnswer, Went, Ended, IllFormed, new_stop, part_of}
 use Rattle.dj_model.specs.trusted.Charging.{Charged, Fine, Over}
 use Rattle.dj_model.specs.trusted.Runs.{Going, Finished, from_start, steps}
 use Rattle.dj_model.specs.Mapping.{outcome_map}
@@ -117,10 +116,18 @@ pub record HasEffect (program : Program) (most : Thresholds) (x : Frame Declared
 abbrev pub plain_terms : Thresholds → Terms
 plain_terms most = record { limit = None; counting = Accounted most }
 
--- from there the plain run ends, after at most this many steps, with this outcome and these costs
-abbrev pub EndsWithin : Program → Thresholds → ℕ → StepAnswer → Outcome → Costs → Type 0
-EndsWithin program most bound a outcome costs =
-    (n : ℕ) × (n ≤ bound) × (t : State) × (from_start (steps program sandbox_prefix (plain_terms most) n) a ≡ Finished outcome t n) × (t.account.costs ≡ costs)
+-- the costs, the heap's bytes and the literals are the same
+abbrev pub IsLeft : State → State → Type 0
+IsLeft left t = (t.account.costs ≡ left.account.costs) × (t.heap.used ≡ left.heap.used) × (t.literals ≡ left.literals)
+
+-- from there the plain run ends, after at most this many steps, with this outcome and what is left in this state
+abbrev pub EndsWithin : Program → Thresholds → ℕ → StepAnswer → Outcome → State → Type 0
+EndsWithin program most bound a outcome left =
+    (n : ℕ) × (n ≤ bound) × (t : State) × (from_start (steps program sandbox_prefix (plain_terms most) n) a ≡ Finished outcome t n) × IsLeft left t
+
+-- the object that stops the run is the last that is made
+abbrev pub with_stop : State → State
+with_stop s = record s { heap = with_new s.heap new_stop }
 
 -- each frame is one of a method of the original program
 abbrev pub AreOriginal : List (Frame Declared) → Type 0
@@ -132,7 +139,7 @@ abbrev pub PaidImage : Program → Program → Thresholds → ℕ → Bool → S
 PaidImage program R most k touched s x below (Fine account) = (now : Bool)
     × (steps R sandbox_prefix (plain_terms most) k (state_image program touched s) ≡ Going (state_image program now (record s { account = account; frames = record x { paid = true } ∷ below })))
 PaidImage program R most k touched s x below (Over charge account) =
-    EndsWithin R most (k + 2 * suc (length below)) (Went (state_image program touched s)) (outcomes.Stopped charge) account.costs
+    EndsWithin R most (k + 2 * suc (length below)) (Went (state_image program touched s)) (outcomes.Stopped charge) (with_stop (record s { account = account }))
 
 -- ---- answers
 

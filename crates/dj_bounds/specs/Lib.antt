@@ -1,0 +1,4 @@
+pub mod Acts
+pub mod Bytes
+pub mod Texts
+pub mod Laws
