@@ -49,9 +49,9 @@ module _ (program : Program) (sound : IsSound program []) (quiet : AsksNothing p
     pub sound_effect : (t : State) → HasSoundEffect program [] (metered_terms most) x.method.class at.signature at.code at.instruction at.before left (part_of x t)
     sound_effect t = elim (kinds_kept program [] (metered_terms most) x.method.class at.signature at.code at.instruction at.before left (part_of x t) sound (linked_there program sound x ready)
         (record { locals = at.locals; operands = ready.operands }) at.room (left_there program [] sound x at).1) [
-      | inl d ↦ d
-      | inr starved ↦ absurd (let no : None ≡ Some starved.question = sym (quiet starved.class starved.method starved.id starved.there.0 starved.there.1 starved.body starved.arguments) ∙ starved.asks in cc)
-    ]
+          | inl d ↦ d
+          | inr starved ↦ absurd (let no : None ≡ Some starved.question = sym (quiet starved.class starved.method starved.id starved.there.0 starved.there.1 starved.body starved.arguments) ∙ starved.asks in cc)
+        ]
 
     later : (n : ℕ) (before now : List Bool) (a : StepAnswer) → begun program program before ≤ begun program program now → Spends program short n now a → Spends program short n before a
     later n before now (Went t) l k = omega (arith, l, k)

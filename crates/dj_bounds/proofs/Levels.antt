@@ -73,8 +73,8 @@ module _ (program : Program) (prefix : Prefix) (terms : Terms) (s : State) where
   unfolding initialise
   initialise_level class = then_level (λ next. with_frames next (initialiser_frames program classes)) (frames_level (initialiser_frames program classes))
       (constants_of program prefix terms classes (record s { initialised = mark_all program classes s.initialised })) (all_constants_level classes _ (refl, refl)) where
-    classes : List Name
-    classes = reverse (not_initialised program s.initialised (chain program class))
+        classes : List Name
+        classes = reverse (not_initialised program s.initialised (chain program class))
 
   pub prepared_level : (used : Option Name) → InitLevel (prepared program prefix terms used s)
   prepared_level None = (refl, refl)

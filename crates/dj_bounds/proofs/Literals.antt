@@ -150,8 +150,8 @@ module _ (program : Program) (prefix : Prefix) (terms : Terms) (texts : List (Li
   unfolding initialise
   initialise_has class t k = then_has (λ next. with_frames next (initialiser_frames program classes)) (frames_have (initialiser_frames program classes))
       (constants_of program prefix terms classes (record t { initialised = mark_all program classes t.initialised })) (all_constants_have classes _ k) where
-    classes : List Name
-    classes = reverse (not_initialised program t.initialised (chain program class))
+        classes : List Name
+        classes = reverse (not_initialised program t.initialised (chain program class))
 
   prepared_has : (used : Option Name) (t : State) → Has t → InitHas (prepared program prefix terms used t)
   prepared_has None t k = k

@@ -243,8 +243,8 @@ module _ (program : Program) (sound : IsSound program []) (base : HasBase progra
         from_start_stays R sandbox_prefix (plain_terms most) h.steps k start_of l (subst IsOver (sym h.finished) tt) ∙ h.finished in
         let none : taken_of [] h.end ≡ 0 = omega arith in
         ap (report_of [] k) later
-            ∙ (ap (λ c. Some (record { outcome = outcome_map in_sandbox h.outcome; costs = c; steps = h.steps; taken = taken_of [] h.end })) h.same
-            ∙ ap (λ m. Some (record { outcome = outcome_map in_sandbox h.outcome; costs = h.costs; steps = h.steps; taken = m })) none)
+        ∙ (ap (λ c. Some (record { outcome = outcome_map in_sandbox h.outcome; costs = c; steps = h.steps; taken = taken_of [] h.end })) h.same
+        ∙ ap (λ m. Some (record { outcome = outcome_map in_sandbox h.outcome; costs = h.costs; steps = h.steps; taken = m })) none)
 
     -- ---- its bytes
 

@@ -4,4 +4,6 @@
 
 mod laws;
 
-pub use laws::{few_initialisers, limit_is_idle, literals_are_within, metered_is_bounded, work_is_bounded};
+pub use laws::{
+    few_initialisers, limit_is_idle, literals_are_within, metered_is_bounded, work_is_bounded,
+};
