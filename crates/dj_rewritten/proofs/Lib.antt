@@ -16,3 +16,4 @@ pub mod Programs
 pub mod Sound
 pub mod Once
 mod SizeFacts
+mod FileFacts
