@@ -1,16 +1,18 @@
 -- Constants of one index, and those of the accounter.
 use Rattle.std.proofs.Common.{◌≡◌, ℕ, zero, suc, ◌+◌, ◌-◌, ◌*◌, ◌≤◌, ◌<◌, ◌^◌, true, false, List, [], ◌∷◌, ◌++◌, take, length, Option, Some, slice_get, option_and_then, refl, sym, ap, subst, ◌∙◌, append_assoc, arith, inl, inr, length-append}
-use Rattle.std.specs.Prelude.{IsSomeAnd, ⊤}
+use Rattle.std.specs.Prelude.{IsSomeAnd, ⊤, Result, Ok, Err, OnOk}
 use Rattle.dj_names.specs.trusted.Types.{Name}
 use Rattle.dj_names.specs.trusted.Names.{IsMethodName}
 use Rattle.dj_names.specs.trusted.Descriptors.{IsMethodDescriptor}
 use Rattle.dj_names.specs.trusted.ModifiedUtf8.{IsModifiedUtf8}
 use Rattle.dj_names.specs.trusted.NameReading.{reads_class_name}
 use Rattle.dj_names.specs.Library.{accounter_class, accounter_methods}
-use Rattle.dj_names.specs.Tests.{class_name_test, modified_utf8_test}
+use Rattle.dj_names.specs.Tests.{class_name_test}
 use Rattle.dj_names.proofs.TestLaws.{class_name_test-decides, modified_utf8_test-decides}
 use Rattle.dj_pool.specs.trusted.Pool.{Constant, Utf8, Class, Method, NameAndType, takes_two, indexed, constant_at, text_of, class_text_of, text_at, names_of, desc_at, IsClassText, NamesAnyClass, IsConstant, IsPool}
 use Rattle.dj_pool.specs.Answers.{last_index, length_with}
+use Rattle.dj_pool.specs.Scan.{has_foreign}
+use Rattle.dj_pool.proofs.Scanned.{plain_is}
 use Rattle.dj_pool.proofs.ChangeLaws.{appended_is_pool, one_narrow, keeps_names}
 use Rattle.dj_rename.specs.declared.accounter.Called.{Called}
 use Rattle.dj_rename.specs.Pools.{method_constants, accounter_constants}
@@ -84,6 +86,16 @@ call_grown p0 p1 p2 p3 p4 m class at at_is one two three four =
     two_after p0 p3 p4 (Utf8 m.name.now ∷ Utf8 m.desc.now ∷ NameAndType at (at + 1) ∷ []) (Method class (at + 2)) (three_after p0 p1 p2 p3 m at one two three) four
     ∙ ap (λ (i : ℕ). p0 ++ called_constants class i (m ∷ [])) at_is
 
+-- what follows, where the answer is one
+on_ok : {A E : Type 0} (P Q : Type 0) → (P → Q) → (r : Result A E) → OnOk r P → OnOk r Q
+on_ok P Q f (Ok a) p = f p
+on_ok P Q f (Err e) p = tt
+
+pub call_ends : {A E : Type 0} (r : Result A E) (p0 p1 p2 p3 p4 : List Constant) (m : Called) (class at : ℕ) → at ≡ length p0 + 1 → p1 ≡ p0 ++ Utf8 m.name.now ∷ [] → p2 ≡ p1 ++ Utf8 m.desc.now ∷ []
+    → p3 ≡ p2 ++ NameAndType at (at + 1) ∷ [] → OnOk r (p4 ≡ p3 ++ Method class (at + 2) ∷ []) → OnOk r (p4 ≡ p0 ++ called_constants class (length p0 + 1) (m ∷ []))
+call_ends r p0 p1 p2 p3 p4 m class at at_is one two three =
+    on_ok (p4 ≡ p3 ++ Method class (at + 2) ∷ []) (p4 ≡ p0 ++ called_constants class (length p0 + 1) (m ∷ [])) (λ four. call_grown p0 p1 p2 p3 p4 m class at at_is one two three four) r
+
 -- ---- methods
 
 called_length : (class at : ℕ) (methods : List Called) → length (called_constants class at methods) ≡ 4 * length methods
@@ -105,6 +117,11 @@ long : (before now : List Constant) (class : ℕ) (methods : List Called) → no
 long before now class methods e =
     ap length e ∙ length-append before (called_constants class (length before + 1) methods) ∙ ap (λ (n : ℕ). length before + n) (called_length class (length before + 1) methods)
 
+take_next : (i : ℕ) (methods : List Called) (m : Called) → slice_get methods i ≡ Some m → take (suc i) methods ≡ take i methods ++ m ∷ []
+take_next i [] m e = absurd cc
+take_next zero (x ∷ methods) m e = let same : x ≡ m = cc in ap (λ (y : Called). y ∷ []) same
+take_next (suc i) (x ∷ methods) m e = ap (λ (l : List Called). x ∷ l) (take_next i methods m e)
+
 -- where these of the methods are appended there is room for the next, and the class is there
 pub room_left : (before now : List Constant) (class i : ℕ) (methods : List Called) → now ≡ before ++ called_constants class (length before + 1) (take i methods)
     → length before + 4 * length methods ≤ last_index → i < length methods → length now + 4 ≤ last_index
@@ -125,15 +142,14 @@ methods_grown before now next class methods m e f =
 
 -- ---- the class
 
-utf8 : (text : Name) → modified_utf8_test text ≡ true → IsModifiedUtf8 text
-utf8 text e = (modified_utf8_test-decides text).0 e
+utf8 : (text : Name) → has_foreign text ≡ false → IsModifiedUtf8 text
+utf8 text e = (modified_utf8_test-decides text).0 (plain_is text e)
 
 accounter_text : IsClassText accounter_class
 unfolding class_name_test reads_class_name
 accounter_text = inl ((class_name_test-decides accounter_class).0 refl)
 
 pub name_good : (pool : List Constant) → IsConstant pool (Utf8 accounter_class)
-unfolding modified_utf8_test
 name_good pool = ((omega arith, utf8 accounter_class refl), tt)
 
 pub class_good : (p0 p1 : List Constant) (first : ℕ) → length p0 + 26 ≤ last_index → first ≡ length p0 + 1 → p1 ≡ p0 ++ Utf8 accounter_class ∷ [] → IsConstant p1 (Class first)
@@ -145,11 +161,19 @@ class_good p0 p1 first room is one =
 pub class_grown : (p0 p1 p2 : List Constant) (first : ℕ) → p1 ≡ p0 ++ Utf8 accounter_class ∷ [] → p2 ≡ p1 ++ Class first ∷ [] → p2 ≡ p0 ++ Utf8 accounter_class ∷ (Class first ∷ [])
 class_grown p0 p1 p2 first one two = two_after p0 p1 p2 (Utf8 accounter_class ∷ []) (Class first) one two
 
+pub class_ends : {A E : Type 0} (r : Result A E) (p0 p1 p2 : List Constant) (first : ℕ) → p1 ≡ p0 ++ Utf8 accounter_class ∷ [] → OnOk r (p2 ≡ p1 ++ Class first ∷ []) → OnOk r (p2 ≡ p0 ++ Utf8 accounter_class ∷ (Class first ∷ []))
+class_ends r p0 p1 p2 first one =
+    on_ok (p2 ≡ p1 ++ Class first ∷ []) (p2 ≡ p0 ++ Utf8 accounter_class ∷ (Class first ∷ [])) (λ two. class_grown p0 p1 p2 first one two) r
+
 pub class_there : (p0 p2 : List Constant) (first : ℕ) → first ≡ length p0 + 1 → p2 ≡ p0 ++ Utf8 accounter_class ∷ (Class first ∷ []) → NamesAnyClass p2 (first + 1)
 class_there p0 p2 first is two =
     let ks : List Constant = Utf8 accounter_class ∷ (Class first ∷ []) in
     subst (λ (l : List Constant). NamesAnyClass l (first + 1)) (sym two)
     (at_some (λ _. ⊤) (option_and_then class_text_of (constant_at (p0 ++ ks) (first + 1))) first (ap (option_and_then class_text_of) (constant_after p0 ks (first + 1) 1 (omega (arith, is)))) tt)
+
+pub class_names : {A E : Type 0} (r : Result A E) (p0 p1 p2 : List Constant) (first : ℕ) → first ≡ length p0 + 1 → p1 ≡ p0 ++ Utf8 accounter_class ∷ [] → OnOk r (p2 ≡ p1 ++ Class first ∷ []) → OnOk r (NamesAnyClass p2 (first + 1))
+class_names r p0 p1 p2 first is one =
+    on_ok (p2 ≡ p1 ++ Class first ∷ []) (NamesAnyClass p2 (first + 1)) (λ two. class_there p0 p2 first is (class_grown p0 p1 p2 first one two)) r
 
 -- ---- all of them
 

@@ -1,21 +1,24 @@
 -- Rewritten methods and files by plain values, each with something that it is not.
-use Rattle.std.proofs.Common.{◌≡◌, ℕ, pos, true, List, [], ◌∷◌, length, Some, refl, sym, ap, ◌∙◌, arith, codes, ◌⊎◌, ◌<◌, ◌≤◌, ◌^◌, subst, inl, inr}
+use Rattle.std.proofs.Common.{◌≡◌, ℕ, ◌+◌, pos, true, false, List, [], ◌∷◌, map, length, length-append, Some, refl, sym, ap, ◌∙◌, arith, codes, ◌⊎◌, ◌<◌, ◌≤◌, ◌^◌, subst, inl, inr}
 use Rattle.dj_names.specs.trusted.Types.{Name}
 use Rattle.dj_names.specs.trusted.Names.{IsUnqualifiedName, IsMethodName}
 use Rattle.dj_names.specs.trusted.Descriptors.{IsFieldDescriptor, IsMethodDescriptor}
-use Rattle.dj_names.specs.Tests.{modified_utf8_test, class_name_test, unqualified_name_test, method_name_test, method_descriptor_test}
+use Rattle.dj_names.specs.Tests.{class_name_test, unqualified_name_test, method_name_test, method_descriptor_test}
 use Rattle.dj_names.proofs.TestLaws.{modified_utf8_test-decides, class_name_test-decides, method_name_test-decides, method_descriptor_test-decides}
 use Rattle.dj_names.specs.trusted.NameReading.{reads_class_name}
 use Rattle.dj_names.specs.trusted.DescReading.{desc_read, method_read, params_read, type_read, dims_read, of_read, class_read, name_read, return_read, field_read}
 use Rattle.dj_ops.specs.declared.instruction.Instr.TheVariants as instrs
 use Rattle.dj_ops.specs.trusted.Forms.{form_of}
 use Rattle.dj_ops.specs.Mnemonics.{goto}
-use Rattle.dj_pool.specs.trusted.Pool.{Constant, Utf8, Class, indexed, IsClassText, IsConstant, IsPool}
+use Rattle.dj_pool.specs.trusted.Pool.{Constant, Utf8, Class, indexed, IsClassText, IsWhole, IsPool}
+use Rattle.dj_pool.specs.Scan.{has_foreign}
+use Rattle.dj_pool.proofs.Scanned.{plain_is}
 use Rattle.dj_class.specs.trusted.ClassFile.{AttributeInfo, MemberInfo, ClassFile, IsValid, class_bytes}
 use Rattle.dj_class.specs.trusted.Code.{CodeInfo, code_info_bytes}
 use Rattle.dj_layout.specs.trusted.Layouts.{placed, placed_bytes}
 use Rattle.dj_model.specs.trusted.Opcodes.{instruction_of, simple}
 use Rattle.dj_declarations.specs.trusted.Files.{type_in, desc_in}
+use Rattle.std.specs.Prelude.{⊤}
 use Rattle.std.specs.List.{flat_map, AllByRecursion}
 use Rattle.dj_program.specs.trusted.Codes.{CodeParts, code_in, IsMethodCode}
 use Rattle.dj_program.specs.trusted.Programs.{AreSideBySide}
@@ -23,8 +26,8 @@ use Rattle.dj_program.proofs.Once.{one_parts}
 use Rattle.dj_groups.specs.Groups.{Group, groups_of, start}
 use Rattle.dj_groups.specs.Grouped.{labels_in_groups}
 use Rattle.dj_rename.specs.Names.{renamed_class, renamed_desc}
-use Rattle.dj_rename.specs.Pools.{needs, first_places, appended_texts, renamed_pool, accounter_constants, first_index, rewritten_pool, IsFull}
-use Rattle.dj_rename.proofs.Fitting.{rewritten_long}
+use Rattle.dj_rename.specs.Pools.{needs, first_places, appended_texts, renamed_constant, renamed_pool, accounter_constants, first_index, rewritten_pool, IsFull}
+use Rattle.dj_rename.proofs.PoolLaws.{length_map}
 use Rattle.dj_rewritten.specs.Files.{IsRewrittenCode, IsRewrittenBody, IsRewrittenMethod, IsRewrittenFile}
 use Rattle.dj_rewritten.specs.TooLarge.{DoesNotFit, first_of_class, IsTooLargeMethod, IsTooLargeClass}
 use Rattle.dj_rewritten.proofs.SizeFacts.{plain, one_return, stack_fits}
@@ -76,10 +79,10 @@ code_rewritten = record {
 }
 
 stack_of_one_more : IsRewrittenCode [] names 4 (returning 2 []) returns (returning 3 []) → ⊥
-stack_of_one_more is = let e : 3 ≡ 4 = ap (λ (c : CodeInfo). c.max_stack) is.is in absurd cc
+stack_of_one_more is = let e : 3 ≡ 4 = ap (λ (c : CodeInfo). c.max_stack) is.is in absurd (omega (arith, e))
 
 table_kept : IsRewrittenCode [] names 4 (returning 2 (local_variables ∷ [])) returns (returning 4 (local_variables ∷ [])) → ⊥
-table_kept is = let e : local_variables ∷ [] ≡ [] = ap (λ (c : CodeInfo). c.attributes) is.is in absurd cc
+table_kept is = let e : 1 ≡ 0 = ap (λ (c : CodeInfo). length c.attributes) is.is in absurd (omega (arith, e))
 
 -- a jump to itself pays for it
 abbrev jumps : CodeParts
@@ -91,11 +94,11 @@ jumping stack code = record { max_stack = stack; max_locals = 0; code = code; ta
 charge_left_out : IsRewrittenCode [] names 4 (jumping 0 (167 ∷ 0 ∷ 0 ∷ [])) jumps (jumping 2 (167 ∷ 0 ∷ 0 ∷ [])) → ⊥
 unfolding groups_of code_in instruction_of simple labels_in_groups start form_of
 charge_left_out is =
-    let e : 167 ∷ 0 ∷ 0 ∷ [] ≡ 184 ∷ 0 ∷ 9 ∷ 167 ∷ 255 ∷ 253 ∷ [] =
-    ap (λ (c : CodeInfo). c.code) is.is
-    ∙ is.is_laid.code
-    ∙ ap (λ (at : List ℕ). flat_map placed_bytes (placed at (instrs.Member 184 9 ∷ instrs.Branch goto (pos 0) ∷ []))) is.is_laid.starts in
-    absurd cc
+    let e : 3 ≡ 6 =
+    ap (λ (c : CodeInfo). length c.code) is.is
+    ∙ ap length is.is_laid.code
+    ∙ ap (λ (at : List ℕ). length (flat_map placed_bytes (placed at (instrs.Member 184 9 ∷ instrs.Branch goto (pos 0) ∷ [])))) is.is_laid.starts in
+    absurd (omega (arith, e))
 
 -- ---- methods
 
@@ -104,6 +107,7 @@ abbrev method : ℕ → CodeInfo → MemberInfo
 method flags info = record { flags = flags; name = 1; desc = 2; attributes = record { name = 1; body = code_info_bytes info } ∷ [] }
 
 abbrev own_code : (stack : ℕ) → stack < 2 ^ 16 → IsMethodCode names (method 33 (returning stack (local_variables ∷ []))) (one_return stack 1)
+unfolding form_of
 own_code stack short = record {
   info = returning stack (local_variables ∷ []);
   own = record {
@@ -145,7 +149,7 @@ method_rewritten = record {
 }
 
 still_synchronized : IsRewrittenMethod [] names (2 ∷ []) (method 33 (returning 2 (local_variables ∷ []))) (method 33 (returning 4 [])) → ⊥
-still_synchronized is = let e : 33 ≡ 1 = ap (λ (m : MemberInfo). m.flags) is.is in absurd cc
+still_synchronized is = let e : 33 ≡ 1 = ap (λ (m : MemberInfo). m.flags) is.is in absurd (omega (arith, e))
 
 code_attribute_gone : IsRewrittenMethod [] names (2 ∷ []) (method 33 (returning 2 (local_variables ∷ []))) (record { flags = 1; name = 1; desc = 2; attributes = [] }) → ⊥
 code_attribute_gone is = none is.attributes (ap (λ (m : MemberInfo). m.attributes) is.is) is.each where
@@ -193,7 +197,7 @@ file pool attributes = record {
 }
 
 attribute_kept : (pool : List Constant) → IsRewrittenFile [] (file names (local_variables ∷ [])) (file pool (local_variables ∷ [])) → ⊥
-attribute_kept pool is = let e : local_variables ∷ [] ≡ [] = ap (λ (c : ClassFile). c.attributes) is.is in absurd cc
+attribute_kept pool is = let e : 1 ≡ 0 = ap (λ (c : ClassFile). length c.attributes) is.is in absurd (omega (arith, e))
 
 -- ---- the smallest file
 
@@ -208,9 +212,8 @@ small_pool : rewritten_pool small [] ≡ small_rewritten
 unfolding rewritten_pool renamed_pool appended_texts first_places needs renamed_class renamed_desc type_in desc_in desc_read method_read params_read type_read dims_read of_read class_read name_read reads_class_name return_read field_read
 small_pool = refl
 
-module _ {pool : List Constant} where
-  text_is : (text : Name) → length text < 2 ^ 16 → modified_utf8_test text ≡ true → IsConstant pool (Utf8 text)
-  text_is text short e = ((short, (modified_utf8_test-decides text).0 e), tt)
+text_is : (text : Name) → length text < 2 ^ 16 → has_foreign text ≡ false → IsWhole (Utf8 text) × ⊤
+text_is text short e = ((short, (modified_utf8_test-decides text).0 (plain_is text e)), tt)
 
 class_text : (text : Name) → class_name_test text ≡ true → IsClassText text
 class_text text e = inl ((class_name_test-decides text).0 e)
@@ -222,41 +225,97 @@ names_are : (name desc : Name) → method_name_test name ≡ true → method_des
 names_are name desc n d = inr ((method_name_test-decides name).0 n, desc_is desc d)
 
 small_valid : IsPool small_rewritten
-unfolding accounter_constants indexed modified_utf8_test class_name_test method_name_test unqualified_name_test method_descriptor_test reads_class_name method_read params_read type_read dims_read of_read class_read name_read return_read
+unfolding accounter_constants indexed class_name_test method_name_test unqualified_name_test method_descriptor_test reads_class_name method_read params_read type_read dims_read of_read class_read name_read return_read
 small_valid = record {
   constants = small_rewritten;
   indexes = refl;
   each = (
     text_is (codes "A") (omega arith) refl,
-    (omega arith, class_text (codes "sandbox/A") refl),
-    text_is (codes "sandbox/A") (omega arith) refl,
-    text_is (codes "djvm/Accounter") (omega arith) refl,
-    (omega arith, class_text (codes "djvm/Accounter") refl),
-    text_is (codes "recordJump") (omega arith) refl,
-    text_is (codes "()V") (omega arith) refl,
-    ((omega arith, omega arith), names_are (codes "recordJump") (codes "()V") refl refl),
-    ((omega arith, omega arith), (tt, desc_is (codes "()V") refl)),
-    text_is (codes "recordInvocation") (omega arith) refl,
-    text_is (codes "()V") (omega arith) refl,
-    ((omega arith, omega arith), names_are (codes "recordInvocation") (codes "()V") refl refl),
-    ((omega arith, omega arith), (tt, desc_is (codes "()V") refl)),
-    text_is (codes "recordThrow") (omega arith) refl,
-    text_is (codes "()V") (omega arith) refl,
-    ((omega arith, omega arith), names_are (codes "recordThrow") (codes "()V") refl refl),
-    ((omega arith, omega arith), (tt, desc_is (codes "()V") refl)),
-    text_is (codes "recordAllocation") (omega arith) refl,
-    text_is (codes "(I)V") (omega arith) refl,
-    ((omega arith, omega arith), names_are (codes "recordAllocation") (codes "(I)V") refl refl),
-    ((omega arith, omega arith), (tt, desc_is (codes "(I)V") refl)),
-    text_is (codes "recordArray") (omega arith) refl,
-    text_is (codes "(II)V") (omega arith) refl,
-    ((omega arith, omega arith), names_are (codes "recordArray") (codes "(II)V") refl refl),
-    ((omega arith, omega arith), (tt, desc_is (codes "(II)V") refl)),
-    text_is (codes "checkCatch") (omega arith) refl,
-    text_is (codes "(Lsandbox/java/lang/Object;)V") (omega arith) refl,
-    ((omega arith, omega arith), names_are (codes "checkCatch") (codes "(Lsandbox/java/lang/Object;)V") refl refl),
-    ((omega arith, omega arith), (tt, desc_is (codes "(Lsandbox/java/lang/Object;)V") refl)),
-    tt,
+    (
+      (omega arith, class_text (codes "sandbox/A") refl),
+      (
+        text_is (codes "sandbox/A") (omega arith) refl,
+        (
+          text_is (codes "djvm/Accounter") (omega arith) refl,
+          (
+            (omega arith, class_text (codes "djvm/Accounter") refl),
+            (
+              text_is (codes "recordJump") (omega arith) refl,
+              (
+                text_is (codes "()V") (omega arith) refl,
+                (
+                  ((omega arith, omega arith), names_are (codes "recordJump") (codes "()V") refl refl),
+                  (
+                    ((omega arith, omega arith), (tt, desc_is (codes "()V") refl)),
+                    (
+                      text_is (codes "recordInvocation") (omega arith) refl,
+                      (
+                        text_is (codes "()V") (omega arith) refl,
+                        (
+                          ((omega arith, omega arith), names_are (codes "recordInvocation") (codes "()V") refl refl),
+                          (
+                            ((omega arith, omega arith), (tt, desc_is (codes "()V") refl)),
+                            (
+                              text_is (codes "recordThrow") (omega arith) refl,
+                              (
+                                text_is (codes "()V") (omega arith) refl,
+                                (
+                                  ((omega arith, omega arith), names_are (codes "recordThrow") (codes "()V") refl refl),
+                                  (
+                                    ((omega arith, omega arith), (tt, desc_is (codes "()V") refl)),
+                                    (
+                                      text_is (codes "recordAllocation") (omega arith) refl,
+                                      (
+                                        text_is (codes "(I)V") (omega arith) refl,
+                                        (
+                                          ((omega arith, omega arith), names_are (codes "recordAllocation") (codes "(I)V") refl refl),
+                                          (
+                                            ((omega arith, omega arith), (tt, desc_is (codes "(I)V") refl)),
+                                            (
+                                              text_is (codes "recordArray") (omega arith) refl,
+                                              (
+                                                text_is (codes "(II)V") (omega arith) refl,
+                                                (
+                                                  ((omega arith, omega arith), names_are (codes "recordArray") (codes "(II)V") refl refl),
+                                                  (
+                                                    ((omega arith, omega arith), (tt, desc_is (codes "(II)V") refl)),
+                                                    (
+                                                      text_is (codes "checkCatch") (omega arith) refl,
+                                                      (
+                                                        text_is (codes "(Lsandbox/java/lang/Object;)V") (omega arith) refl,
+                                                        (
+                                                          ((omega arith, omega arith), names_are (codes "checkCatch") (codes "(Lsandbox/java/lang/Object;)V") refl refl),
+                                                          (
+                                                            ((omega arith, omega arith), (tt, desc_is (codes "(Lsandbox/java/lang/Object;)V") refl)),
+                                                            tt,
+                                                          ),
+                                                        ),
+                                                      ),
+                                                    ),
+                                                  ),
+                                                ),
+                                              ),
+                                            ),
+                                          ),
+                                        ),
+                                      ),
+                                    ),
+                                  ),
+                                ),
+                              ),
+                            ),
+                          ),
+                        ),
+                      ),
+                    ),
+                  ),
+                ),
+              ),
+            ),
+          ),
+        ),
+      ),
+    ),
   );
   count = omega arith;
 }
@@ -288,6 +347,21 @@ unfolding rewritten_pool renamed_pool accounter_constants
 pool_kept is = let e : length small ≡ length (rewritten_pool small []) = ap (λ (c : ClassFile). length c.pool) is.is in absurd (omega (arith, e, ap length small_pool))
 
 -- ---- classes that are too large
+
+accounter_count : (first : ℕ) → length (accounter_constants first) ≡ 26
+unfolding accounter_constants
+accounter_count first = refl
+
+rewritten_long : (pool : List Constant) (descs : List ℕ) → length (rewritten_pool pool descs) ≡ length pool + length (appended_texts pool descs) + 26
+unfolding rewritten_pool renamed_pool
+rewritten_long pool descs = omega (
+  arith,
+  length-append (renamed_pool pool (appended_texts pool descs)) (accounter_constants (first_index pool (appended_texts pool descs))),
+  length-append (map (renamed_constant pool (appended_texts pool descs)) pool) (map Utf8 (appended_texts pool descs)),
+  length_map (renamed_constant pool (appended_texts pool descs)) pool,
+  length_map Utf8 (appended_texts pool descs),
+  accounter_count (first_index pool (appended_texts pool descs)),
+)
 
 -- 65,509 constants and the accounter's 26 are one too many
 full_class : (pool : List Constant) → length pool ≡ 65509 → IsTooLargeClass [] (file pool [])

@@ -25,10 +25,11 @@ object_fits big = omega (arith, big)
 call_fits : IsBigObject (Record Allocations) → ⊥
 call_fits big = big
 
-abbrev returning : ℕ → CodeParts
-returning stack = record { max_stack = stack; max_locals = 0; labelled = record { code = instrs.Simple 177 ∷ []; ranges = [] }; frames = Some [] }
+-- one `return`
+abbrev pub one_return : ℕ → ℕ → CodeParts
+one_return stack locals = record { max_stack = stack; max_locals = locals; labelled = record { code = instrs.Simple 177 ∷ []; ranges = [] }; frames = Some [] }
 
-deep_stack : DoesNotFit 10 [] (returning 65534)
+deep_stack : DoesNotFit 10 [] (one_return 65534 0)
 deep_stack = inr (inl (omega arith))
 
 -- ---- code that fits
@@ -38,13 +39,10 @@ abbrev pub plain : List Group
 plain = record { arrives = false; charge = []; own = Kept } ∷ []
 
 no_object : HasBigObject plain → ⊥
-no_object big = go big.1.0.0 big.1.0.1.0 big.1.0.1.1 where
-  go : (k : ℕ) → k < 1 → slice_index_or plain k big.0 ≡ big.0 → ⊥
-  go zero less e = let none : 0 ≡ length (inserted big.0) = ap (λ (g : Group). length (inserted g)) e in absurd (omega (arith, none, big.1.1.1.0.1.0))
+no_object (g, (k, less, e), x, (i, within, is), big) = go k less e where
+  go : (k : ℕ) → k < 1 → slice_index_or plain k g ≡ g → ⊥
+  go zero less e = let none : 0 ≡ length (inserted g) = ap (λ (g : Group). length (inserted g)) e in absurd (omega (arith, none, within))
   go (suc k) less e = absurd (omega (arith, less))
-
-abbrev pub one_return : ℕ → ℕ → CodeParts
-one_return stack locals = record { max_stack = stack; max_locals = locals; labelled = record { code = instrs.Simple 177 ∷ []; ranges = [] }; frames = Some [] }
 
 first_past : (number : ℕ) → IsFirstPast (instrs.Simple 177 ∷ []) number → ⊥
 first_past zero h = absurd (omega (arith, h.past))
