@@ -1,6 +1,6 @@
 -- The rewritten pool, and what doesn't fit it.
 use Rattle.std.proofs.Common.{◌≡◌, ℕ, suc, ◌+◌, ◌≤◌, ◌<◌, Bool, true, false, List, [], ◌∷◌, ◌++◌, map, length, get_or, Option, Some, None, refl, sym, ap, subst, ◌∙◌, arith, if◌then◌else◌, length-append}
-use Rattle.std.specs.Prelude.{⊤, nat_lt}
+use Rattle.std.specs.Prelude.{⊤, nat_lt, Result, Err, IfErr}
 use Rattle.std.specs.List.{AllByRecursion}
 use Rattle.std.proofs.lemmas.Bool.{ltb-true}
 use Rattle.dj_names.specs.trusted.Types.{Name}
@@ -9,12 +9,13 @@ use Rattle.dj_pool.specs.Answers.{last_index}
 use Rattle.dj_rename.specs.declared.error.RenameError.{RenameError}
 use Rattle.dj_rename.specs.declared.error.RenameError.TheVariants as errors
 use Rattle.dj_rename.specs.Pools.{Need, is_changed, first_places, needs, appended_texts, renamed_constant, renamed_pool, renamed_descs, accounter_constants, first_index, rewritten_pool, IsFull}
-use Rattle.dj_rename.specs.Refusals.{most_bytes, refusal_at, first_error, refusal_from, refusal, AreAppended}
+use Rattle.dj_rename.specs.Refusals.{most_bytes, refusal_at, first_error, refusal_from, refusal, AreAppended, AppendsAccounter, RefusesAccounter}
 use Rattle.dj_rename.specs.Renaming.{has_text, changed_texts}
 use Rattle.dj_rename.specs.Laws.{TextsAreJudged}
 use Rattle.dj_rename.proofs.PoolLaws.{length_map}
 use Rattle.dj_rename.proofs.Walking.{at_need, with_need, with_text}
 use Rattle.dj_rename.proofs.Appended.{appended_whole}
+use Rattle.dj_rename.proofs.Accounting.{accounter_count}
 
 -- ---- the rewritten pool
 
@@ -39,15 +40,25 @@ module _ (pool : List Constant) (descs : List ℕ) (texts : List Name) (are : Ar
       ∙ ap (λ (i : ℕ). renamed ++ accounter_constants i) (first_is first e)
       ∙ ap (λ (l : List Constant). l ++ accounter_constants (first_index pool (appended_texts pool descs))) (is ∙ ap (renamed_pool pool) are.same)
 
-  pub full_is : last_index < length (renamed ++ accounter_constants (length renamed + 1)) → IsFull pool descs
+  full_is : last_index < length (renamed ++ accounter_constants (length renamed + 1)) → IsFull pool descs
   full_is full = subst (λ (l : List Constant). last_index < length l) (rewritten_is (length renamed + 1) (renamed ++ accounter_constants (length renamed + 1)) refl refl) full
+
+  -- the accounter's constants aren't there
+  accounter_refused : (now : List Constant) (e : RenameError) → AppendsAccounter renamed now (Err e) → RefusesAccounter pool descs e
+  accounter_refused now errors.Full h = full_is h.1
+  accounter_refused now (errors.Long i) h = absurd h
+  accounter_refused now errors.Memory h = tt
+
+  pub refused_ends : {A : Type 0} (r : Result A RenameError) (now : List Constant) (e x : RenameError) → r ≡ Err e → e ≡ x → AppendsAccounter renamed now (Err x) → IfErr r (RefusesAccounter pool descs)
+  refused_ends {A} r now e x is same h =
+      subst (λ (o : Result A RenameError). IfErr o (RefusesAccounter pool descs)) (sym is)
+      (accounter_refused now e (subst (λ (y : RenameError). AppendsAccounter renamed now (Err y)) (sym same) h))
+
+pub memory_ends : {A : Type 0} (pool : List Constant) (descs : List ℕ) (r : Result A RenameError) (e x : RenameError) → r ≡ Err e → e ≡ x → x ≡ errors.Memory → IfErr r (RefusesAccounter pool descs)
+memory_ends {A} pool descs r e x is same memory = subst (λ (o : Result A RenameError). IfErr o (RefusesAccounter pool descs)) (sym (is ∙ ap Err (same ∙ memory))) tt
 
 pub descs_are : (pool : List Constant) (descs indexes : List ℕ) (texts : List Name) → AreAppended pool descs texts → indexes ≡ renamed_descs pool texts descs → indexes ≡ renamed_descs pool (appended_texts pool descs) descs
 descs_are pool descs indexes texts are e = e ∙ ap (λ (t : List Name). renamed_descs pool t descs) are.same
-
-accounter_count : (first : ℕ) → length (accounter_constants first) ≡ 26
-unfolding accounter_constants
-accounter_count first = refl
 
 pub rewritten_long : (pool : List Constant) (descs : List ℕ) → length (rewritten_pool pool descs) ≡ length pool + length (appended_texts pool descs) + 26
 unfolding rewritten_pool renamed_pool

@@ -86,7 +86,6 @@ fn next_index(now: &Pool<'_>) -> u16
 }
 
 // Appends a method's constants.
-#[tactic(auto, using(crate::proofs::Accounting::names_good, crate::proofs::Accounting::call_good, crate::proofs::Accounting::call_grown))]
 fn append_method<'t>(now: &mut Pool<'t>, class: u16, method: Called<'t>) -> Result<(), RenameError>
     requires pool { IsPool now.old }
     requires room { length now.old + 4 ≤ last_index }
@@ -104,7 +103,6 @@ fn append_method<'t>(now: &mut Pool<'t>, class: u16, method: Called<'t>) -> Resu
 }
 
 // Appends the constants of methods, in order.
-#[tactic(auto, using(crate::proofs::Accounting::room_left, crate::proofs::Accounting::class_left))]
 fn append_methods<'t>(
     now: &mut Pool<'t>,
     class: u16,
@@ -125,7 +123,6 @@ fn append_methods<'t>(
 }
 
 // Appends the accounter's name and its class.
-#[tactic(auto, using(crate::proofs::Accounting::name_good, crate::proofs::Accounting::class_good, crate::proofs::Accounting::class_grown, crate::proofs::Accounting::class_there))]
 fn append_class(now: &mut Pool<'_>, first: u16) -> Result<(), RenameError>
     requires pool { IsPool now.old }
     requires room { length now.old + 26 ≤ last_index }
@@ -140,7 +137,6 @@ fn append_class(now: &mut Pool<'_>, first: u16) -> Result<(), RenameError>
 }
 
 /// Appends the accounter's constants, and answers the index of the first. A full pool stays as it is.
-#[tactic(auto, using(crate::proofs::Accounting::room_after, crate::proofs::Accounting::accounter_grown, crate::proofs::Accounting::full_there))]
 pub fn append_accounter(now: &mut Pool<'_>) -> Result<u16, RenameError>
     requires { IsPool now.old }
     ensures { AppendsAccounter now.old now.new result }

@@ -21,7 +21,6 @@ pub struct Rewritten<'t> {
 
 /// The constants of a class with its renamed texts and the accounter's constants after them. The texts are those of `rename_texts`; `descs` has
 /// the indexes of the members' descriptors.
-#[tactic(auto, using(crate::proofs::Fitting::rewritten_is, crate::proofs::Fitting::first_is, crate::proofs::Fitting::descs_are, crate::proofs::Fitting::full_is))]
 pub fn rewrite_pool<'t>(
     alloc: Global,
     pool: &Pool<'t>,
