@@ -1,16 +1,14 @@
 -- One constant after the other gets its new text, and the pool stays valid.
-use Rattle.std.proofs.Common.{◌≡◌, ℕ, zero, suc, ◌+◌, ◌-◌, ◌≤◌, ◌<◌, ◌^◌, Bool, true, false, not, List, [], ◌∷◌, ◌++◌, map, take, drop, set, length, get_or, Option, Some, None, slice_get, option_and_then, refl, sym, ap, subst, ◌∙◌, append_assoc, arith, inl, inr, unwrap_or, length-append, add-one}
+use Rattle.std.proofs.Common.{◌≡◌, ℕ, zero, suc, ◌+◌, ◌-◌, ◌<◌, ◌^◌, Bool, true, false, not, List, [], ◌∷◌, ◌++◌, map, take, drop, set, length, Option, Some, None, slice_get, option_and_then, refl, sym, ap, subst, ◌∙◌, arith, inl, inr, unwrap_or, add-one}
 use Rattle.std.specs.Prelude.{IsSomeAnd, ⊤}
 use Rattle.std.specs.Option.{option_map}
-use Rattle.std.proofs.lemmas.List.{append-nil}
 use Rattle.std.proofs.lemmas.Option.{slice_get-map}
 use Rattle.dj_names.specs.trusted.Types.{Name, same_name}
 use Rattle.dj_names.specs.trusted.Names.{IsUnqualifiedName, IsMethodName}
 use Rattle.dj_names.specs.trusted.Descriptors.{IsFieldDescriptor, IsMethodDescriptor}
-use Rattle.dj_pool.specs.trusted.Pool.{Constant, Utf8, Integer, Float, Long, Double, Class, Text, Field, Method, InterfaceMethod, NameAndType, Handle, MethodType, Dynamic, Hole, indexed, constant_at, text_of, text_at, names_of, IsClassText, NamesText, AreNames, IsWhole, IsLinked, IsPool}
-use Rattle.dj_pool.specs.Answers.{with_text, last_index, length_with, HasText, MayHaveText, Redirects}
+use Rattle.dj_pool.specs.trusted.Pool.{Constant, Utf8, Integer, Float, Long, Double, Class, Text, Field, Method, InterfaceMethod, NameAndType, Handle, MethodType, Dynamic, Hole, constant_at, text_of, text_at, names_of, IsClassText, NamesText, AreNames, IsLinked, IsPool}
+use Rattle.dj_pool.specs.Answers.{with_text, HasText, MayHaveText, Redirects}
 use Rattle.dj_pool.specs.Laws.{KeepsKind}
-use Rattle.dj_pool.proofs.ChangeLaws.{appended_is_pool, one_narrow}
 use Rattle.dj_pool.proofs.RedirectLaws.{redirected_is_pool}
 use Rattle.dj_declarations.specs.trusted.Files.{name_in}
 use Rattle.dj_rename.specs.declared.wanted.Role.TheVariants as roles
@@ -63,25 +61,8 @@ renamed_from pool texts = half_end (renamed_constant pool texts) pool (map Utf8 
 
 -- ---- texts are appended
 
-pub utf8_alone : (text : Name) → indexed (Utf8 text ∷ []) ≡ Utf8 text ∷ []
-utf8_alone text = one_narrow (Utf8 text) refl
-
-pub utf8_room : (pool : List Constant) (text : Name) → length pool < last_index → last_index < length_with pool (Utf8 text) → ⊥
-utf8_room pool text room full = let one = ap length (utf8_alone text) in absurd (omega (arith, room, full, one))
-
-utf8_pool : (pool : List Constant) (texts : List Name) → IsPool pool → ((place : ℕ) → place < length texts → IsWhole (Utf8 (get_or texts place []))) → length pool + length texts ≤ last_index → IsPool (pool ++ map Utf8 texts)
-utf8_pool pool [] valid whole few = subst IsPool (sym (append-nil pool)) valid
-utf8_pool pool (t ∷ texts) valid whole few =
-    let narrow = utf8_alone t in
-    let one = ap length narrow in
-    let grown = length-append pool (Utf8 t ∷ []) in
-    let next : IsPool (pool ++ Utf8 t ∷ []) =
-    subst (λ (l : List Constant). IsPool (pool ++ l)) narrow (appended_is_pool pool (Utf8 t) valid (whole 0 (omega arith), tt) (omega (arith, few, one))) in
-    subst IsPool (append_assoc pool (Utf8 t ∷ []) (map Utf8 texts)) (utf8_pool (pool ++ Utf8 t ∷ []) texts next (λ place h. whole (suc place) (omega (arith, h))) (omega (arith, few, grown)))
-
-pub half_first : (pool : List Constant) (texts : List Name) (now : List Constant) → IsPool pool → ((place : ℕ) → place < length texts → IsWhole (Utf8 (get_or texts place []))) → length pool + length texts ≤ last_index
-    → now ≡ pool ++ map Utf8 texts → IsHalfway pool texts 0 now
-half_first pool texts now valid whole few e = record { is = e; valid = subst IsPool (sym e) (utf8_pool pool texts valid whole few) }
+pub half_first : (pool : List Constant) (texts : List Name) (now : List Constant) → now ≡ pool ++ map Utf8 texts → IsPool now → IsHalfway pool texts 0 now
+half_first pool texts now is valid = record { is = is; valid = valid }
 
 -- ---- one constant gets another text
 

@@ -11,5 +11,7 @@ pub mod States
 pub mod Appended
 pub mod Settled
 pub mod Halfway
+pub mod Accounting
+pub mod Fitting
 pub mod Undoing
 mod Facts

@@ -4,11 +4,11 @@ use Rattle.std.specs.List.{list_any}
 use Rattle.dj_names.specs.declared.descriptor.Desc.{Desc}
 use Rattle.dj_names.specs.trusted.Types.{Name, same_name}
 use Rattle.dj_names.specs.trusted.Descriptors.{Describes}
-use Rattle.dj_pool.specs.trusted.Pool.{Constant, NamesText}
+use Rattle.dj_pool.specs.trusted.Pool.{Constant, NamesText, IsPool}
 use Rattle.dj_pool.specs.Answers.{last_index}
 use Rattle.dj_rename.specs.declared.error.RenameError.{RenameError}
 use Rattle.dj_rename.specs.declared.error.RenameError.TheVariants as errors
-use Rattle.dj_rename.specs.Pools.{Need, needs, is_changed, appended_texts}
+use Rattle.dj_rename.specs.Pools.{Need, needs, is_changed, appended_texts, accounter_constants, IsFull}
 
 -- the greatest length of a text (JVMS 4.4.7)
 abbrev pub most_bytes : ℕ
@@ -62,3 +62,18 @@ pub record AreAppended (pool : List Constant) (descs : List ℕ) (texts : List N
 abbrev pub RefusesTexts : List Constant → List ℕ → RenameError → Type 0
 RefusesTexts pool descs errors.Memory = ⊤
 RefusesTexts pool descs e = refusal pool descs ≡ Some e
+
+-- ---- the accounter's constants
+
+-- the pool has them at its end, and this is the index of the first; or the last would pass the greatest index, and the pool stays; of a lack of memory nothing is said
+abbrev pub AppendsAccounter : (before now : List Constant) → Result ℕ RenameError → Type 0
+AppendsAccounter before now (Ok first) = (first ≡ length before + 1) × (now ≡ before ++ accounter_constants first) × IsPool now
+AppendsAccounter before now (Err errors.Full) = (now ≡ before) × (last_index < length (before ++ accounter_constants (length before + 1)))
+AppendsAccounter before now (Err (errors.Long index)) = ⊥
+AppendsAccounter before now (Err errors.Memory) = ⊤
+
+-- why the accounter's constants aren't there: the rewritten pool passes the greatest index; of a lack of memory nothing is said
+abbrev pub RefusesAccounter : List Constant → List ℕ → RenameError → Type 0
+RefusesAccounter pool descs errors.Full = IsFull pool descs
+RefusesAccounter pool descs (errors.Long index) = ⊥
+RefusesAccounter pool descs errors.Memory = ⊤

@@ -1,5 +1,5 @@
 //! Pools with renamed texts.
-ghost use Rattle.std.specs.Prelude.{◌≡◌, ◌+◌, ◌<◌, ◌≤◌, ℕ, ◌∷◌, [], ◌++◌, map, length, get_or, slice_get, Some, All, IfOk, IfErr, OnOk};
+ghost use Rattle.std.specs.Prelude.{◌≡◌, ◌+◌, ◌<◌, ◌≤◌, ℕ, [], ◌++◌, map, length, get_or, slice_get, Some, All, IfOk, IfErr, OnOk};
 ghost use Rattle.dj_pool.specs.trusted.Pool.{Utf8, IsWhole, IsPool};
 ghost use Rattle.dj_pool.specs.Views.{constant_of};
 ghost use Rattle.dj_pool.specs.Answers.{last_index, MayHaveText, Redirects};
@@ -8,12 +8,13 @@ ghost use Rattle.dj_rename.specs.Refusals.{IsDescIndex, AreAppended};
 ghost use Rattle.dj_rename.specs.Renaming.{wanted_need, IsWanted, IsSettled, IsState};
 ghost use Rattle.dj_rename.specs.Redirecting.{AreSettled, IsHalfway};
 
+use crate::accounter::append_one;
 use crate::error::RenameError;
 use crate::known::Known;
 use crate::sought::{Sought, seek};
 use crate::texts::Texts;
 use crate::wanted::{Role, Wanted, wanted_of};
-use dj_pool::{AppendError, Entry, Indexes, Pool};
+use dj_pool::{Entry, Indexes, Pool};
 use std::alloc::Global;
 
 /// A class's constants with renamed texts, and the new indexes of its members' descriptors.
@@ -23,30 +24,17 @@ pub struct Renamed<'t> {
     pub descs: Indexes,
 }
 
-// Appends a text.
-#[tactic(auto, using(crate::proofs::Halfway::utf8_alone, crate::proofs::Halfway::utf8_room))]
-fn append_text<'t>(now: &mut Pool<'t>, text: &'t [u8]) -> Result<(), RenameError>
-    requires room { length now.old < last_index }
-    requires whole { IsWhole (Utf8 text.now) }
-    ensures ok { OnOk result (now.new ≡ now.old ++ Utf8 text.now ∷ []) }
-    ensures err { IfErr result (λ e. e ≡ RenameError.Memory) }
-{
-    match now.append(Entry::Utf8(text)) {
-        Ok(_) => Ok(()),
-        Err(AppendError::Memory) => Err(RenameError::Memory),
-        Err(AppendError::Full) => unreachable!(),
-    }
-}
-
 // Appends texts.
 fn append_texts<'t>(now: &mut Pool<'t>, texts: &'t Texts) -> Result<(), RenameError>
+    requires pool { IsPool now.old }
     requires few { length now.old + length texts.now ≤ last_index }
     requires whole { (place : ℕ) → place < length texts.now → IsWhole (Utf8 (get_or texts.now place [])) }
     ensures ok { OnOk result (now.new ≡ now.old ++ map Utf8 texts.now) }
+    ensures pool { OnOk result (IsPool now.new) }
     ensures err { IfErr result (λ e. e ≡ RenameError.Memory) }
 {
     for place in 0..texts.count() {
-        append_text(now, texts.get(place))?;
+        append_one(now, Entry::Utf8(texts.get(place)))?;
     }
     Ok(())
 }
