@@ -15,6 +15,7 @@ pub mod Judging
 pub mod Entries
 pub mod Makes
 pub mod FrameLaws
+pub mod Numbering
 pub mod Places
 pub mod Keeping
 pub mod Linked

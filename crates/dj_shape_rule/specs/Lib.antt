@@ -3,6 +3,7 @@ pub mod Arena
 pub mod Kept
 pub mod Pools
 pub mod Standing
+pub mod Numbered
 pub mod Placing
 pub mod Reported
 pub mod Flows

@@ -1,12 +1,11 @@
-ghost use Rattle.std.specs.Prelude.{◌≡◌, ℕ, true, false, get_or, IfErr, IfOk};
 ghost use Rattle.dj_shape_rule.specs.Arena.{AreLinked};
-ghost use Rattle.dj_shape_rule.specs.Placing.{AreMarked, ArePlaced, HasOneMore, HasSame};
+ghost use Rattle.dj_shape_rule.specs.Placing.{ArePlaced};
 
 use crate::arena::{Locals, LocalsPlace, Slot, add_slot};
 use crate::error::ShapeError;
+use crate::numbered::NumberedFrames;
 use dj_names::Kind;
 use std::alloc::Global;
-use std::collections::BTreeMap;
 
 /// The kinds of a frame of a stack map, as they are kept.
 #[derive(Drop)]
@@ -26,48 +25,13 @@ pub struct LentFrame<'a> {
 }
 
 /// The kinds of the frames of a stack map, by the numbers of their instructions. Their local variables are kept in slots, and a frame shares the slots of
-/// those that it has from the frame before it: so all frames together take no more memory than their stack map, and a byte for each instruction.
+/// those that it has from the frame before it: so all frames together take no more memory than their stack map, and four bytes for each instruction.
 #[derive(Drop)]
 pub struct KeptFrames {
     slots: Vec<Slot>,
-    reported: BTreeMap<u64, KeptFrame>,
-    // For each instruction, whether it may have a frame, so that most aren't looked up.
-    marked: Vec<bool>,
+    reported: NumberedFrames,
     pub ghost linked: { AreLinked slots.items },
     pub ghost placed: { ArePlaced slots.items reported },
-    pub ghost marks: { AreMarked marked.items reported },
-}
-
-// Keeps a frame, where there is none at the instruction yet.
-fn keep(reported: &mut BTreeMap<u64, KeptFrame>, at: u64, kept: KeptFrame) -> Result<(), ShapeError>
-    ensures more { IfOk result (λ x. HasOneMore reported.old reported.new at kept) }
-    ensures same { IfErr result (λ e. HasSame reported.old reported.new) }
-{
-    if !reported.contains_key(&at) {
-        reported.insert(at, kept)?;
-    }
-    Ok(())
-}
-
-// Whether the instruction of the number may have a frame. Those after the last may.
-fn is_marked(marked: &[bool], number: u64) -> bool
-    ensures { result ≡ get_or marked.now number true }
-{
-    match marked.get(number as usize) {
-        None => true,
-        Some(may) => *may,
-    }
-}
-
-// Marks the instruction of this number as one that may have a frame.
-#[tactic(auto, using(crate::proofs::Places::marked_set, crate::proofs::Places::marked_past))]
-fn mark(marked: &mut [bool], number: u64)
-    ensures { (other : ℕ) → get_or marked.new other true ≡ false → (other ≡ number → ⊥) × (get_or marked.old other true ≡ false) }
-{
-    let at = number as usize;
-    if at < marked.len() {
-        marked[at] = true;
-    }
 }
 
 impl KeptFrames {
@@ -81,8 +45,7 @@ impl KeptFrames {
     {
         Ok(KeptFrames {
             slots: Vec::new(alloc),
-            reported: BTreeMap::new(alloc),
-            marked: vec![in alloc; false; count]?,
+            reported: NumberedFrames::new(alloc, count)?,
         })
     }
 
@@ -90,25 +53,14 @@ impl KeptFrames {
     pub fn may_report(&self, number: u64) -> bool
         ensures { result ≡ false → reported_at self.now number ≡ None }
     {
-        is_marked(&self.marked, number)
+        self.reported.has(number)
     }
 
     /// The kinds of the frame at the instruction of this number, if there is one.
     pub fn at(&self, number: u64) -> Option<LentFrame<'_>>
         ensures { MatchOption result (reported_at self.now number ≡ None) (λ lent_frame. reported_at self.now number ≡ Some (reported_by lent_frame)) }
     {
-        if self.may_report(number) {
-            self.look_up(number)
-        } else {
-            None
-        }
-    }
-
-    // The same, whether the instruction is marked or not.
-    fn look_up(&self, number: u64) -> Option<LentFrame<'_>>
-        ensures { MatchOption result (reported_at self.now number ≡ None) (λ lent_frame. reported_at self.now number ≡ Some (reported_by lent_frame)) }
-    {
-        match self.reported.get(&number) {
+        match self.reported.get(number) {
             None => None,
             Some(kept) => Some(LentFrame {
                 locals: self.locals(kept.place),
@@ -140,7 +92,6 @@ impl KeptFrames {
         ensures same { self.new.slots.items ≡ self.old.slots.items }
         ensures kept { IfOk result (λ x. IsKept self.old self.new at (reported_in self.old.slots.items kept)) }
     {
-        mark(&mut self.marked, at);
-        keep(&mut self.reported, at, kept)
+        self.reported.keep(at, kept)
     }
 }

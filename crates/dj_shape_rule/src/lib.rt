@@ -13,6 +13,7 @@ mod judge;
 mod kinds;
 mod moves;
 mod needs;
+mod numbered;
 mod pass;
 mod pool;
 mod reading;
