@@ -1,6 +1,7 @@
 pub mod Slots
 pub mod Links
-pub mod Needing
+pub mod Lists
+pub mod KeptLists
 pub mod Handling
 pub mod States
 pub mod Works
@@ -8,9 +9,9 @@ pub mod Reported
 pub mod Parts
 pub mod Steps
 pub mod Stepping
+pub mod Joining
 pub mod Unhandled
 pub mod Forms
-pub mod Stores
 pub mod Judging
 pub mod Entries
 pub mod Makes

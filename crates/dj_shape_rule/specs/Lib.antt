@@ -7,8 +7,8 @@ pub mod Numbered
 pub mod Placing
 pub mod Reported
 pub mod Flows
-pub mod Needs
 pub mod Handlers
+pub mod Listed
 pub mod Works
 pub mod Passing
 pub mod Forms

@@ -1,7 +1,7 @@
 ghost use Rattle.dj_shape_rule.specs.Arena.{AreLinked};
 ghost use Rattle.dj_shape_rule.specs.Placing.{ArePlaced};
 
-use crate::arena::{Locals, LocalsPlace, Slot, add_slot};
+use crate::arena::{Locals, LocalsPlace, Slot, add_slot, new_kinds};
 use crate::error::ShapeError;
 use crate::numbered::NumberedFrames;
 use dj_names::Kind;
@@ -18,6 +18,8 @@ pub struct KeptFrame {
 /// The kinds of a frame of a stack map.
 #[derive(Drop)]
 pub struct LentFrame<'a> {
+    /// Its place among all frames, from 1 on.
+    pub place: u32,
     /// The kinds of the local variables in their slots; those after the last have none.
     pub locals: Locals<'a>,
     /// The kinds of the operands, the top last.
@@ -35,9 +37,10 @@ pub struct KeptFrames {
 }
 
 impl KeptFrames {
-    ghost use Rattle.std.specs.Prelude.{◌≡◌, ℕ, false, ◌∷◌, ◌++◌, [], None, Some, IfOk, MatchOption};
-    ghost use Rattle.dj_shape_rule.specs.Arena.{IsAt, IsIn, slots_at};
-    ghost use Rattle.dj_shape_rule.specs.Reported.{Grows, IsKept, reported_at, reported_by, reported_in};
+    ghost use Rattle.std.specs.Prelude.{◌≡◌, ◌<◌, ℕ, false, ◌∷◌, ◌++◌, [], length, slice_get, None, Some, IfOk, IfSome, MatchOption};
+    ghost use Rattle.dj_shape_rule.specs.declared.frames.KeptFrame.{KeptFrame};
+    ghost use Rattle.dj_shape_rule.specs.Arena.{IsAt, IsIn, IsShared, slots_at};
+    ghost use Rattle.dj_shape_rule.specs.Reported.{Grows, IsKept, frame_place, reported_at, reported_by, reported_in};
 
     /// No frames, of code with this many instructions.
     pub fn new(alloc: Global, count: usize) -> Result<KeptFrames, ShapeError>
@@ -58,15 +61,47 @@ impl KeptFrames {
 
     /// The kinds of the frame at the instruction of this number, if there is one.
     pub fn at(&self, number: u64) -> Option<LentFrame<'_>>
-        ensures { MatchOption result (reported_at self.now number ≡ None) (λ lent_frame. reported_at self.now number ≡ Some (reported_by lent_frame)) }
+        ensures frame { MatchOption result (reported_at self.now number ≡ None) (λ lent_frame. reported_at self.now number ≡ Some (reported_by lent_frame)) }
+        ensures place { IfSome result (λ lent_frame. lent_frame.place ≡ frame_place self.now number) }
     {
         match self.reported.get(number) {
             None => None,
             Some(kept) => Some(LentFrame {
+                place: self.reported.place(number),
                 locals: self.locals(kept.place),
                 stack: kept.stack.as_slice(),
             }),
         }
+    }
+
+    /// How many there are.
+    pub fn count(&self) -> usize
+        ensures { result ≡ length self.now.reported.kept.items }
+    {
+        self.reported.count()
+    }
+
+    /// The place of the local variables of the frame of this index.
+    pub fn place_of(&self, index: usize) -> LocalsPlace
+        requires { index < length self.now.reported.kept.items }
+        ensures place { (kept : KeptFrame) → slice_get self.now.reported.kept.items index ≡ Some kept → result ≡ kept.place }
+        ensures within { IsIn self.now.slots.items result }
+    {
+        self.reported.by_index(index).place
+    }
+
+    /// The count of the local variables that two places share, and the kinds of those that the second has above them.
+    pub fn new_kinds(
+        &self,
+        old: LocalsPlace,
+        new: LocalsPlace,
+        kinds: &mut Vec<Option<Kind>>,
+    ) -> Result<usize, ShapeError>
+        requires old { IsIn self.now.slots.items old }
+        requires new { IsIn self.now.slots.items new }
+        ensures { IfOk result (λ from. IsShared (slots_at self.now.slots.items old.end) (slots_at self.now.slots.items new.end) from kinds.new.items) }
+    {
+        new_kinds(&self.slots, old, new, kinds)
     }
 
     /// The local variables of a place.

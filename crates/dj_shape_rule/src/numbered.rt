@@ -1,4 +1,4 @@
-ghost use Rattle.std.specs.Prelude.{◌≡◌, ℕ, ◌+◌, ◌<◌, ◌≤◌, length, get_or, nat_eq, if◌then◌else◌, slice_set, Some, None, IfOk, IfErr, OnOk, MatchOption};
+ghost use Rattle.std.specs.Prelude.{◌≡◌, ℕ, ◌+◌, ◌<◌, ◌≤◌, ◌⊎◌, ◌++◌, ◌∷◌, [], length, get_or, nat_eq, if◌then◌else◌, slice_get, slice_set, Some, None, IfOk, IfErr, OnOk, MatchOption};
 ghost use Rattle.dj_model.specs.trusted.Linking.{or_else};
 ghost use Rattle.dj_shape_rule.specs.Numbered.{AreWithin, frame_at, frame_in};
 
@@ -77,6 +77,7 @@ fn add(
     ensures more { IfOk result (λ x. (other : ℕ) → frame_in places.new.items kept.new.items other
         ≡ or_else (frame_in places.old.items kept.old.items other) (if nat_eq number other then Some frame else None)) }
     ensures same { IfErr result (λ e. (other : ℕ) → frame_in places.new.items kept.new.items other ≡ frame_in places.old.items kept.old.items other) }
+    ensures list { (kept.new.items ≡ kept.old.items) ⊎ (kept.new.items ≡ kept.old.items ++ frame ∷ []) }
 {
     let place = next_place(kept.len())?;
     kept.push(frame)?;
@@ -95,17 +96,40 @@ fn count_to(number: u64) -> Result<usize, ShapeError>
 }
 
 impl NumberedFrames {
-    ghost use Rattle.std.specs.Prelude.{◌≡◌, ℕ, false, None, Some, IfOk, IfErr, MatchOption};
-    ghost use Rattle.dj_shape_rule.specs.Placing.{HasOneMore, HasSame, kept_at};
+    ghost use Rattle.std.specs.Prelude.{◌≡◌, ◌⊎◌, ◌++◌, ◌∷◌, [], ℕ, false, length, slice_get, None, Some, IfOk, IfErr, MatchOption};
+    ghost use Rattle.dj_shape_rule.specs.Placing.{HasOneMore, HasSame, kept_at, number_place};
 
     /// No frames, of code with this many instructions.
     pub fn new(alloc: Global, count: usize) -> Result<NumberedFrames, ShapeError>
-        ensures { IfOk result (λ frames. (number : ℕ) → kept_at frames number ≡ None) }
+        ensures none { IfOk result (λ frames. (number : ℕ) → kept_at frames number ≡ None) }
+        ensures list { IfOk result (λ frames. frames.kept.items ≡ []) }
     {
         Ok(NumberedFrames {
             places: vec![in alloc; 0; count]?,
             kept: Vec::new(alloc),
         })
+    }
+
+    /// How many there are.
+    pub fn count(&self) -> usize
+        ensures { result ≡ length self.now.kept.items }
+    {
+        self.kept.len()
+    }
+
+    /// The frame of this index.
+    pub fn by_index(&self, index: usize) -> &KeptFrame
+        requires { index < length self.now.kept.items }
+        ensures { slice_get self.now.kept.items index ≡ Some result.now }
+    {
+        &self.kept[index]
+    }
+
+    /// One more than the index of the frame at the instruction of this number; 0 where there is none.
+    pub fn place(&self, number: u64) -> u32
+        ensures { result ≡ number_place self.now number }
+    {
+        place_of(&self.places, number)
     }
 
     /// Whether there may be a frame at the instruction of this number.
@@ -126,6 +150,7 @@ impl NumberedFrames {
     pub fn keep(&mut self, at: u64, frame: KeptFrame) -> Result<(), ShapeError>
         ensures more { IfOk result (λ x. HasOneMore self.old self.new at frame) }
         ensures same { IfErr result (λ e. HasSame self.old self.new) }
+        ensures list { (self.new.kept.items ≡ self.old.kept.items) ⊎ (self.new.kept.items ≡ self.old.kept.items ++ frame ∷ []) }
     {
         if place_of(&self.places, at) != 0 {
             return Ok(());

@@ -8,7 +8,7 @@ invariant_of-self c =
     let frames = c.args.self.now in
     record {
       linked = frames.linked;
-      placed = placed_after c.keep.result frames.slots.items frames.reported c.keep.new.self c.args.at c.args.kept c.keep.ensures.more c.keep.ensures.same c.requires frames.placed;
+      placed = placed_after frames.slots.items frames.reported c.keep.new.self c.args.kept c.keep.ensures.list c.requires frames.placed;
     }
 
 pub returns-clause-kept : goal.returns-clause-kept
