@@ -1,7 +1,6 @@
 -- Ranges of states, and what frames ask of them.
-use Rattle.std.proofs.Common.{◌≡◌, ℕ, zero, suc, ◌+◌, ◌-◌, ◌/◌, ◌<◌, ◌≤◌, ◌⊎◌, ◌^◌, Bool, true, false, List, [], ◌∷◌, ◌++◌, length, map, take, get_or, All, Option, Some, None, refl, sym, ap, subst, ◌∙◌, inl, inr, arith}
+use Rattle.std.proofs.Common.{◌≡◌, ℕ, zero, suc, ◌+◌, ◌-◌, ◌/◌, ◌<◌, ◌≤◌, ◌⊎◌, ◌^◌, Bool, true, false, List, [], ◌∷◌, ◌++◌, length, map, take, get_or, All, is_some, not, Option, Some, None, refl, sym, ap, subst, ◌∙◌, inl, inr, arith}
 use Rattle.std.specs.Prelude.{MatchOption}
-use Rattle.std.proofs.lemmas.List.{take_more}
 use Rattle.std.proofs.lemmas.List.Elements.{All-nil, All-cons, All-head, All-tail, All-push}
 use Rattle.dj_names.specs.declared.descriptor.Kind.{Kind}
 use Rattle.dj_kind_trees.specs.Nodes.{size_of}
@@ -22,6 +21,15 @@ pushed P (y ∷ xs) x a =
     let r = pushed P xs x (All-tail P y (xs ++ x ∷ []) a) in
     (All-cons P y xs (All-head P y (xs ++ x ∷ []) a) r.0, r.1)
 
+range_order : (a b : ℕ) → (a < b) ⊎ (b ≤ a)
+range_order a zero = inr (omega arith)
+range_order zero (suc b) = inl (omega arith)
+range_order (suc a) (suc b) = elim (range_order a b) [ inl l ↦ inl (omega (arith, l)) | inr g ↦ inr (omega (arith, g)) ]
+
+pub no_ranges : (l : List KindRange) → length l ≡ 0 → l ≡ []
+no_ranges [] e = refl
+no_ranges (x ∷ l) e = absurd (omega (arith, e))
+
 -- ---- sizes
 
 size_mono : (a b : ℕ) → size_of a ≤ size_of (a + b)
@@ -38,14 +46,9 @@ size_pow zero = refl
 size_pow (suc h) = let e = size_pow h in omega (arith, e)
 
 pub next_few : (h size count : ℕ) → size ≡ size_of h → size < count → count < 2 ^ 32 → size + size ≤ 2 ^ 32
-next_few h size count is less few = by (order h 32) where
+next_few h size count is less few = by (range_order h 32) where
   most : size_of 32 ≡ 2 ^ 32
   most = size_pow 32
-
-  order : (a b : ℕ) → (a < b) ⊎ (b ≤ a)
-  order a zero = inr (omega arith)
-  order zero (suc b) = inl (omega arith)
-  order (suc a) (suc b) = elim (order a b) [ inl l ↦ inl (omega (arith, l)) | inr g ↦ inr (omega (arith, g)) ]
 
   by : (h < 32) ⊎ (32 ≤ h) → size + size ≤ 2 ^ 32
   by (inl low) =
@@ -117,6 +120,13 @@ module _ (old new : Forest) (states frames : List ℕ) (keeps : KeepsTrees old n
     before = λ other inside less. ranges_before ranges other (first.before other inside less);
   }
 
+  pub left_kept : (h from : ℕ) (ranges rest : List KindRange) → AreLeft old states frames h from ranges rest → AreLeft new states frames h from ranges rest
+  left_kept h from ranges rest left = record {
+    all = λ number inside flows. ranges_kept ranges number (left.all number inside (ranges_before rest number flows));
+    own = λ number inside flows. ranges_kept rest number (left.own number inside (ranges_before ranges number flows));
+    low = λ e. elim (left.low e) [ inl none ↦ inl none | inr lacks ↦ inr (λ flows. lacks (ranges_before rest from flows)) ];
+  }
+
   pub left_before : (h from : ℕ) (ranges rest : List KindRange) → AreLeft new states frames h from ranges rest → AreLeft old states frames h from ranges rest
   left_before h from ranges rest left = record {
     all = λ number inside flows. ranges_before ranges number (left.all number inside (ranges_kept rest number flows));
@@ -134,25 +144,21 @@ module _ (forest : Forest) (states frames : List ℕ) (h from : ℕ) where
   none_left = record { all = λ number inside flows. flows; own = λ number inside flows. flows; low = λ e. inl refl }
 
   -- one more is left, or isn't
-  pub one_left : (ranges rest new : List KindRange) (i : ℕ) (none range : KindRange) → i < length ranges → range ≡ get_or ranges i none → new ≡ rest ++ range ∷ []
-      → (h ≡ 0 → RangeFlows forest states frames from range → ⊥) → AreLeft forest states frames h from (take i ranges) rest → AreLeft forest states frames h from (take (i + 1) ranges) new
-  one_left ranges rest new i none range within is e lacks left =
-      subst (λ (l : List KindRange). AreLeft forest states frames h from l new) (sym (take_more ranges i none within ∙ ap (λ (r : KindRange). take i ranges ++ r ∷ []) (sym is)))
-      (subst (AreLeft forest states frames h from (take i ranges ++ range ∷ [])) (sym e) (record {
-        all = λ number inside flows. let p = pushed (Flow number) rest range flows in All-push (Flow number) (take i ranges) range (left.all number inside p.0) p.1;
-        own = λ number inside flows. let p = pushed (Flow number) (take i ranges) range flows in All-push (Flow number) rest range (left.own number inside p.0) p.1;
-        low = λ low. inr (λ flows. lacks low (pushed (Flow from) rest range flows).1);
-      }))
+  pub one_left : (ranges rest new : List KindRange) (range : KindRange) → new ≡ rest ++ range ∷ [] → (h ≡ 0 → RangeFlows forest states frames from range → ⊥)
+      → AreLeft forest states frames h from ranges rest → AreLeft forest states frames h from (ranges ++ range ∷ []) new
+  one_left ranges rest new range e lacks left = subst (AreLeft forest states frames h from (ranges ++ range ∷ [])) (sym e) (record {
+    all = λ number inside flows. let p = pushed (Flow number) rest range flows in All-push (Flow number) ranges range (left.all number inside p.0) p.1;
+    own = λ number inside flows. let p = pushed (Flow number) ranges range flows in All-push (Flow number) rest range (left.own number inside p.0) p.1;
+    low = λ low. inr (λ flows. lacks low (pushed (Flow from) rest range flows).1);
+  })
 
-  pub one_dropped : (ranges rest : List KindRange) (i : ℕ) (none range : KindRange) → i < length ranges → range ≡ get_or ranges i none
-      → ((number : ℕ) → IsInside h from number → RangeFlows forest states frames number range) → AreLeft forest states frames h from (take i ranges) rest → AreLeft forest states frames h from (take (i + 1) ranges) rest
-  one_dropped ranges rest i none range within is flow left =
-      subst (λ (l : List KindRange). AreLeft forest states frames h from l rest) (sym (take_more ranges i none within ∙ ap (λ (r : KindRange). take i ranges ++ r ∷ []) (sym is)))
-      (record {
-        all = λ number inside flows. All-push (Flow number) (take i ranges) range (left.all number inside flows) (flow number inside);
-        own = λ number inside flows. left.own number inside (pushed (Flow number) (take i ranges) range flows).0;
-        low = left.low;
-      })
+  pub one_dropped : (ranges rest : List KindRange) (range : KindRange) → ((number : ℕ) → IsInside h from number → RangeFlows forest states frames number range)
+      → AreLeft forest states frames h from ranges rest → AreLeft forest states frames h from (ranges ++ range ∷ []) rest
+  one_dropped ranges rest range flow left = record {
+    all = λ number inside flows. All-push (Flow number) ranges range (left.all number inside flows) (flow number inside);
+    own = λ number inside flows. left.own number inside (pushed (Flow number) ranges range flows).0;
+    low = left.low;
+  }
 
   -- ---- the first
 
@@ -204,6 +210,45 @@ module _ (forest : Forest) (states frames : List ℕ) (ranges : List KindRange) 
         ];
       })
 
+-- a part of one state that a range meets is whole in it
+pub one_whole : (h from size : ℕ) (range : KindRange) → size ≡ size_of h → h ≡ 0 → ((from + size ≤ range.from) ⊎ (range.to ≤ from) → ⊥) → (from < range.from) ⊎ (range.to < from + size) → ⊥
+one_whole h from size range is low meets partly =
+    let one : size ≡ 1 = is ∙ ap size_of low ∙ size_low in
+    elim partly [
+      | inl before ↦ meets (inl (omega (arith, before, one)))
+      | inr past ↦ meets (inr (omega (arith, past, one)))
+    ]
+
+pub after_first : (from size : ℕ) (range : KindRange) → ((from < range.from) ⊎ (range.to < from + size) → ⊥) → range.from ≤ from
+after_first from size range whole = elim (range_order from range.from) [ inl less ↦ absurd (whole (inl less)) | inr past ↦ past ]
+
+pub before_last : (from size : ℕ) (range : KindRange) → ((from + size ≤ range.from) ⊎ (range.to ≤ from) → ⊥) → from < range.to
+before_last from size range meets = elim (range_order from range.to) [ inl less ↦ less | inr past ↦ absurd (meets (inr past)) ]
+
+pub some_found : (forest : Forest) (states frames : List ℕ) (all rest : List KindRange) (h low from : ℕ) (found : Option ℕ) → h ≡ suc low → is_some found ≡ true → AreLeft forest states frames h from all rest
+    → MatchOption found (AllInside forest states frames rest low from) (λ number. IsFirstIn forest states frames rest low from number)
+    → MatchOption found (AllInside forest states frames all h from) (λ number. IsFirstIn forest states frames all h from number)
+some_found forest states frames all rest h low from None high e left first = absurd cc
+some_found forest states frames all rest h low from (Some number) high e left first =
+    first_of_all forest states frames h from all rest number left (left_first forest states frames rest h low from high number first)
+
+pub none_found : (forest : Forest) (states frames : List ℕ) (rest : List KindRange) (low from : ℕ) (found : Option ℕ) → is_some found ≡ false
+    → MatchOption found (AllInside forest states frames rest low from) (λ number. IsFirstIn forest states frames rest low from number) → AllInside forest states frames rest low from
+none_found forest states frames rest low from None e first = first
+none_found forest states frames rest low from (Some number) e first = absurd cc
+
+pub of_rest : (forest : Forest) (states frames : List ℕ) (all rest : List KindRange) (h from : ℕ) (found : Option ℕ) → AreLeft forest states frames h from all rest
+    → MatchOption found (AllInside forest states frames rest h from) (λ number. IsFirstIn forest states frames rest h from number)
+    → MatchOption found (AllInside forest states frames all h from) (λ number. IsFirstIn forest states frames all h from number)
+of_rest forest states frames all rest h from None left first = λ number inside. left.all number inside (first number inside)
+of_rest forest states frames all rest h from (Some number) left first = first_of_all forest states frames h from all rest number left first
+
+pub match_before : (old new : Forest) (states frames : List ℕ) (ranges : List KindRange) (h from : ℕ) (found : Option ℕ) → KeepsTrees old new → AreStates old states → AreStates old frames
+    → MatchOption found (AllInside new states frames ranges h from) (λ number. IsFirstIn new states frames ranges h from number)
+    → MatchOption found (AllInside old states frames ranges h from) (λ number. IsFirstIn old states frames ranges h from number)
+match_before old new states frames ranges h from None keeps a b first = all_inside_before old new states frames keeps a b ranges h from first
+match_before old new states frames ranges h from (Some number) keeps a b first = first_in_before old new states frames keeps a b ranges h from number first
+
 -- ---- all states
 
 pub first_below : (forest : Forest) (states frames : List ℕ) (ranges : List KindRange) (h size limit : ℕ) (found first : Option ℕ) → size ≡ size_of h → limit ≤ size
@@ -213,7 +258,7 @@ pub first_below : (forest : Forest) (states frames : List ℕ) (ranges : List Ki
 first_below forest states frames ranges h size limit None first is room all below =
     subst (IsFirstBelow forest states frames ranges limit) (sym below)
     (λ number less. all number (record { low = omega arith; high = omega (arith, less, room, is) }))
-first_below forest states frames ranges h size limit (Some number) first is room found below = elim (order number limit) [
+first_below forest states frames ranges h size limit (Some number) first is room found below = elim (range_order number limit) [
   | inl less ↦
       subst (IsFirstBelow forest states frames ranges limit) (sym (below.0 less)) (
         less,
@@ -223,11 +268,7 @@ first_below forest states frames ranges h size limit (Some number) first is room
   | inr past ↦
       subst (IsFirstBelow forest states frames ranges limit) (sym (below.1 past))
       (λ other less. found.before other (record { low = omega arith; high = omega (arith, less, room, is) }) (omega (arith, less, past)))
-] where
-  order : (a b : ℕ) → (a < b) ⊎ (b ≤ a)
-  order a zero = inr (omega arith)
-  order zero (suc b) = inl (omega arith)
-  order (suc a) (suc b) = elim (order a b) [ inl l ↦ inl (omega (arith, l)) | inr g ↦ inr (omega (arith, g)) ]
+]
 
 pub none_below : (forest : Forest) (states frames : List ℕ) (ranges : List KindRange) (limit : ℕ) → ranges ≡ [] → IsFirstBelow forest states frames ranges limit None
 none_below forest states frames ranges limit e number less = subst (λ (l : List KindRange). RangesFlow forest states frames l number) (sym e) (All-nil (RangeFlows forest states frames number))
@@ -254,3 +295,22 @@ module _ (forest : Forest) (count current : ℕ) (frames states : List ℕ) (are
   first_lack ranges limit None below = λ number less. all_hold ranges number (below number less)
   first_lack ranges limit (Some found) below =
       (below.0, λ flows. below.1 (hold_all ranges found flows), λ number less. all_hold ranges number (below.2 number less))
+
+-- ---- answers that are turned
+
+pub not_false : (b : Bool) → not b ≡ false → b ≡ true
+not_false true e = refl
+not_false false e = absurd cc
+
+pub not_true : (b : Bool) → not b ≡ true → b ≡ false
+not_true true e = absurd cc
+not_true false e = refl
+
+pub below_before : (old new : Forest) (states frames : List ℕ) (ranges : List KindRange) (limit : ℕ) (first : Option ℕ) → KeepsTrees old new → AreStates old states → AreStates old frames
+    → IsFirstBelow new states frames ranges limit first → IsFirstBelow old states frames ranges limit first
+below_before old new states frames ranges limit None keeps a b below = λ number less. ranges_before old new states frames keeps a b ranges number (below number less)
+below_before old new states frames ranges limit (Some found) keeps a b below = (
+  below.0,
+  λ flows. below.1 (ranges_kept old new states frames keeps a b ranges found flows),
+  λ number less. ranges_before old new states frames keeps a b ranges number (below.2 number less),
+)

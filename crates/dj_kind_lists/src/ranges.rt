@@ -1,4 +1,5 @@
-ghost use Rattle.std.specs.Prelude.{◌≡◌, ◌+◌, ◌^◌, ◌<◌, ◌≤◌, ℕ, true, false, Some, None, IfOk, MatchOption};
+ghost use Rattle.std.specs.Prelude.{◌≡◌, ◌+◌, ◌^◌, ◌<◌, ◌≤◌, ◌⊎◌, ◌++◌, ◌∷◌, [], ℕ, List, true, false, Some, None, Decides, IfOk, MatchOption};
+ghost use Rattle.dj_kind_lists.specs.declared.ranges.KindRange.{KindRange};
 ghost use Rattle.dj_kind_trees.specs.Forests.{KeepsTrees};
 ghost use Rattle.dj_kind_trees.specs.Nodes.{size_of};
 ghost use Rattle.dj_kind_lists.specs.Blocks.{AreStates, HasAll, IsBlock, IsInside, state_at};
@@ -34,49 +35,87 @@ pub struct Part {
     pub from: u64,
 }
 
+// Whether the range has none of the part's states.
+fn is_apart(part: Part, range: KindRange) -> bool
+    requires { part.from + part.size ≤ 2 ^ 32 }
+    ensures { Decides result ((part.from + part.size ≤ range.from) ⊎ (range.to ≤ part.from)) }
+{
+    part.from + part.size <= u64::from(range.from) || u64::from(range.to) <= part.from
+}
+
+// Whether the range lacks one of the part's states.
+fn is_partly(part: Part, range: KindRange) -> bool
+    requires { part.from + part.size ≤ 2 ^ 32 }
+    ensures { Decides result ((part.from < range.from) ⊎ (range.to < part.from + part.size)) }
+{
+    part.from < u64::from(range.from) || u64::from(range.to) < part.from + part.size
+}
+
 // Whether a state of the part may lack what the range asks, by the tree of what all states of the part have. A part of one state lacks it then.
-fn is_left(trees: &mut Trees, search: Search<'_>, meet: u32, part: Part, range: KindRange) -> bool
-    requires states { AreStates trees.old search.states.now }
-    requires frames { AreStates trees.old search.frames.now }
+fn is_left(trees: &mut Trees, search: &Search<'_>, meet: u32, part: Part, range: KindRange) -> bool
+    requires states { AreStates trees.old search.now.states.now }
+    requires frames { AreStates trees.old search.now.frames.now }
     requires size { part.size ≡ size_of part.height }
     requires few { part.from + part.size ≤ 2 ^ 32 }
-    requires meet { HasAll trees.old search.states.now part.height part.from meet }
+    requires meet { HasAll trees.old search.now.states.now part.height part.from meet }
     ensures keeps { KeepsTrees trees.old trees.new }
-    ensures flows { result ≡ false → (number : ℕ) → IsInside part.height part.from number → RangeFlows trees.old search.entry.states.now search.entry.frames.now number range }
-    ensures lacks { result ≡ true → part.height ≡ 0 → RangeFlows trees.old search.entry.states.now search.entry.frames.now part.from range → ⊥ }
+    ensures flows { result ≡ false → (number : ℕ) → IsInside part.height part.from number → RangeFlows trees.old search.now.states.now search.now.frames.now number range }
+    ensures lacks { result ≡ true → part.height ≡ 0 → RangeFlows trees.old search.now.states.now search.now.frames.now part.from range → ⊥ }
 {
-    let to = part.from + part.size;
-    if to <= u64::from(range.from) || u64::from(range.to) <= part.from {
+    if is_apart(part, range) {
         return false;
     }
-    if part.from < u64::from(range.from) || u64::from(range.to) < to {
+    if is_partly(part, range) {
         return true;
     }
     !trees.flows(meet, state_of(search.frames, range.frame))
+}
+
+// Adds the range, where a state of the part may lack what it asks.
+fn add_left(
+    trees: &mut Trees,
+    search: &Search<'_>,
+    meet: u32,
+    part: Part,
+    range: KindRange,
+    rest: &mut Vec<KindRange>,
+) -> Result<(), AllocError>
+    requires states { AreStates trees.old search.now.states.now }
+    requires frames { AreStates trees.old search.now.frames.now }
+    requires size { part.size ≡ size_of part.height }
+    requires few { part.from + part.size ≤ 2 ^ 32 }
+    requires meet { HasAll trees.old search.now.states.now part.height part.from meet }
+    ensures keeps { KeepsTrees trees.old trees.new }
+    ensures left { IfOk result (λ x. (ranges : List KindRange) → AreLeft trees.old search.now.states.now search.now.frames.now part.height part.from ranges rest.old.items
+        → AreLeft trees.old search.now.states.now search.now.frames.now part.height part.from (ranges ++ range ∷ []) rest.new.items) }
+{
+    if !is_left(trees, search, meet, part, range) {
+        return Ok(());
+    }
+    rest.push(range)?;
+    Ok(())
 }
 
 // The ranges of which states of the part may lack what they ask.
 fn left_over(
     alloc: Global,
     trees: &mut Trees,
-    search: Search<'_>,
+    search: &Search<'_>,
     meet: u32,
     part: Part,
     ranges: &[KindRange],
 ) -> Result<Vec<KindRange>, AllocError>
-    requires states { AreStates trees.old search.states.now }
-    requires frames { AreStates trees.old search.frames.now }
+    requires states { AreStates trees.old search.now.states.now }
+    requires frames { AreStates trees.old search.now.frames.now }
     requires size { part.size ≡ size_of part.height }
     requires few { part.from + part.size ≤ 2 ^ 32 }
-    requires meet { HasAll trees.old search.states.now part.height part.from meet }
+    requires meet { HasAll trees.old search.now.states.now part.height part.from meet }
     ensures keeps { KeepsTrees trees.old trees.new }
-    ensures left { IfOk result (λ rest. AreLeft trees.old search.entry.states.now search.entry.frames.now part.height part.from ranges.now rest.items) }
+    ensures left { IfOk result (λ rest. AreLeft trees.old search.now.states.now search.now.frames.now part.height part.from ranges.now rest.items) }
 {
     let mut rest = Vec::new(alloc);
     for range in ranges {
-        if is_left(trees, search, meet, part, *range) {
-            rest.push(*range)?;
-        }
+        add_left(trees, search, meet, part, *range, &mut rest)?;
     }
     Ok(rest)
 }
@@ -85,42 +124,46 @@ fn left_over(
 fn first_in(
     alloc: Global,
     trees: &mut Trees,
-    search: Search<'_>,
+    search: &Search<'_>,
     part: Part,
     ranges: &[KindRange],
 ) -> Result<Option<u64>, AllocError>
-    requires states { AreStates trees.old search.states.now }
-    requires frames { AreStates trees.old search.frames.now }
+    requires states { AreStates trees.old search.now.states.now }
+    requires frames { AreStates trees.old search.now.frames.now }
     requires size { part.size ≡ size_of part.height }
     requires few { part.from + part.size ≤ 2 ^ 32 }
-    requires block { IsBlock trees.old search.states.now search.blocks.now part.height part.from part.id }
+    requires block { IsBlock trees.old search.now.states.now search.now.blocks.now part.height part.from part.id }
     ensures keeps { KeepsTrees trees.old trees.new }
-    ensures first { IfOk result (λ found. MatchOption found (AllInside trees.old search.entry.states.now search.entry.frames.now ranges.now part.height part.from)
-        (λ number. IsFirstIn trees.old search.entry.states.now search.entry.frames.now ranges.now part.height part.from number)) }
+    ensures first { IfOk result (λ found. MatchOption found (AllInside trees.old search.now.states.now search.now.frames.now ranges.now part.height part.from)
+        (λ number. IsFirstIn trees.old search.now.states.now search.now.frames.now ranges.now part.height part.from number)) }
 {
     let meet = meet_of(search.states, search.blocks, part.height, part.id);
     let rest = left_over(alloc, trees, search, meet, part, ranges)?;
-    if rest.is_empty() {
+    let count = rest.len();
+    if count == 0 {
         return Ok(None);
     }
-    if part.height == 0 {
+    let height = part.height;
+    if height == 0 {
         return Ok(Some(part.from));
     }
     let block = block_of(search.blocks, part.id);
+    let half = part.size / 2;
     let left = Part {
-        height: part.height - 1,
-        size: part.size / 2,
+        height: height - 1,
+        size: half,
         id: block.left,
         from: part.from,
     };
-    if let Some(number) = first_in(alloc, trees, search, left, &rest)? {
-        return Ok(Some(number));
+    let found = first_in(alloc, trees, search, left, &rest)?;
+    if found.is_some() {
+        return Ok(found);
     }
     let right = Part {
-        height: part.height - 1,
-        size: part.size / 2,
+        height: height - 1,
+        size: half,
         id: block.right,
-        from: part.from + part.size / 2,
+        from: part.from + half,
     };
     first_in(alloc, trees, search, right, &rest)
 }
@@ -187,5 +230,6 @@ pub fn first_lacking(
         id,
         from: 0,
     };
-    Ok(below(first_in(alloc, trees, search, part, ranges)?, limit))
+    let found = first_in(alloc, trees, &search, part, ranges)?;
+    Ok(below(found, limit))
 }
