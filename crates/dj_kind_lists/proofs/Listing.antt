@@ -216,6 +216,15 @@ module _ (old new : Forest) (count : ℕ) (frames : List ℕ) (base from : ℕ) 
         replaced.after slot there (omega (arith, few, past)) ∙ past_list kinds (slot - from) (omega (arith, few, past));
   }
 
+-- a list once more
+pub changed_again : (forest : Forest) (count : ℕ) (trees : List ℕ) (base : ℕ) → IsBare forest 0
+    → IsChanged count (get_or (map (kinds_of forest count) trees) base []) count [] (kinds_of forest count (tree_at trees base))
+changed_again forest count trees base bare = record {
+  many = many_from forest (tree_at trees base) 0 count;
+  before = λ slot within less. kind_listed forest count (tree_at trees base) slot within ∙ sym (base_listed forest count trees base slot bare within);
+  after = λ slot within past. absurd (omega (arith, within, past));
+}
+
 -- ---- lists by their numbers
 
 past_got : (forest : Forest) (count : ℕ) (trees : List ℕ) (number slot : ℕ) → count ≤ slot → listed (get_or (map (kinds_of forest count) trees) number []) slot ≡ None

@@ -136,6 +136,17 @@ impl KindLists {
         Ok(())
     }
 
+    /// Adds the list of an earlier frame once more.
+    pub fn add_again(&mut self, base: usize) -> Result<(), AllocError>
+        ensures same { SameButFrames self.old self.new }
+        ensures added { IfOk result (λ x. (made : List (Option Kind)) × (self.new.frames ≡ self.old.frames ++ made ∷ [])
+            × IsChanged self.old.count (get_or self.old.frames base []) self.old.count [] made) }
+    {
+        let tree = tree_at(&self.frames, base);
+        self.frames.push(tree)?;
+        Ok(())
+    }
+
     /// Keeps the list that stands before the next instruction.
     pub fn note(&mut self) -> Result<(), AllocError>
         ensures same { SameButStates self.old self.new }

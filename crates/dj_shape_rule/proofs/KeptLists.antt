@@ -16,7 +16,8 @@ use Rattle.dj_shape_rule.specs.Reported.{Reported, ReportedFrames, reported_at, 
 use Rattle.dj_shape_rule.specs.Standing.{Standing, IsListed, SameButLists}
 use Rattle.dj_shape_rule.specs.Listed.{AreListed, AreListedBelow, AreFew, IsLast}
 use Rattle.dj_shape_rule.proofs.Links.{no_place}
-use Rattle.dj_shape_rule.proofs.Lists.{order, changed_shared, changed_same, get_last, got_before, got_last, listed_padded}
+use Rattle.dj_kind_lists.proofs.Listing.{same_lists}
+use Rattle.dj_shape_rule.proofs.Lists.{order, changed_shared, changed_same, get_last, got_before, got_last, listed_padded, many_padded}
 
 listed_none : (n slot : ℕ) → listed (replicate n None) slot ≡ None
 listed_none zero slot = refl
@@ -84,6 +85,21 @@ module _ (frames : ReportedFrames) (s t : Standing) (index : ℕ) (last place : 
   pub unfit_last : (made : List (Option Kind)) → t.frames ≡ s.frames ++ made ∷ [] → IsChanged s.max_locals (get_or s.frames index []) s.max_locals [] made → IsLast frames t (index + 1) last
   unfit_last made added changed = one_last frames s t index made below room added last is_last.within
       (changed_same s.max_locals (get_or s.frames index []) (slots_at frames.slots.items last.end) made s.max_locals changed (omega arith) is_last.same)
+
+  -- where it is the one before it
+  pub same_listed : (made : List (Option Kind)) → t.frames ≡ s.frames ++ made ∷ [] → place.end ≡ last.end → IsChanged s.max_locals (get_or s.frames index []) s.max_locals [] made → AreListedBelow frames t (index + 2)
+  same_listed made added same changed = one_below frames s t index made below room added (λ kept at few.
+      let own : slots_at frames.slots.items kept.place.end ≡ slots_at frames.slots.items last.end = ap (λ (p : LocalsPlace). slots_at frames.slots.items p.end) (sym (places kept at)) ∙ ap (slots_at frames.slots.items) same in
+      let many = many_padded s.max_locals (slots_at frames.slots.items kept.place.end) few in
+      let made_many = changed.many in
+      same_lists made (padded s.max_locals (slots_at frames.slots.items kept.place.end)) (omega (arith, many, made_many)) (λ slot less.
+      changed_same s.max_locals (get_or s.frames index []) (slots_at frames.slots.items last.end) made s.max_locals changed (omega arith) is_last.same slot (omega (arith, less, made_many))
+      ∙ sym (listed_padded s.max_locals (slots_at frames.slots.items kept.place.end) slot ∙ ap (λ (l : List (Option Kind)). listed l slot) own)))
+
+  pub same_last : (made : List (Option Kind)) → t.frames ≡ s.frames ++ made ∷ [] → place.end ≡ last.end → IsChanged s.max_locals (get_or s.frames index []) s.max_locals [] made → IsLast frames t (index + 1) place
+  same_last made added same changed = one_last frames s t index made below room added place within (λ slot less.
+      changed_same s.max_locals (get_or s.frames index []) (slots_at frames.slots.items last.end) made s.max_locals changed (omega arith) is_last.same slot less
+      ∙ ap (λ (n : ℕ). listed (slots_at frames.slots.items n) slot) (sym same))
 
   module _ (made : List (Option Kind)) (from : ℕ) (kinds : List (Option Kind)) (added : t.frames ≡ s.frames ++ made ∷ []) (fit : place.count ≤ s.max_locals) (shared : IsShared (slots_at frames.slots.items last.end) (slots_at frames.slots.items place.end) from kinds) (changed : IsChanged s.max_locals (get_or s.frames index []) from kinds made) where
     made_is : made ≡ padded s.max_locals (slots_at frames.slots.items place.end)

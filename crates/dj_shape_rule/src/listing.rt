@@ -25,9 +25,13 @@ fn list_frame(
     ensures last { IfOk result (λ place. IsLast frames.now state.new (index + 1) place) }
 {
     let place = frames.place_of(index);
+    if place.end == last.end {
+        state.add_again(index)?;
+        return Ok(place);
+    }
     if u32::from(state.max_locals()) < place.count {
         // It doesn't fit, and nothing asks for it.
-        state.add_list(index, usize::from(state.max_locals()), &[])?;
+        state.add_again(index)?;
         return Ok(last);
     }
     let from = frames.new_kinds(last, place, kinds)?;

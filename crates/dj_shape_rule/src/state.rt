@@ -97,6 +97,16 @@ impl KindState {
         Ok(())
     }
 
+    /// Adds an earlier list once more.
+    pub fn add_again(&mut self, base: usize) -> Result<(), ShapeError>
+        ensures same { SameButLists self.old self.new }
+        ensures added { IfOk result (λ x. (made : List (Option Kind)) × (self.new.frames ≡ self.old.frames ++ made ∷ [])
+            × IsChanged self.old.max_locals (get_or self.old.frames base []) self.old.max_locals [] made) }
+    {
+        self.lists.add_again(base)?;
+        Ok(())
+    }
+
     /// Whether there is room for the local variables and the operands of a frame. Then the state has these; else the state doesn't matter any more.
     pub fn set(&mut self, reported: &LentFrame<'_>) -> Result<bool, ShapeError>
         requires { IsListed self.old reported.now.place reported.now.locals }
