@@ -1,4 +1,5 @@
-use Rattle.std.proofs.Common.{◌<◌, ◌∙◌, set, sym, ap, subst}
+use Rattle.std.proofs.Common.{◌<◌, ◌∙◌, ℕ, set, sym, ap, subst}
+use Rattle.dj_kind_trees.specs.Forests.{HasPut}
 use Rattle.dj_kind_lists.specs.Lists.{Lists, SameLists}
 use Rattle.dj_kind_lists.proofs.Listing.{view_of, same_view, put_listed}
 use Rattle.dj_kind_lists.proofs.lists.KindLists.put.Goals as goal
@@ -16,6 +17,6 @@ returns-clause-same c =
 pub returns-clause-put : goal.returns-clause-put
 returns-clause-put c =
     let within = subst (λ (v : Lists). c.args.slot < v.count) (sym c.self.view_is) c.requires in
-    put_listed c.self.inside.trees c.put.new.self c.self.inside.count c.self.inside.current c.args.slot c.args.kind c.in_ok-self-inside.field-0 c.self.invariant.room within c.put.ensures.keeps
-    c.in_ok-self-inside.ensures.put
+    let put = subst (λ (n : ℕ). HasPut c.self.inside.trees c.put.new.self c.self.inside.current n c.args.kind c.in_ok-self-inside.field-0) c.from.ensures c.in_ok-self-inside.ensures.put in
+    put_listed c.self.inside.trees c.put.new.self c.self.inside.count c.self.inside.current c.args.slot c.args.kind c.in_ok-self-inside.field-0 c.self.invariant.room within c.put.ensures.keeps put
     ∙ ap (λ (v : Lists). set v.current c.args.slot c.args.kind) c.self.view_is
