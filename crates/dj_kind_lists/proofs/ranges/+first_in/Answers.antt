@@ -53,8 +53,11 @@ returns-then-is_some-clause-first t c =
     let part = c.args.part in
     let low = part.height - 1 in
     let high : part.height ≡ suc low = grind (arith, nat_tests, c.if-height-eq0.false) in
-    some_found c.args.trees.now s.states.now s.frames.now c.args.ranges.now c.in_ok-rest.rest.items part.height low part.from c.in_ok-found.found high c.if-is_some.ensures c.in_ok-rest.ensures.left
+    some_found c.args.trees.now s.states.now s.frames.now c.args.ranges.now c.in_ok-rest.rest.items part.height low part.from c.in_ok-found.found high (sym c.if-is_some.ensures) c.in_ok-rest.ensures.left
     (match_before c.args.trees.now c.left_over.new.trees s.states.now s.frames.now c.in_ok-rest.rest.items low part.from c.in_ok-found.found c.left_over.ensures.keeps c.requires.states c.requires.frames c.in_ok-found.ensures.first)
+
+pub returns-then-is_some-clause-keeps : goal.returns-then-is_some-clause-keeps
+returns-then-is_some-clause-keeps t c = keeps_twice c.args.trees.now c.left_over.new.trees c.first_in.new.trees c.left_over.ensures.keeps c.in_ok-found.ensures.keeps
 
 pub first_in-requires-2 : goal.first_in-requires-2
 first_in-requires-2 t c =
@@ -84,7 +87,7 @@ returns-clause-first t c =
     let rest = c.in_ok-rest.rest.items in
     let keeps = keeps_twice c.args.trees.now c.left_over.new.trees c.first_in.new.trees c.left_over.ensures.keeps c.in_ok-found.ensures.keeps in
     let left = all_inside_before c.args.trees.now c.left_over.new.trees s.states.now s.frames.now c.left_over.ensures.keeps c.requires.states c.requires.frames rest low part.from
-    (none_found c.left_over.new.trees s.states.now s.frames.now rest low part.from c.in_ok-found.found c.if-is_some.ensures c.in_ok-found.ensures.first) in
+    (none_found c.left_over.new.trees s.states.now s.frames.now rest low part.from c.in_ok-found.found (sym c.if-is_some.ensures) c.in_ok-found.ensures.first) in
     IfOk-weaker c.first_in-2.result _ _ (λ found first.
     of_rest c.args.trees.now s.states.now s.frames.now c.args.ranges.now rest part.height part.from found c.in_ok-rest.ensures.left
     (right_first c.args.trees.now s.states.now s.frames.now rest part.height low part.from high (part.size / 2) found half left

@@ -1,4 +1,4 @@
-use Rattle.std.proofs.Common.{◌∙◌, ◌+◌, ◌++◌, ◌∷◌, [], List, take, get_or, sym, ap, subst}
+use Rattle.std.proofs.Common.{rules, ◌≡◌, ◌∙◌, ◌+◌, ◌++◌, ◌∷◌, [], List, take, get_or, sym, ap, subst}
 use Rattle.std.proofs.lemmas.List.{take_more, take_all}
 use Rattle.dj_kind_lists.specs.declared.ranges.KindRange.{KindRange}
 use Rattle.dj_kind_lists.specs.Ranges.{AreLeft}
@@ -7,10 +7,16 @@ use Rattle.dj_kind_lists.proofs.Ranging.{none_left, left_kept, left_before}
 use Rattle.dj_kind_lists.proofs.ranges.left_over.Goals as goal
 
 pub loop-range-init : goal.loop-range-init
-loop-range-init c = record {
-  keeps = keeps_itself c.args.trees.now;
-  left = none_left c.args.trees.now c.args.search.now.states.now c.args.search.now.frames.now c.args.part.height c.args.part.from;
-}
+loop-range-init c =
+    let none : c.new-rest.result.items ≡ [] = search rules in
+    record {
+      keeps = keeps_itself c.args.trees.now;
+      left = subst (AreLeft c.args.trees.now c.args.search.now.states.now c.args.search.now.frames.now c.args.part.height c.args.part.from []) (sym none)
+          (none_left c.args.trees.now c.args.search.now.states.now c.args.search.now.frames.now c.args.part.height c.args.part.from);
+    }
+
+pub returns-in_err-add_left-clause-keeps : goal.returns-in_err-add_left-clause-keeps
+returns-in_err-add_left-clause-keeps c = keeps_twice c.args.trees.now c.loop-range.trees c.add_left.new.trees c.loop-range.invariant.keeps c.add_left.ensures.keeps
 
 pub add_left-requires-clause-states : goal.add_left-requires-clause-states
 add_left-requires-clause-states c = states_kept c.args.trees.now c.loop-range.trees c.args.search.now.states.now c.loop-range.invariant.keeps c.requires.states
