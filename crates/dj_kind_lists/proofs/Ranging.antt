@@ -249,6 +249,12 @@ pub match_before : (old new : Forest) (states frames : List ℕ) (ranges : List 
 match_before old new states frames ranges h from None keeps a b first = all_inside_before old new states frames keeps a b ranges h from first
 match_before old new states frames ranges h from (Some number) keeps a b first = first_in_before old new states frames keeps a b ranges h from number first
 
+pub same_ranges : (forest : Forest) (states frames : List ℕ) (given ranges : List KindRange) (h from : ℕ) (found : Option ℕ) → given ≡ ranges
+    → MatchOption found (AllInside forest states frames given h from) (λ number. IsFirstIn forest states frames given h from number)
+    → MatchOption found (AllInside forest states frames ranges h from) (λ number. IsFirstIn forest states frames ranges h from number)
+same_ranges forest states frames given ranges h from found e first =
+    subst (λ (l : List KindRange). MatchOption found (AllInside forest states frames l h from) (λ number. IsFirstIn forest states frames l h from number)) e first
+
 -- ---- all states
 
 pub first_below : (forest : Forest) (states frames : List ℕ) (ranges : List KindRange) (h size limit : ℕ) (found first : Option ℕ) → size ≡ size_of h → limit ≤ size

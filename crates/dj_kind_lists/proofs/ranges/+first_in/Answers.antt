@@ -5,7 +5,7 @@ use Rattle.dj_kind_trees.specs.Nodes.{size_of}
 use Rattle.dj_kind_trees.proofs.Halves.{half_size}
 use Rattle.dj_kind_lists.specs.Blocks.{HasAll, IsBlock, IsInside, meet_of}
 use Rattle.dj_kind_lists.proofs.Meeting.{keeps_twice, states_kept, block_kept, blocks_themselves, of_block, block_halves, first_inside}
-use Rattle.dj_kind_lists.proofs.Ranging.{no_ranges, none_inside, low_first, some_found, none_found, of_rest, match_before, right_first, all_inside_before}
+use Rattle.dj_kind_lists.proofs.Ranging.{no_ranges, none_inside, low_first, some_found, none_found, of_rest, match_before, right_first, same_ranges, all_inside_before}
 use Rattle.dj_kind_lists.proofs.ranges.+first_in.Goals as goal
 
 pub left_over-requires-clause-meet : goal.left_over-requires-clause-meet
@@ -54,7 +54,8 @@ returns-then-is_some-clause-first t c =
     let low = part.height - 1 in
     let high : part.height ≡ suc low = grind (arith, nat_tests, c.if-height-eq0.false) in
     some_found c.args.trees.now s.states.now s.frames.now c.args.ranges.now c.in_ok-rest.rest.items part.height low part.from c.in_ok-found.found high (sym c.if-is_some.ensures) c.in_ok-rest.ensures.left
-    (match_before c.args.trees.now c.left_over.new.trees s.states.now s.frames.now c.in_ok-rest.rest.items low part.from c.in_ok-found.found c.left_over.ensures.keeps c.requires.states c.requires.frames c.in_ok-found.ensures.first)
+    (match_before c.args.trees.now c.left_over.new.trees s.states.now s.frames.now c.in_ok-rest.rest.items low part.from c.in_ok-found.found c.left_over.ensures.keeps c.requires.states c.requires.frames
+    (same_ranges c.left_over.new.trees s.states.now s.frames.now c.deref.result.now c.in_ok-rest.rest.items low part.from c.in_ok-found.found c.deref.ensures.value c.in_ok-found.ensures.first))
 
 pub returns-then-is_some-clause-keeps : goal.returns-then-is_some-clause-keeps
 returns-then-is_some-clause-keeps t c = keeps_twice c.args.trees.now c.left_over.new.trees c.first_in.new.trees c.left_over.ensures.keeps c.in_ok-found.ensures.keeps
@@ -87,9 +88,11 @@ returns-clause-first t c =
     let rest = c.in_ok-rest.rest.items in
     let keeps = keeps_twice c.args.trees.now c.left_over.new.trees c.first_in.new.trees c.left_over.ensures.keeps c.in_ok-found.ensures.keeps in
     let left = all_inside_before c.args.trees.now c.left_over.new.trees s.states.now s.frames.now c.left_over.ensures.keeps c.requires.states c.requires.frames rest low part.from
-    (none_found c.left_over.new.trees s.states.now s.frames.now rest low part.from c.in_ok-found.found (sym c.if-is_some.ensures) c.in_ok-found.ensures.first) in
+    (none_found c.left_over.new.trees s.states.now s.frames.now rest low part.from c.in_ok-found.found (sym c.if-is_some.ensures)
+    (same_ranges c.left_over.new.trees s.states.now s.frames.now c.deref.result.now rest low part.from c.in_ok-found.found c.deref.ensures.value c.in_ok-found.ensures.first)) in
     IfOk-weaker c.first_in-2.result _ _ (λ found first.
     of_rest c.args.trees.now s.states.now s.frames.now c.args.ranges.now rest part.height part.from found c.in_ok-rest.ensures.left
     (right_first c.args.trees.now s.states.now s.frames.now rest part.height low part.from high (part.size / 2) found half left
-    (match_before c.args.trees.now c.first_in.new.trees s.states.now s.frames.now rest low (part.from + part.size / 2) found keeps c.requires.states c.requires.frames first)))
+    (match_before c.args.trees.now c.first_in.new.trees s.states.now s.frames.now rest low (part.from + part.size / 2) found keeps c.requires.states c.requires.frames
+    (same_ranges c.first_in.new.trees s.states.now s.frames.now c.deref-2.result.now rest low (part.from + part.size / 2) found c.deref-2.ensures.value first))))
     c.first_in-2.ensures.first
