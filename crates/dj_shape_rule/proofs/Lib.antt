@@ -4,6 +4,7 @@ pub mod Lists
 pub mod KeptLists
 pub mod Handling
 pub mod States
+pub mod Standings
 pub mod Works
 pub mod Reported
 pub mod Parts

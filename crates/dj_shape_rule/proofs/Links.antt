@@ -160,11 +160,11 @@ before_within slots linked place slot is at =
 
 -- ---- below a place
 
-pub below_is : (slots : List Slot) → AreLinked slots → (place : LocalsPlace) (slot : Slot) → IsIn slots place → 0 < place.end → slot ≡ get_or slots (place.end - 1) slot
+pub below_is : (slots : List Slot) → AreLinked slots → (place : LocalsPlace) (none slot : Slot) → IsIn slots place → 0 < place.end → slot ≡ get_or slots (place.end - 1) none
     → (0 < place.count) × IsIn slots (record { end = slot.before; count = place.count - 1 }) × (slot.before < place.end) × (slots_at slots place.end ≡ slots_at slots slot.before ++ slot.kind ∷ [])
-below_is slots linked place slot is some got =
+below_is slots linked place none slot is some got =
     let within = is.0 in
-    let there : slice_get slots (place.end - 1) ≡ Some slot = slice_get-get_or slots (place.end - 1) slot (omega (arith, within, some)) ∙ ap (λ (x : Slot). Some x) (sym got) in
+    let there : slice_get slots (place.end - 1) ≡ Some slot = slice_get-get_or slots (place.end - 1) none (omega (arith, within, some)) ∙ ap (λ (x : Slot). Some x) (sym got) in
     let at : slot_at slots place.end ≡ Some slot = slot_below slots place.end some ∙ there in
     let count = one_less slots linked place slot is at in (
       omega (arith, count),

@@ -13,7 +13,8 @@ use Rattle.dj_shape_rule.specs.Flows.{LocalsFlow}
 use Rattle.dj_shape_rule.specs.Standing.{Standing, IsListed}
 use Rattle.dj_shape_rule.specs.Listed.{AreListed}
 use Rattle.dj_shape_rule.specs.Forms.{FlowsAt}
-use Rattle.dj_shape_rule.specs.Reported.{Reported, ReportedFrames, frame_place}
+use Rattle.dj_shape_rule.specs.declared.frames.LentFrame.{LentFrame}
+use Rattle.dj_shape_rule.specs.Reported.{Reported, ReportedFrames, reported_at, reported_by, frame_place}
 use Rattle.dj_shape_rule.proofs.Slots.{at_padded}
 
 pub order : (a b : ℕ) → (a < b) ⊎ (b ≤ a)
@@ -74,13 +75,6 @@ shared_few old new from count kinds shared few =
     let start = shared.count in
     omega (arith, few, start, ap length shared.after, length-append shared.shared kinds)
 
--- all of a list's kinds are new where nothing was before
-pub shared_none : (new : List (Option Kind)) (from : ℕ) (kinds : List (Option Kind)) → IsShared [] new from kinds → kinds ≡ new
-shared_none new from kinds shared = by shared.shared shared.before shared.after where
-  by : (rest : List (Option Kind)) → [] ≡ rest ++ shared.gone → new ≡ rest ++ kinds → kinds ≡ new
-  by [] e f = sym f
-  by (x ∷ rest) e f = absurd cc
-
 pub changed_first : (count : ℕ) (kinds made : List (Option Kind)) → IsChanged count [] 0 kinds made → length kinds ≤ count → made ≡ padded count kinds
 changed_first count kinds made changed few =
     changed_shared count [] [] kinds 0 kinds made changed (record { shared = []; gone = []; before = refl; after = refl; count = refl }) (λ slot less. refl) few
@@ -135,3 +129,8 @@ are_kept frames s t e f are number reported at = listed_still s t (frame_place f
 
 pub flows_of : (frames : ReportedFrames) (s t : Standing) (target : ℤ) (b : Bool) → t ≡ s → Decides b (FlowsAt t.kinds frames target) → Decides b (FlowsAt s.kinds frames target)
 flows_of frames s t target b e decides = subst (λ (x : Standing). Decides b (FlowsAt x.kinds frames target)) e decides
+
+-- a frame as it is looked at
+pub lent_listed : (frames : ReportedFrames) (s : Standing) (number : ℕ) (lent_frame : LentFrame) → AreListed frames s → reported_at frames number ≡ Some (reported_by lent_frame) → lent_frame.place ≡ frame_place frames number
+    → IsListed s lent_frame.place lent_frame.locals
+lent_listed frames s number lent_frame are at place = subst (λ (n : ℕ). IsListed s n lent_frame.locals) (sym place) (are number (reported_by lent_frame) at)
