@@ -149,7 +149,7 @@ pub placed_grown : (old new : List Slot) (reported : NumberedFrames) → AreLink
 placed_grown old new reported linked grows placed number kept at = in_grown old new linked grows kept.place (placed number kept at)
 
 pub placed_none : (slots : List Slot) (reported : NumberedFrames) → reported.kept.items ≡ [] → ArePlaced slots reported
-placed_none slots reported none index kept at = absurd (let e : slice_get {A = KeptFrame} [] index ≡ Some kept = sym (ap (λ (l : List KeptFrame). slice_get l index) none) ∙ at in cc)
+placed_none slots reported none index kept at = absurd (let e = subst (λ (l : List KeptFrame). slice_get l index ≡ Some kept) none at in cc)
 
 -- a frame more, or none
 pub placed_after : (slots : List Slot) (old new : NumberedFrames) (kept : KeptFrame) → (new.kept.items ≡ old.kept.items) ⊎ (new.kept.items ≡ old.kept.items ++ kept ∷ []) → IsIn slots kept.place

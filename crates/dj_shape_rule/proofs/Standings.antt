@@ -1,15 +1,12 @@
 -- What the steps of a state do, by what they do to its lists and operands.
-use Rattle.std.proofs.Common.{◌≡◌, ℕ, zero, suc, ◌+◌, ◌-◌, ◌<◌, ◌≤◌, Bool, true, false, ◌&&◌, List, [], ◌∷◌, ◌++◌, length, set, reverse, replicate, slice_get, Option, Some, None, nat_eq, nat_lt, nat_le, if◌then◌else◌, refl, sym, ap, subst, ◌∙◌, arith}
+use Rattle.std.proofs.Common.{◌≡◌, ℕ, ◌+◌, ◌≤◌, Bool, true, false, ◌&&◌, List, [], ◌∷◌, ◌++◌, length, reverse, replicate, Option, Some, None, nat_le, if◌then◌else◌, refl, sym, ap, subst, ◌∙◌, arith}
 use Rattle.std.proofs.lemmas.Bool.Decides.{nat_tests}
 use Rattle.std.proofs.lemmas.Option.{same_Some}
 use Rattle.dj_names.specs.declared.descriptor.Kind.{Kind}
 use Rattle.dj_kind_lists.specs.Lists.{Lists, SameLists, SameButFrames, SameButStates, IsChanged}
 use Rattle.dj_model.specs.trusted.Initialisation.{padded}
-use Rattle.dj_model.specs.trusted.Numbers.{is_wide}
 use Rattle.dj_model.specs.trusted.Kinds.{Kinds, depth}
-use Rattle.dj_model.specs.trusted.Shape.{store_kind}
-use Rattle.dj_model.specs.trusted.Values.{is_some_wide, last_slot, local_at, stored, without_half}
-use Rattle.dj_shape_rule.specs.Standing.{Standing, IsBegun, IsListed, IsNoted, SameButLists, SameLocals, SameRoom, Leaves, room, standing_in}
+use Rattle.dj_shape_rule.specs.Standing.{Standing, IsBegun, IsListed, IsNoted, SameButLists, SameLocals, SameRoom, Leaves, standing_in}
 use Rattle.dj_shape_rule.proofs.Lists.{changed_first}
 
 -- a state as its parts show it
@@ -86,46 +83,3 @@ set_so s t u place locals stack fits listed own room same left =
       by true false e = absurd cc
       by false true e = absurd cc
       by false false e = refl
-
--- ---- a store
-
-pub last_is : (wide : Bool) (slot : ℕ) → last_slot wide slot ≡ slot + (if wide then 1 else 0)
-last_is true slot = refl
-last_is false slot = omega arith
-
-pub no_room : (s : Standing) (kind : Kind) (slot : ℕ) → s.max_locals ≤ last_slot (is_wide kind) slot → store_kind (room s) kind slot (Some s.kinds) ≡ None
-no_room s kind slot past =
-    let none : nat_lt (last_slot (is_wide kind) slot) s.max_locals ≡ false = grind (arith, nat_tests) in
-    rw none refl
-
-pub some_room : (s : Standing) (kind : Kind) (slot : ℕ) (left : Kinds) → last_slot (is_wide kind) slot < s.max_locals → left.locals ≡ stored is_wide s.kinds.locals slot kind → left.stack ≡ s.kinds.stack
-    → store_kind (room s) kind slot (Some s.kinds) ≡ Some left
-some_room s kind slot left less locals stack =
-    let some : nat_lt (last_slot (is_wide kind) slot) s.max_locals ≡ true = grind (arith, nat_tests) in
-    rw some (
-      ap (λ (l : List (Option Kind)). Some (record { locals = l; stack = s.kinds.stack })) (sym locals)
-      ∙ ap (λ (l : List Kind). Some (record { locals = left.locals; stack = l })) (sym stack))
-
-pub stored_wide : (kind : Kind) (slot : ℕ) (locals cut one two : List (Option Kind)) → is_wide kind ≡ true → cut ≡ without_half is_wide locals slot → one ≡ set cut slot (Some kind)
-    → two ≡ set one (slot + 1) None → two ≡ stored is_wide locals slot kind
-stored_wide kind slot locals cut one two wide a b c =
-    rw wide (c ∙ ap (λ (l : List (Option Kind)). set l (slot + 1) None) (b ∙ ap (λ (l : List (Option Kind)). set l slot (Some kind)) a))
-
-pub stored_narrow : (kind : Kind) (slot : ℕ) (locals cut one : List (Option Kind)) → is_wide kind ≡ false → cut ≡ without_half is_wide locals slot → one ≡ set cut slot (Some kind)
-    → one ≡ stored is_wide locals slot kind
-stored_narrow kind slot locals cut one narrow a b = rw narrow (b ∙ ap (λ (l : List (Option Kind)). set l slot (Some kind)) a)
-
--- ---- half a kind
-
-pub cut_some : (slot : ℕ) (locals cut : List (Option Kind)) → 0 < slot → is_some_wide is_wide (local_at locals (slot - 1)) ≡ true → cut ≡ set locals (slot - 1) None
-    → cut ≡ without_half is_wide locals slot
-cut_some slot locals cut some half e =
-    let first : nat_eq slot 0 ≡ false = grind (arith, nat_tests) in
-    rw (first, half) e
-
-pub cut_none : (slot : ℕ) (locals : List (Option Kind)) → (0 < slot → is_some_wide is_wide (local_at locals (slot - 1)) ≡ false) → locals ≡ without_half is_wide locals slot
-cut_none zero locals none = refl
-cut_none (suc slot) locals none =
-    let half = none (omega arith) in
-    let first : nat_eq (suc slot) 0 ≡ false = grind (arith, nat_tests) in
-    rw (first, half) refl

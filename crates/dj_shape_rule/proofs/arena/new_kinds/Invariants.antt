@@ -8,8 +8,8 @@ abbrev pub invariant-loop-first : goal.invariant-loop-first
 invariant-loop-first l = record {
   old : IsIn l.slots l.first;
   new : IsIn l.slots l.second;
-  gone : (more : List (Option Kind)) × (slots_at l.slots l.old.end ≡ slots_at l.slots l.first.end ++ more);
-  kinds : slots_at l.slots l.new.end ≡ slots_at l.slots l.second.end ++ reverse l.kinds.items;
+  gone : (more : List (Option Kind)) × (slots_at l.slots l.fn.old.end ≡ slots_at l.slots l.first.end ++ more);
+  kinds : slots_at l.slots l.fn.new.end ≡ slots_at l.slots l.second.end ++ reverse l.kinds.items;
 }
 
 abbrev pub decreases-loop-first : goal.decreases-loop-first

@@ -9,26 +9,26 @@ use Rattle.dj_shape_rule.proofs.listing.list_frame.Goals as goal
 pub returns-then-place-last-clause-listed : goal.returns-then-place-last-clause-listed
 returns-then-place-last-clause-listed c =
     let added = c.in_ok-add_again.ensures.added in
-    same_listed c.args.frames.now c.args.state.now c.add_again.new.state c.args.index c.args.last c.place_of-place.result c.requires.listed c.requires.last c.add_again.ensures.same.1
+    same_listed c.args.frames.now c.args.state.now c.add_again.new.self c.args.index c.args.last c.place_of-place.result c.requires.listed c.requires.last c.add_again.ensures.same.1
     c.place_of-place.ensures.place c.place_of-place.ensures.within added.0 added.1 (grind (arith, nat_tests, c.if-place-last.true)) added.2
 
 pub returns-then-place-last-clause-last : goal.returns-then-place-last-clause-last
 returns-then-place-last-clause-last c =
     let added = c.in_ok-add_again.ensures.added in
-    same_last c.args.frames.now c.args.state.now c.add_again.new.state c.args.index c.args.last c.place_of-place.result c.requires.listed c.requires.last c.add_again.ensures.same.1
+    same_last c.args.frames.now c.args.state.now c.add_again.new.self c.args.index c.args.last c.place_of-place.result c.requires.listed c.requires.last c.add_again.ensures.same.1
     c.place_of-place.ensures.place c.place_of-place.ensures.within added.0 added.1 (grind (arith, nat_tests, c.if-place-last.true)) added.2
 
 pub returns-then-from-place-clause-listed : goal.returns-then-from-place-clause-listed
 returns-then-from-place-clause-listed c =
-    let added = c.in_ok-add_again.ensures.added in
+    let added = c.in_ok-add_again-2.ensures.added in
     let unfit : c.args.state.now.max_locals < c.place_of-place.result.count = omega (arith, c.from.ensures, c.max_locals.ensures, c.if-from-place.true) in
-    unfit_listed c.args.frames.now c.args.state.now c.add_again.new.state c.args.index c.args.last c.place_of-place.result c.requires.listed c.requires.last c.add_again.ensures.same.1
+    unfit_listed c.args.frames.now c.args.state.now c.add_again-then-from-place.new.self c.args.index c.args.last c.place_of-place.result c.requires.listed c.requires.last c.add_again-then-from-place.ensures.same.1
     c.place_of-place.ensures.place c.place_of-place.ensures.within added.0 added.1 unfit
 
 pub returns-then-from-place-clause-last : goal.returns-then-from-place-clause-last
 returns-then-from-place-clause-last c =
-    let added = c.in_ok-add_again.ensures.added in
-    unfit_last c.args.frames.now c.args.state.now c.add_again.new.state c.args.index c.args.last c.place_of-place.result c.requires.listed c.requires.last c.add_again.ensures.same.1
+    let added = c.in_ok-add_again-2.ensures.added in
+    unfit_last c.args.frames.now c.args.state.now c.add_again-then-from-place.new.self c.args.index c.args.last c.place_of-place.result c.requires.listed c.requires.last c.add_again-then-from-place.ensures.same.1
     c.place_of-place.ensures.place c.place_of-place.ensures.within added.0 added.1 added.2
 
 pub add_list-requires : goal.add_list-requires
@@ -47,7 +47,7 @@ returns-clause-listed c =
     let place = c.place_of-place.result in
     let fit : place.count ≤ c.args.state.now.max_locals = omega (arith, c.from.ensures, c.max_locals.ensures, c.if-from-place.false) in
     let shared = subst (λ (l : List (Option Kind)). IsShared (slots_at slots c.args.last.end) (slots_at slots place.end) c.in_ok-from.from l) (sym c.deref.ensures.value) c.in_ok-from.ensures in
-    fit_listed c.args.frames.now c.args.state.now c.add_list.new.state c.args.index c.args.last place c.requires.listed c.requires.last c.add_list.ensures.same.1
+    fit_listed c.args.frames.now c.args.state.now c.add_list.new.self c.args.index c.args.last place c.requires.listed c.requires.last c.add_list.ensures.same.1
     c.place_of-place.ensures.place c.place_of-place.ensures.within added.0 c.in_ok-from.from c.deref.result.now added.1 fit shared added.2
 
 pub returns-clause-last : goal.returns-clause-last
@@ -57,5 +57,5 @@ returns-clause-last c =
     let place = c.place_of-place.result in
     let fit : place.count ≤ c.args.state.now.max_locals = omega (arith, c.from.ensures, c.max_locals.ensures, c.if-from-place.false) in
     let shared = subst (λ (l : List (Option Kind)). IsShared (slots_at slots c.args.last.end) (slots_at slots place.end) c.in_ok-from.from l) (sym c.deref.ensures.value) c.in_ok-from.ensures in
-    fit_last c.args.frames.now c.args.state.now c.add_list.new.state c.args.index c.args.last place c.requires.listed c.requires.last c.add_list.ensures.same.1
+    fit_last c.args.frames.now c.args.state.now c.add_list.new.self c.args.index c.args.last place c.requires.listed c.requires.last c.add_list.ensures.same.1
     c.place_of-place.ensures.place c.place_of-place.ensures.within added.0 c.in_ok-from.from c.deref.result.now added.1 fit shared added.2

@@ -31,5 +31,5 @@ pub returns-clause-listed : goal.returns-clause-listed
 returns-clause-listed c =
     let frames = c.args.frames.now in
     let state = c.loop-index.state in
-    let most : length frames.reported.kept.items + 1 ≤ c.loop-index.index + 1 = omega (arith, c.loop-index-test.false, c.count.ensures) in
+    let most : length frames.reported.kept.items + 1 ≤ c.loop-index.index + 1 = omega (arith, c.loop-index-test.false, c.count-index-end.ensures) in
     all_listed frames state (c.loop-index.index + 1) most c.loop-index.invariant.below (subst (AreFew frames) (sym c.loop-index.invariant.same.1) c.requires.few)
