@@ -26,7 +26,7 @@ module _ (frames : ReportedFrames) (s : Standing) (rows : List Protected) (liste
 
   -- the list of a frame
   list_is : (row : Protected) (reported : Reported) → reported_at frames row.handler ≡ Some reported → get_or s.frames (frame_place frames row.handler) [] ≡ padded s.max_locals reported.locals
-  list_is row reported e = get_or_from_slice_get s.frames (frame_place frames row.handler) [] (padded s.max_locals reported.locals) (listed_are row.handler reported e).at
+  list_is row reported e = get_or_from_slice_get s.frames (frame_place frames row.handler) (padded s.max_locals reported.locals) [] (listed_are row.handler reported e).at
 
   row_holds : (row : Protected) → ((slot : ℕ) (kind : Kind) → row.start ≤ number → number < row.end → Says frames row slot kind → local_at Locals slot ≡ Some kind)
       → (o : Option Reported) → reported_at frames row.handler ≡ o → Holds (range_with o (frame_place frames row.handler) row)

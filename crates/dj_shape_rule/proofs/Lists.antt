@@ -127,8 +127,9 @@ are_still frames s t e are = subst (AreListed frames) (sym e) are
 pub are_kept : (frames : ReportedFrames) (s t : Standing) → t.max_locals ≡ s.max_locals → t.frames ≡ s.frames → AreListed frames s → AreListed frames t
 are_kept frames s t e f are number reported at = listed_still s t (frame_place frames number) reported.locals e f (are number reported at)
 
-pub flows_of : (frames : ReportedFrames) (s t : Standing) (target : ℤ) (b : Bool) → t ≡ s → Decides b (FlowsAt t.kinds frames target) → Decides b (FlowsAt s.kinds frames target)
-flows_of frames s t target b e decides = subst (λ (x : Standing). Decides b (FlowsAt x.kinds frames target)) e decides
+pub flows_of : (frames : ReportedFrames) (s t : Standing) (target given : ℤ) (b : Bool) → given ≡ target → t ≡ s → Decides b (FlowsAt t.kinds frames given) → Decides b (FlowsAt s.kinds frames target)
+flows_of frames s t target given b at e decides =
+    subst (λ (z : ℤ). Decides b (FlowsAt s.kinds frames z)) at (subst (λ (x : Standing). Decides b (FlowsAt x.kinds frames given)) e decides)
 
 -- a frame as it is looked at
 pub lent_listed : (frames : ReportedFrames) (s : Standing) (number : ℕ) (lent_frame : LentFrame) → AreListed frames s → reported_at frames number ≡ Some (reported_by lent_frame) → lent_frame.place ≡ frame_place frames number

@@ -210,9 +210,9 @@ module _ (method : Method) (number : ℕ) (left : Kinds) (going : Bool) (i : Ins
     goes = goes;
     decides = λ run. (
       λ yes. record {
-          jumps = (jumps run).0 refl;
-          goes_on = λ stays. absurd (let on : going ≡ true = goes ∙ ap not stays in cc);
-        },
+        jumps = (jumps run).0 refl;
+        goes_on = λ stays. absurd (let on : going ≡ true = goes ∙ ap not stays in cc);
+      },
       λ flowing. refl,
     );
   }

@@ -1,4 +1,4 @@
-use Rattle.std.proofs.Common.{rules, ℤ, List, All, get_or, pos, w64, SFits, sym, subst, refl, ap, ◌∙◌}
+use Rattle.std.proofs.Common.{rules, ℤ, List, All, get_or, pos, w64, SFits, subst, refl, ◌∙◌}
 use Rattle.std.proofs.lemmas.List.{take_all}
 use Rattle.std.proofs.lemmas.List.Elements.{All-more}
 use Rattle.std.proofs.lemmas.Int.{to_z-of_z}
@@ -11,20 +11,21 @@ flows_at-requires c = are_still c.args.frames.now c.args.state.now c.loop-target
 
 pub returns-then-not-flows_at-clause-flows : goal.returns-then-not-flows_at-clause-flows
 returns-then-not-flows_at-clause-flows c =
-    let fits : SFits w64 (get_or c.args.targets.now c.loop-target.target-index (pos 0)) = search rules in
-    let decides = flows_of c.args.frames.now c.args.state.now c.loop-target.state _ c.flows_at.result c.loop-target.invariant.same c.flows_at.ensures.flows in (
+    let target = (get_or c.args.targets.now c.loop-target.target-index (pos 0)) in
+    let fits : SFits w64 target = search rules in
+    let decides = flows_of c.args.frames.now c.args.state.now c.loop-target.state target _ c.flows_at.result (to_z-of_z w64 target fits) c.loop-target.invariant.same c.flows_at.ensures.flows in (
       λ e. absurd cc,
-      λ all. absurd (let yes = decides.1 (subst (FlowsAt c.args.state.now.kinds c.args.frames.now) (sym (to_z-of_z w64 (get_or c.args.targets.now c.loop-target.target-index (pos 0)) fits)) (all c.loop-target.target-index (pos 0) c.loop-target-test.true)) in cc),
+      λ all. absurd (let yes = decides.1 (all c.loop-target.target-index (pos 0) c.loop-target-test.true) in cc),
     )
 
 pub loop-target-preserved : goal.loop-target-preserved
 loop-target-preserved c =
-    let fits : SFits w64 (get_or c.args.targets.now c.loop-target.target-index (pos 0)) = search rules in
-    let decides = flows_of c.args.frames.now c.args.state.now c.loop-target.state _ c.flows_at.result c.loop-target.invariant.same c.flows_at.ensures.flows in
+    let target = (get_or c.args.targets.now c.loop-target.target-index (pos 0)) in
+    let fits : SFits w64 target = search rules in
+    let decides = flows_of c.args.frames.now c.args.state.now c.loop-target.state target _ c.flows_at.result (to_z-of_z w64 target fits) c.loop-target.invariant.same c.flows_at.ensures.flows in
     record {
       same = c.flows_at.ensures.same ∙ c.loop-target.invariant.same;
-      flow = All-more (FlowsAt c.args.state.now.kinds c.args.frames.now) c.args.targets.now c.loop-target.target-index (pos 0) c.loop-target-test.true c.loop-target.invariant.flow
-          (subst (FlowsAt c.args.state.now.kinds c.args.frames.now) (to_z-of_z w64 (get_or c.args.targets.now c.loop-target.target-index (pos 0)) fits) (decides.0 (c.if-not-flows_at.false)));
+      flow = All-more (FlowsAt c.args.state.now.kinds c.args.frames.now) c.args.targets.now c.loop-target.target-index (pos 0) c.loop-target-test.true c.loop-target.invariant.flow (decides.0 c.if-not-flows_at.false);
     }
 
 pub returns-clause-flows : goal.returns-clause-flows

@@ -2,7 +2,14 @@ use Rattle.std.proofs.Common.{rules, ℤ, List, All, Decides, w64, SFits, sym, s
 use Rattle.std.proofs.lemmas.Int.{to_z-of_z}
 use Rattle.dj_ops.specs.declared.instruction.Instr.{Instr}
 use Rattle.dj_shape_rule.specs.Forms.{FlowsAt, FormFlows}
+use Rattle.dj_shape_rule.proofs.Lists.{are_still}
 use Rattle.dj_shape_rule.proofs.instrs.form_flows.Goals as goal
+
+pub all_flow-requires : goal.all_flow-requires
+all_flow-requires c = are_still c.args.frames.now c.args.state.now c.flows_at-in-Table.new.state c.flows_at-in-Table.ensures.same c.requires
+
+pub pairs_flow-requires : goal.pairs_flow-requires
+pairs_flow-requires c = are_still c.args.frames.now c.args.state.now c.flows_at-in-Lookup.new.state c.flows_at-in-Lookup.ensures.same c.requires
 
 pub returns-then-flows_at-clause-flows : goal.returns-then-flows_at-clause-flows
 returns-then-flows_at-clause-flows c =

@@ -1,4 +1,4 @@
-use Rattle.std.proofs.Common.{◌≡◌, ◌∙◌, List, Some, map, ap, sym}
+use Rattle.std.proofs.Common.{◌≡◌, ◌∙◌, ◌∷◌, [], ℕ, List, Some, None, map, replicate, ap, sym, subst}
 use Rattle.dj_ops.specs.declared.instruction.Instr.{Instr}
 use Rattle.dj_ops.specs.declared.frames.Frame.{Frame}
 use Rattle.dj_program.specs.trusted.Naming.{instruction_in}
@@ -6,6 +6,7 @@ use Rattle.dj_program.specs.trusted.Codes.{code_in}
 use Rattle.dj_model.specs.trusted.Instructions.{makes_uninitialised}
 use Rattle.dj_program.specs.Views.{parts_of}
 use Rattle.dj_model.specs.trusted.Kinds.{entry_slots}
+use Rattle.dj_shape_rule.specs.Listed.{AreFew}
 use Rattle.dj_shape_rule.specs.Reading.{signature_with}
 use Rattle.dj_shape_rule.proofs.Works.{ok_more}
 use Rattle.dj_shape_rule.proofs.Judging.{unfit, unfit_fault, fit_and_first, slots_same, in_code, err_fault, ok_fault, few_read}
@@ -16,12 +17,23 @@ returns-in_default c = λ pool are has.
     let signature = signature_with c.args.is_static c.args.call.now in
     let code = code_in pool (parts_of c.args.code.now) in
     let parts = in_code pool c.args.code.now in
-    let slots = ap (λ l. l) c.deref.ensures.value ∙ c.in_ok-copy_locals.ensures ∙ ap entry_slots (c.in_ok-reader.ensures.entries ∙ c.in_ok-entries.ensures) ∙ slots_same signature.parameters in
+    let slots = c.deref.ensures.value ∙ c.in_ok-copy_locals.ensures ∙ ap entry_slots (c.in_ok-reader.ensures.entries ∙ c.in_ok-entries.ensures) ∙ slots_same signature.parameters in
     let long = rw c.in_default.is at c.in_ok-state.ensures in
     unfit_fault signature code c.args.frames.now (parts.4 ∙ has) (unfit signature code c.args.code.now.max_locals c.deref.result.now slots (sym parts.1) long)
 
 pub judge-requires-clause-one : goal.judge-requires-clause-one
-judge-requires-clause-one c = let begun = rw c.in-Some.is at c.in_ok-state.ensures in begun.frames ∙ ap (λ n. _) (sym begun.locals_room)
+judge-requires-clause-one c =
+    let begun = rw c.in-Some.is at c.in_ok-state.ensures in
+    subst (λ (n : ℕ). c.in-Some.state.frames ≡ replicate n None ∷ []) (sym begun.locals_room) begun.frames
+
+pub judge-requires-clause-none : goal.judge-requires-clause-none
+judge-requires-clause-none c = let begun = rw c.in-Some.is at c.in_ok-state.ensures in begun.states
+
+pub judge-requires-clause-few : goal.judge-requires-clause-few
+judge-requires-clause-few c =
+    let begun = rw c.in-Some.is at c.in_ok-state.ensures in
+    let read = rw c.in-Ok.is at c.in_ok-at.ensures in
+    subst (AreFew c.in-Ok.reported) (sym begun.locals_room) (few_read c.args.code.now.max_stack c.args.code.now.max_locals read.0 c.in-Ok.reported read.2)
 
 pub returns-in-Err : goal.returns-in-Err
 returns-in-Err c = λ pool are has.
