@@ -36,6 +36,9 @@ module _ (max_stack : ℕ) (stack : List Kind) (old new : Lists) where
   pub but_lists : SameButFrames old new → SameButLists Old New
   but_lists same = (refl, same.count, kinds_with stack new.current old.current same.current, same.states)
 
+  pub but_states : SameButStates old new → (New.max_stack ≡ Old.max_stack) × (New.max_locals ≡ Old.max_locals) × (New.frames ≡ Old.frames)
+  but_states same = (refl, same.count, same.frames)
+
   pub noted : SameButStates old new → new.states ≡ old.states ++ old.current ∷ [] → IsNoted Old New
   noted same more = record {
     max_stack = refl;

@@ -5,7 +5,7 @@ ghost use Rattle.dj_model.specs.trusted.Kinds.{depth};
 ghost use Rattle.dj_model.specs.trusted.Numbers.{is_wide};
 ghost use Rattle.dj_model.specs.trusted.Shape.{gives, leaving, store_kind, taken, with_result};
 ghost use Rattle.dj_model.specs.trusted.Values.{local_at, one_slot, two_slots, without_half};
-ghost use Rattle.dj_shape_rule.specs.Standing.{IsBegun, IsListed, IsNoted, SameRoom, SameLocals, SameButLists, Takes, Leaves, IsCut, piece_kinds, room, standing_in};
+ghost use Rattle.dj_shape_rule.specs.Standing.{IsBegun, IsListed, IsNoted, SameRoom, SameLocals, SameButLists, SameButStates, Takes, Leaves, IsCut, piece_kinds, room, standing_in};
 
 use crate::error::ShapeError;
 use crate::frames::LentFrame;
@@ -157,6 +157,7 @@ impl KindState {
 
     /// Keeps the local variables before the next instruction.
     pub fn note(&mut self) -> Result<(), ShapeError>
+        ensures same { SameButStates self.old self.new }
         ensures noted { IfOk result (λ x. IsNoted self.old self.new) }
     {
         self.lists.note()?;

@@ -27,19 +27,19 @@ returns-then-not-branch-2-clause-answers c = λ case is before.
     let p = c.args.self.now in
     let q = c.meet_frame.new.self in
     let r = c.note.new.self in
-    fails_late c.args.method.now case is c.args.number c.args.instr.now c.requires.at p q (record q { state = c.apply.new.state }) r c.apply.new.state before c.meet_frame.ensures.room c.in_ok-note.ensures c.apply.ensures.room refl
+    fails_late c.args.method.now case is c.args.number c.args.instr.now c.requires.at p q (record q { state = c.apply.new.state }) r c.apply.new.state before c.meet_frame.ensures.room c.in_ok-note.ensures.noted c.apply.ensures.room refl
     (not_found c.args.method.now case is c.args.number c.args.instr.now c.requires.at r.kinds
-    (state_at c.args.method.now case is c.args.number c.args.instr.now c.requires.at p q r stands before c.in_ok-note.ensures)
+    (state_at c.args.method.now case is c.args.number c.args.instr.now c.requires.at p q r stands before c.in_ok-note.ensures.noted)
     (fails case.signature case.code (instruction_in case.pool c.args.instr.now) (c.effect_of-effect.ensures case.pool is.kinds) is.gives
-    (room_at c.args.method.now case is c.args.number c.args.instr.now c.requires.at p q r before c.meet_frame.ensures.room c.in_ok-note.ensures)))
+    (room_at c.args.method.now case is c.args.number c.args.instr.now c.requires.at p q r before c.meet_frame.ensures.room c.in_ok-note.ensures.noted)))
 
 pub leave-requires-clause-number : goal.leave-requires-clause-number
 leave-requires-clause-number c = slice_get_within c.args.method.now.code.now c.args.number c.args.instr.now c.requires.at
 
 pub leave-requires-clause-listed : goal.leave-requires-clause-listed
 leave-requires-clause-listed c =
-    are_kept c.args.method.now.frames c.args.self.now.state c.apply.new.state (c.apply.ensures.room.1 ∙ c.in_ok-note.ensures.max_locals ∙ c.meet_frame.ensures.room.1)
-    (c.apply.ensures.room.2 ∙ c.in_ok-note.ensures.frames ∙ c.meet_frame.ensures.room.2) c.requires.listed
+    are_kept c.args.method.now.frames c.args.self.now.state c.apply.new.state (c.apply.ensures.room.1 ∙ c.in_ok-note.ensures.noted.max_locals ∙ c.meet_frame.ensures.room.1)
+    (c.apply.ensures.room.2 ∙ c.in_ok-note.ensures.noted.frames ∙ c.meet_frame.ensures.room.2) c.requires.listed
 
 pub returns-clause-answers : goal.returns-clause-answers
 returns-clause-answers c = λ case is before.
@@ -49,8 +49,8 @@ returns-clause-answers c = λ case is before.
     let q = c.meet_frame.new.self in
     let r = c.note.new.self in
     let s = c.apply.new.state in
-    let room = room_at c.args.method.now case is c.args.number c.args.instr.now c.requires.at p q r before c.meet_frame.ensures.room c.in_ok-note.ensures in
+    let room = room_at c.args.method.now case is c.args.number c.args.instr.now c.requires.at p q r before c.meet_frame.ensures.room c.in_ok-note.ensures.noted in
     let does = c.effect_of-effect.ensures case.pool is.kinds in
     let found = applied case.signature case.code (instruction_in case.pool c.args.instr.now) does is.gives room in
     step_answers c.args.method.now case is c.args.number c.args.instr.now c.requires.at p q c.leave.new.self r s c.leave.result before stands c.meet_frame.ensures.room
-    (λ e. let yes = c.is_unhandled.ensures.1 e in absurd cc) c.in_ok-note.ensures found c.apply.ensures.room c.leave.ensures.same (c.leave.ensures.left case.pool)
+    (λ e. let yes = c.is_unhandled.ensures.1 e in absurd cc) c.in_ok-note.ensures.noted found c.apply.ensures.room c.leave.ensures.same (c.leave.ensures.left case.pool)
