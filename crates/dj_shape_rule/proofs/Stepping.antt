@@ -1,11 +1,11 @@
 -- What a step of the pass answers, from what its parts answer.
-use Rattle.std.proofs.Common.{◌≡◌, ℕ, suc, ◌+◌, ◌<◌, ◌≤◌, Bool, true, false, not, List, [], ◌∷◌, ◌++◌, length, length-append, get_or, Option, Some, None, slice_get, nat_le, refl, sym, ap, subst, ◌∙◌, inl, inr, Decides, arith}
+use Rattle.std.proofs.Common.{◌≡◌, ℕ, suc, ◌+◌, ◌<◌, ◌≤◌, Bool, true, false, List, [], ◌∷◌, ◌++◌, length, length-append, get_or, Option, Some, None, slice_get, nat_le, refl, sym, ap, subst, ◌∙◌, inl, inr, Decides, arith}
 use Rattle.std.proofs.lemmas.Bool.Decides.{nat_tests}
 use Rattle.dj_names.specs.declared.descriptor.Kind.{Kind}
 use Rattle.dj_ops.specs.declared.instruction.Instr.{Instr}
 use Rattle.dj_labels.specs.declared.labelled.Protected.{Protected}
 use Rattle.dj_program.specs.trusted.Naming.{instruction_in}
-use Rattle.dj_model.specs.trusted.Instructions.{Instruction, Other, ends, targets}
+use Rattle.dj_model.specs.trusted.Instructions.{Instruction, Other}
 use Rattle.dj_model.specs.trusted.Linking.{or_else}
 use Rattle.dj_model.specs.trusted.Program.{Code}
 use Rattle.dj_model.specs.trusted.Kinds.{Kinds, Signature, depth, placed_at}
@@ -16,7 +16,7 @@ use Rattle.dj_shape_rule.specs.Standing.{Standing, HasRoomOf, SameRoom, IsNoted,
 use Rattle.dj_shape_rule.specs.Reported.{Reported, reported_at, reported_kinds, IsReportedAs}
 use Rattle.dj_shape_rule.specs.Flows.{Flows, FlowsTo}
 use Rattle.dj_shape_rule.specs.Handlers.{Handled}
-use Rattle.dj_shape_rule.specs.Passing.{IsRun, HasHandlerFrame, IsFirstUnhandled, Case, IsCase, Before, HeldBut, AllHeldBut, JumpsFlow, arriving, kept, Flowing, Leaving, MeetsFrame, Answers}
+use Rattle.dj_shape_rule.specs.Passing.{IsRun, HasHandlerFrame, IsFirstUnhandled, Case, IsCase, Before, HeldBut, AllHeldBut, arriving, kept, Flowing, Leaving, MeetsFrame, Answers}
 use Rattle.dj_shape_rule.proofs.Lists.{get_before, get_last, order}
 use Rattle.dj_shape_rule.proofs.Steps.{state_is, no_state, holds, has_begins, has_handles, has_flowing, arrives}
 
@@ -194,37 +194,3 @@ module _ (method : Method) (c : Case) (is : IsCase method c) (number : ℕ) (ins
 
   pub state_at : (p q : Pass) (r : Standing) → MeetsFrame true (reported_at method.frames number) number p q → Before method c number p → IsNoted q.state r → State ≡ Some r.kinds
   state_at p q r stands before noted = (frame_stands p q stands before).0 ∙ ap (λ (k : Kinds). Some k) (sym noted.kinds)
-
--- ---- what is left fits, or doesn't
-
-ended : (ends : Bool) → true ≡ not ends → ends ≡ false
-ended true e = absurd cc
-ended false e = refl
-
-module _ (method : Method) (number : ℕ) (left : Kinds) (going : Bool) (i : Instruction) (goes : going ≡ not (ends i)) where
-  pub leaves_unfit : (IsRun i → Decides false (JumpsFlow left method.frames (targets i))) → Leaving method number left going i false
-  leaves_unfit jumps = record { goes = goes; decides = λ run. (λ no. absurd cc, λ flowing. (jumps run).1 flowing.jumps) }
-
-  pub leaves_ended : (IsRun i → Decides true (JumpsFlow left method.frames (targets i))) → going ≡ false → Leaving method number left going i true
-  leaves_ended jumps stops = record {
-    goes = goes;
-    decides = λ run. (
-      λ yes. record {
-        jumps = (jumps run).0 refl;
-        goes_on = λ stays. absurd (let on : going ≡ true = goes ∙ ap not stays in cc);
-      },
-      λ flowing. refl,
-    );
-  }
-
-  pub leaves_going : (on : Bool) → (IsRun i → Decides true (JumpsFlow left method.frames (targets i))) → going ≡ true
-      → Decides on ((number + 1 < length method.code.now) × FlowsTo left (reported_at method.frames (number + 1))) → Leaving method number left going i on
-  leaves_going on jumps stays next = record {
-    goes = goes;
-    decides = λ run.
-        let one : number + 1 ≡ suc number = omega arith in
-        let own = subst (λ (n : ℕ). Decides on ((n < length method.code.now) × FlowsTo left (reported_at method.frames n))) one next in (
-          λ yes. record { jumps = (jumps run).0 refl; goes_on = λ e. own.0 yes },
-          λ flowing. own.1 (flowing.goes_on (ended (ends i) (sym stays ∙ goes))),
-        );
-  }
