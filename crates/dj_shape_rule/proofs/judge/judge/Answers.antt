@@ -21,14 +21,20 @@ with_handlers-requires-clause-listed c =
 
 pub returns : goal.returns
 returns c = ok_more c.with_handlers.result _ _ (λ first so case j.
-    let is = record {
+    let same = c.list_frames.ensures.same in
+    so case (record {
       kinds = j.kept;
       gives = j.gives;
       instructions = j.instructions ∙ ap (λ (l : List Instr). map (instruction_in case.pool) l) (sym c.as_slice.ensures);
       ranges = j.ranges ∙ ap (λ (l : List Protected). map (range_in case.pool) l) (sym c.as_slice-rows.ensures);
       frames = j.reported;
-    } in
-    let same = c.list_frames.ensures.same in
-    so case is (c.in_ok-fault.ensures.first case is
+    })
+    (c.in_ok-fault.ensures.first case (record {
+      kinds = j.kept;
+      gives = j.gives;
+      instructions = j.instructions ∙ ap (λ (l : List Instr). map (instruction_in case.pool) l) (sym c.as_slice.ensures);
+      ranges = j.ranges ∙ ap (λ (l : List Protected). map (range_in case.pool) l) (sym c.as_slice-rows.ensures);
+      frames = j.reported;
+    })
     (begins _ case c.new-pass.result c.list_frames.new.state c.new-pass.ensures.state c.new-pass.ensures.going (same.0 ∙ j.room.0, same.1 ∙ j.room.1) (same.2 ∙ j.first) (same.3 ∙ c.requires.none) c.first_unhandled-unhandled.ensures)))
     c.with_handlers.ensures
