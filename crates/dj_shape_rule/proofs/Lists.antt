@@ -75,6 +75,13 @@ shared_few old new from count kinds shared few =
     let start = shared.count in
     omega (arith, few, start, ap length shared.after, length-append shared.shared kinds)
 
+-- all of a list's kinds are new where nothing was before
+pub shared_none : (new : List (Option Kind)) (from : ℕ) (kinds : List (Option Kind)) → IsShared [] new from kinds → kinds ≡ new
+shared_none new from kinds shared = by shared.shared shared.before shared.after where
+  by : (rest : List (Option Kind)) → [] ≡ rest ++ shared.gone → new ≡ rest ++ kinds → kinds ≡ new
+  by [] e f = sym f
+  by (x ∷ rest) e f = absurd cc
+
 pub changed_first : (count : ℕ) (kinds made : List (Option Kind)) → IsChanged count [] 0 kinds made → length kinds ≤ count → made ≡ padded count kinds
 changed_first count kinds made changed few =
     changed_shared count [] [] kinds 0 kinds made changed (record { shared = []; gone = []; before = refl; after = refl; count = refl }) (λ slot less. refl) few

@@ -48,8 +48,8 @@ returns-in-Err c = λ pool are has.
     err_fault pool c.args.code.now signature c.objects_made-made.result c.in_ok-reader.reader.entries.items c.as_slice.result.now list made (c.in_ok-reader.ensures.entries ∙ c.in_ok-entries.ensures) fit.0 c.in-Err.at
     (rw c.in-Err.is at c.in_ok-at.ensures)
 
-pub returns-in-Ok : goal.returns-in-Ok
-returns-in-Ok c = ok_more c.judge.result _ _ (λ fault judged pool are has.
+pub returns : goal.returns
+returns c = ok_more c.judge.result _ _ (λ fault judged pool are has.
     let signature = signature_with c.args.is_static c.args.call.now in
     let code = code_in pool (parts_of c.args.code.now) in
     let parts = in_code pool c.args.code.now in
