@@ -8,7 +8,7 @@ use Rattle.dj_names.specs.declared.descriptor.Kind.TheVariants as kinds
 use Rattle.dj_names.specs.declared.descriptor.Base.{Base}
 use Rattle.dj_names.specs.declared.run.Element.{Element}
 use Rattle.dj_names.specs.declared.run.Value.TheVariants as values
-use Rattle.dj_names.specs.trusted.Types.{field_kind, base_array}
+use Rattle.dj_names.specs.trusted.Types.{base_array}
 use Rattle.dj_ops.specs.declared.instruction.Instr.{Instr}
 use Rattle.dj_ops.specs.declared.instruction.Instr.TheVariants as instrs
 use Rattle.dj_pool.specs.trusted.Pool.{Constant}
@@ -21,9 +21,8 @@ use Rattle.dj_model.proofs.Flows.{either_way}
 use Rattle.dj_program.specs.trusted.Naming.{instruction_in, named_at}
 use Rattle.dj_shape_rule.specs.Reported.{ReportedFrames, reported_at}
 use Rattle.dj_shape_rule.specs.Flows.{FlowsToFrame}
-use Rattle.dj_shape_rule.specs.Forms.{StoresAt, form_ends, FormFlows}
+use Rattle.dj_shape_rule.specs.Forms.{form_ends, FormFlows}
 use Rattle.dj_shape_rule.specs.Passing.{IsRun, JumpsFlow}
-use Rattle.dj_shape_rule.specs.Works.{got, put, work_of}
 use Rattle.dj_shape_rule.proofs.Parts.{at_contains, contains_at}
 
 -- ---- rows of opcodes
@@ -81,64 +80,50 @@ late named op h =
 
 -- ---- each form
 
--- it goes on at the next one alone, and stores nothing
+-- it goes on at the next one alone
 abbrev IsCalm : Instruction → Type 0
-IsCalm i = (ends i ≡ false) × (targets i ≡ []) × StoresAt None (work_of i)
-
-got_calm : (slot : Option ℕ) (wanted : List Kind) (kind : Option Kind) → StoresAt slot (got wanted kind)
-got_calm slot wanted None = tt
-got_calm slot wanted (Some kind) = tt
-
-put_calm : (slot : Option ℕ) (wanted : List Kind) (kind : Option Kind) → StoresAt slot (put wanted kind)
-put_calm slot wanted None = tt
-put_calm slot wanted (Some kind) = tt
+IsCalm i = (ends i ≡ false) × (targets i ≡ [])
 
 literal_calm : (op : ℕ) (named : Named) → IsCalm (literal op named)
-literal_calm op (AnInt z) = either_way IsCalm (nat_eq op 20) (Other op (AnInt z)) (Push (values.Int z)) (refl, refl, tt) (refl, refl, tt)
-literal_calm op (AText units) = either_way IsCalm (nat_eq op 20) (Other op (AText units)) (PushText units) (refl, refl, tt) (refl, refl, tt)
-literal_calm op (ALong z) = either_way IsCalm (nat_eq op 20) (Push (values.Long z)) (Other op (ALong z)) (refl, refl, tt) (refl, refl, tt)
-literal_calm op named = (refl, refl, tt)
+literal_calm op (AnInt z) = either_way IsCalm (nat_eq op 20) (Other op (AnInt z)) (Push (values.Int z)) (refl, refl) (refl, refl)
+literal_calm op (AText units) = either_way IsCalm (nat_eq op 20) (Other op (AText units)) (PushText units) (refl, refl) (refl, refl)
+literal_calm op (ALong z) = either_way IsCalm (nat_eq op 20) (Push (values.Long z)) (Other op (ALong z)) (refl, refl) (refl, refl)
+literal_calm op named = (refl, refl)
 
 abbrev MemberDo : Member → List (ℕ × (Member → Instruction)) → Type 0
 MemberDo m [] = ⊤
 MemberDo m (row ∷ rows) = IsCalm (row.1 m) × MemberDo m rows
 
 member_such : (named : Named) (op : ℕ) (m : Member) (rows : List (ℕ × (Member → Instruction))) → MemberDo m rows → IsCalm (member_does rows named op m)
-member_such named op m [] all = (refl, refl, tt)
+member_such named op m [] all = (refl, refl)
 member_such named op m (row ∷ rows) all = either_way IsCalm (nat_eq op row.0) (row.1 m) (member_does rows named op m) all.0 (member_such named op m rows all.1)
 
 member_calm : (op : ℕ) (named : Named) → IsCalm (member op named)
-member_calm op (AField m) = member_such (AField m) op m field_rows (
-  (refl, refl, got_calm None [] (field_kind m.desc)),
-  (
-    (refl, refl, put_calm None [] (field_kind m.desc)),
-    ((refl, refl, got_calm None (kinds.Ref ∷ []) (field_kind m.desc)), ((refl, refl, put_calm None (kinds.Ref ∷ []) (field_kind m.desc)), tt)),
-  ),
-)
-member_calm op (AMethod m) = member_such (AMethod m) op m method_rows ((refl, refl, tt), ((refl, refl, tt), ((refl, refl, tt), tt)))
-member_calm op (AnInterfaceMethod m) = member_such (AnInterfaceMethod m) op m interface_method_rows ((refl, refl, tt), ((refl, refl, tt), tt))
-member_calm op named = (refl, refl, tt)
+member_calm op (AField m) = member_such (AField m) op m field_rows ((refl, refl), ((refl, refl), ((refl, refl), ((refl, refl), tt))))
+member_calm op (AMethod m) = member_such (AMethod m) op m method_rows ((refl, refl), ((refl, refl), ((refl, refl), tt)))
+member_calm op (AnInterfaceMethod m) = member_such (AnInterfaceMethod m) op m interface_method_rows ((refl, refl), ((refl, refl), tt))
+member_calm op named = (refl, refl)
 
 interface_calm : (count : ℕ) (named : Named) → IsCalm (interface_call count named)
-interface_calm count (AnInterfaceMethod m) = (refl, refl, tt)
-interface_calm count named = (refl, refl, tt)
+interface_calm count (AnInterfaceMethod m) = (refl, refl)
+interface_calm count named = (refl, refl)
 
 class_calm : (op : ℕ) (named : Named) → IsCalm (class_use op named)
 class_calm op (AClass class) = elim (either (nat_eq op 187)) [
-  | inl a ↦ rw a (refl, refl, tt)
+  | inl a ↦ rw a (refl, refl)
   | inr a ↦ elim (either (nat_eq op 189)) [
-    | inl b ↦ rw (a, b) (refl, refl, tt)
+    | inl b ↦ rw (a, b) (refl, refl)
     | inr b ↦ elim (either (nat_eq op 192)) [
-      | inl c ↦ rw (a, b, c) (refl, refl, tt)
-      | inr c ↦ elim (either (nat_eq op 193)) [ inl d ↦ rw (a, b, c, d) (refl, refl, tt) | inr d ↦ rw (a, b, c, d) (refl, refl, tt) ]
+      | inl c ↦ rw (a, b, c) (refl, refl)
+      | inr c ↦ elim (either (nat_eq op 193)) [ inl d ↦ rw (a, b, c, d) (refl, refl) | inr d ↦ rw (a, b, c, d) (refl, refl) ]
     ]
   ]
 ]
-class_calm op named = (refl, refl, tt)
+class_calm op named = (refl, refl)
 
 array_calm : (rows : List (ℕ × Base × Element)) (base : ℕ) → IsCalm (new_array rows base)
-array_calm [] base = (refl, refl, tt)
-array_calm (row ∷ rows) base = either_way IsCalm (nat_eq base row.0) (NewArray (base_array row.1) row.2) (new_array rows base) (refl, refl, tt) (array_calm rows base)
+array_calm [] base = (refl, refl)
+array_calm (row ∷ rows) base = either_way IsCalm (nat_eq base row.0) (NewArray (base_array row.1) row.2) (new_array rows base) (refl, refl) (array_calm rows base)
 
 -- a load, a store or an unknown one
 abbrev IsLocal : ℕ → Instruction → Type 0
@@ -150,11 +135,11 @@ local_still op slot named = operand_such IsLocal named op slot (refl, refl) loca
 
 -- a jump, or an unknown one
 abbrev IsJump : ℕ → Instruction → Type 0
-IsJump n i = (IsRun i → targets i ≡ n ∷ []) × StoresAt None (work_of i)
+IsJump n i = IsRun i → targets i ≡ n ∷ []
 
 jump_jumps : (op target : ℕ) (named : Named) → IsJump target (operand_does jump_rows named op target)
-jump_jumps op target named = operand_such IsJump named op target ((λ run. absurd run), tt) jump_rows
-    ((λ n. ((λ run. refl), tt)), ((λ n. ((λ run. refl), tt)), ((λ n. ((λ run. refl), tt)), ((λ n. ((λ run. refl), tt)), ((λ n. ((λ run. refl), tt)), ((λ n. ((λ run. refl), tt)), ((λ n. ((λ run. refl), tt)), ((λ n. ((λ run. refl), tt)), ((λ n. ((λ run. refl), tt)), ((λ n. ((λ run. refl), tt)), ((λ n. ((λ run. refl), tt)), ((λ n. ((λ run. refl), tt)), ((λ n. ((λ run. refl), tt)), ((λ n. ((λ run. refl), tt)), ((λ n. ((λ run. refl), tt)), ((λ n. ((λ run. refl), tt)), ((λ n. ((λ run. refl), tt)), ((λ n. ((λ run. refl), tt)), tt))))))))))))))))))
+jump_jumps op target named = operand_such IsJump named op target (λ run. absurd run) jump_rows
+    ((λ n run. refl), ((λ n run. refl), ((λ n run. refl), ((λ n run. refl), ((λ n run. refl), ((λ n run. refl), ((λ n run. refl), ((λ n run. refl), ((λ n run. refl), ((λ n run. refl), ((λ n run. refl), ((λ n run. refl), ((λ n run. refl), ((λ n run. refl), ((λ n run. refl), ((λ n run. refl), ((λ n run. refl), ((λ n run. refl), tt))))))))))))))))))
 
 simple_targets : (named : Named) (op : ℕ) → targets (simple named op) ≡ []
 unfolding simple
@@ -270,7 +255,7 @@ same_flow left frames pool (instrs.Literal op index) run = quiet_flow left frame
 same_flow left frames pool (instrs.Local op slot wide) run = quiet_flow left frames _ (local_still op slot Nothing).1
 same_flow left frames pool (instrs.Inc slot by wide) run = quiet_flow left frames _ refl
 same_flow left frames pool (instrs.Branch op target) run =
-    let e = (jump_jumps op (unsigned_abs target) Nothing).0 run in
+    let e = jump_jumps op (unsigned_abs target) Nothing run in
     (one_target left frames _ (unsigned_abs target) e, from_one left frames _ (unsigned_abs target) e)
 same_flow left frames pool (instrs.Table low default targets) run =
     let e = table_targets low targets in (

@@ -1,5 +1,5 @@
 -- The whole of a method's code: its frames as they are read, its parameters, and what follows for its shape.
-use Rattle.std.proofs.Common.{◌≡◌, ℕ, ◌≤◌, Bool, true, false, ◌&&◌, List, [], ◌∷◌, map, length, Option, Some, None, IsSome, IsNone, slice_get, nat_le, if◌then◌else◌, refl, sym, ap, subst, ◌∙◌, inl, inr, arith}
+use Rattle.std.proofs.Common.{◌≡◌, ℕ, ◌<◌, ◌≤◌, Bool, true, false, ◌&&◌, List, [], ◌∷◌, map, length, Option, Some, None, IsSome, IsNone, slice_get, nat_le, if◌then◌else◌, refl, sym, ap, subst, ◌∙◌, inl, inr, arith}
 use Rattle.std.specs.Option.{option_map}
 use Rattle.std.proofs.lemmas.Bool.Decides.{nat_tests}
 use Rattle.std.proofs.lemmas.Option.{slice_get-map}
@@ -15,10 +15,11 @@ use Rattle.dj_model.specs.trusted.Program.{Code}
 use Rattle.dj_model.specs.trusted.Numbers.{is_wide}
 use Rattle.dj_model.specs.trusted.Initialisation.{padded}
 use Rattle.dj_model.specs.trusted.Values.{in_slots}
-use Rattle.dj_model.specs.trusted.Kinds.{Signature, with_receiver, Kinds, Entry, Entries, entry_slots, entry_of, made_by, entries_of, with_entry, with_locals, with_stack, full_entries, form_entries, with_frame, with_fitting, fitting, stack_of, frames_after, frames_in, map_of, parameter_entries, Map, Read, Faulty, Placed}
+use Rattle.dj_model.specs.trusted.Kinds.{Signature, with_receiver, Kinds, Entry, Entries, entry_slots, entry_of, made_by, entries_of, with_entry, with_locals, with_stack, full_entries, form_entries, with_frame, with_fitting, fitting, stack_of, frames_after, frames_in, map_of, parameter_entries, Map, Read, Faulty, Placed, placed_at}
 use Rattle.dj_model.specs.trusted.Shape.{first_kinds, ParametersFit, IsFrameOrFault}
 use Rattle.dj_model.specs.Shape.{AllHold}
-use Rattle.dj_shape_rule.specs.Standing.{Standing, HasRoomOf, standing_in}
+use Rattle.dj_shape_rule.specs.Standing.{Standing, HasRoomOf}
+use Rattle.dj_shape_rule.specs.Listed.{AreFew}
 use Rattle.dj_ops.specs.declared.instruction.Instr.{Instr}
 use Rattle.dj_pool.specs.trusted.Pool.{Constant}
 use Rattle.dj_program.specs.declared.code.MethodCode.{MethodCode}
@@ -27,7 +28,7 @@ use Rattle.dj_program.specs.trusted.Codes.{code_in, range_in}
 use Rattle.dj_program.specs.Views.{parts_of}
 use Rattle.dj_shape_rule.specs.Kept.{KeptKinds}
 use Rattle.dj_shape_rule.specs.Pools.{ArePoolKinds}
-use Rattle.dj_shape_rule.specs.Reported.{ReportedFrames, AreReported}
+use Rattle.dj_shape_rule.specs.Reported.{Reported, ReportedFrames, AreReported, IsReportedAs, reported_at}
 use Rattle.dj_shape_rule.specs.Reading.{made_as, frame_code, signature_with}
 use Rattle.dj_shape_rule.specs.Passing.{Case, IsFirst}
 use Rattle.dj_shape_rule.specs.Judging.{IsFaultOf, IsJudged, fault_reported}
@@ -103,31 +104,15 @@ slots_same (kind ∷ parameters) = by (is_wide kind) (slots_same parameters) whe
   by false e = ap (λ (l : List (Option Kind)). Some kind ∷ l) e
 
 -- whether the parameters fit, and which kinds stand then
-module _ (signature : Signature) (code : Code) (s : Standing) (room : HasRoomOf s code) (slots : List (Option Kind)) (are : slots ≡ in_slots is_wide signature.parameters) where
-  pub unfit : standing_in s slots [] ≡ None → ParametersFit signature code → ⊥
-  unfit e fit =
-      let n : length slots ≡ length (in_slots is_wide signature.parameters) = ap length are in
-      let r : s.max_locals ≡ code.max_locals = room.1 in
-      let a : nat_le (length slots) s.max_locals ≡ true = grind (arith, nat_tests) in
-      let b : nat_le 0 s.max_stack ≡ true = grind (arith, nat_tests) in
-      let none = rw (a, b) at e in
-      absurd cc
+module _ (signature : Signature) (code : Code) (max_locals : ℕ) (slots : List (Option Kind)) (are : slots ≡ in_slots is_wide signature.parameters) (room : max_locals ≡ code.max_locals) where
+  pub unfit : max_locals < length slots → ParametersFit signature code → ⊥
+  unfit long fit = omega (arith, long, fit, room, ap length are)
 
-  fits_by : (a b : Bool) (k : Kinds) → a ≡ nat_le (length slots) s.max_locals
-      → ◌≡◌ {A = Option Kinds} (if a && b then Some (record { locals = padded s.max_locals slots; stack = [] }) else None) (Some k) → ParametersFit signature code × (k ≡ first_kinds signature code)
-  fits_by true true k e f =
-      let n : length slots ≡ length (in_slots is_wide signature.parameters) = ap length are in
-      let r : s.max_locals ≡ code.max_locals = room.1 in
-      let le : length slots ≤ s.max_locals = grind (arith, nat_tests) in
-      let same : ◌≡◌ {A = Kinds} (record { locals = padded s.max_locals slots; stack = [] }) k = cc in (
-        omega arith,
-        sym same ∙ ap (λ (m : ℕ). record { locals = padded m slots; stack = [] }) r ∙ ap (λ (l : List (Option Kind)). record { locals = padded code.max_locals l; stack = [] }) are,
-      )
-  fits_by true false k e f = absurd cc
-  fits_by false b k e f = absurd cc
-
-  pub fit_and_first : (k : Kinds) → standing_in s slots [] ≡ Some k → ParametersFit signature code × (k ≡ first_kinds signature code)
-  fit_and_first k e = fits_by (nat_le (length slots) s.max_locals) (nat_le 0 s.max_stack) k refl e
+  pub fit_and_first : length slots ≤ max_locals → ParametersFit signature code × (◌≡◌ {A = Kinds} (record { locals = padded max_locals slots; stack = [] }) (first_kinds signature code))
+  fit_and_first few = (
+    omega (arith, few, room, ap length are),
+    ap (λ (m : ℕ). record { locals = padded m slots; stack = [] }) room ∙ ap (λ (l : List (Option Kind)). record { locals = padded code.max_locals l; stack = [] }) are,
+  )
 
 -- ---- shape and faults
 
@@ -157,6 +142,11 @@ module _ (signature : Signature) (code : Code) (frames : List Frame) (has : code
           (subst (λ (x : Code). IsFrameOrFault signature x (Read c.placed) n) k (subst (λ (x : Signature). IsFrameOrFault x c.code (Read c.placed) n) s first)),
     ),
   )
+
+-- the local variables of frames that were read fit
+pub few_read : (max_stack max_locals : ℕ) (placed : List Placed) (frames : ReportedFrames) → AreReported max_stack max_locals placed frames → AreFew frames max_locals
+few_read max_stack max_locals placed frames are number reported at =
+    (subst (λ (r : Option Reported). IsReportedAs max_stack max_locals r (placed_at placed number)) at (are number)).1
 
 -- ---- code as it is kept
 

@@ -1,9 +1,11 @@
 -- Slots of local variables, each above those before it.
-use Rattle.std.proofs.Common.{◌≡◌, ℕ, zero, suc, ◌+◌, ◌-◌, ◌<◌, ◌≤◌, ◌⊎◌, List, [], ◌∷◌, ◌++◌, length, length-append, append_assoc, Option, Some, None, slice_get, refl, sym, ap, subst, ◌∙◌, inl, inr, arith}
+use Rattle.std.proofs.Common.{◌≡◌, ℕ, zero, suc, ◌+◌, ◌-◌, ◌<◌, ◌≤◌, ◌⊎◌, List, [], ◌∷◌, ◌++◌, length, length-append, append_assoc, get_or, reverse, Option, Some, None, slice_get, refl, sym, ap, subst, ◌∙◌, inl, inr, arith}
+use Rattle.std.proofs.lemmas.List.{reverse-append}
+use Rattle.std.proofs.lemmas.Option.{slice_get-get_or}
 use Rattle.dj_names.specs.declared.descriptor.Kind.{Kind}
 use Rattle.dj_shape_rule.specs.declared.arena.Slot.{Slot}
 use Rattle.dj_shape_rule.specs.declared.arena.LocalsPlace.{LocalsPlace}
-use Rattle.dj_shape_rule.specs.Arena.{slot_at, with_slot, slots_within, slots_at, AreLinked, IsIn, IsAt, Extends}
+use Rattle.dj_shape_rule.specs.Arena.{slot_at, with_slot, slots_within, slots_at, AreLinked, IsIn, IsAt, IsShared, Extends}
 
 -- ---- lists with one more, or more
 
@@ -155,3 +157,42 @@ before_within slots linked place slot is at =
     let less : slot.before < place.end = linked place.end slot at in
     let within = is.0 in
     omega arith
+
+-- ---- below a place
+
+pub below_is : (slots : List Slot) → AreLinked slots → (place : LocalsPlace) (none slot : Slot) → IsIn slots place → 0 < place.end → slot ≡ get_or slots (place.end - 1) none
+    → (0 < place.count) × IsIn slots (record { end = slot.before; count = place.count - 1 }) × (slot.before < place.end) × (slots_at slots place.end ≡ slots_at slots slot.before ++ slot.kind ∷ [])
+below_is slots linked place none slot is some got =
+    let within = is.0 in
+    let there : slice_get slots (place.end - 1) ≡ Some slot = slice_get-get_or slots (place.end - 1) none (omega (arith, within, some)) ∙ ap (λ (x : Slot). Some x) (sym got) in
+    let at : slot_at slots place.end ≡ Some slot = slot_below slots place.end some ∙ there in
+    let count = one_less slots linked place slot is at in (
+      omega (arith, count),
+      (before_within slots linked place slot is at, omega (arith, count)),
+      linked place.end slot at,
+      slots_above slots linked place.end slot at,
+    )
+
+-- what stands above a place, from the last on
+pub more_above : (all rest under kept more : List (Option Kind)) (x : Option Kind) → all ≡ rest ++ reverse kept → rest ≡ under ++ x ∷ [] → more ≡ kept ++ x ∷ [] → all ≡ under ++ reverse more
+more_above all rest under kept more x split last pushed =
+    let e : reverse more ≡ x ∷ reverse kept = ap reverse pushed ∙ reverse-append kept (x ∷ []) in
+    split ∙ ap (λ (l : List (Option Kind)). l ++ reverse kept) last ∙ append_assoc under (x ∷ []) (reverse kept) ∙ sym (ap (λ (l : List (Option Kind)). under ++ l) e)
+
+pub gone_more : (all rest under gone : List (Option Kind)) (x : Option Kind) → all ≡ rest ++ gone → rest ≡ under ++ x ∷ [] → all ≡ under ++ x ∷ gone
+gone_more all rest under gone x split last = split ∙ ap (λ (l : List (Option Kind)). l ++ gone) last ∙ append_assoc under (x ∷ []) gone
+
+pub nothing_above : (all : List (Option Kind)) → all ≡ all ++ []
+nothing_above [] = refl
+nothing_above (x ∷ all) = ap (λ (l : List (Option Kind)). x ∷ l) (nothing_above all)
+
+-- where the places are the same
+pub shared_is : (slots : List Slot) (old new first second : LocalsPlace) (gone kept kinds : List (Option Kind)) → IsIn slots second → first.end ≡ second.end → slots_at slots old.end ≡ slots_at slots first.end ++ gone
+    → slots_at slots new.end ≡ slots_at slots second.end ++ reverse kept → kinds ≡ reverse kept → IsShared (slots_at slots old.end) (slots_at slots new.end) second.count kinds
+shared_is slots old new first second gone kept kinds is same before after turned = record {
+  shared = slots_at slots second.end;
+  gone = gone;
+  before = before ∙ ap (λ (n : ℕ). slots_at slots n ++ gone) same;
+  after = after ∙ ap (λ (l : List (Option Kind)). slots_at slots second.end ++ l) (sym turned);
+  count = is.1;
+}

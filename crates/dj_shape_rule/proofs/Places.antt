@@ -1,7 +1,6 @@
 -- The places of the entries of a frame's local variables, and the frames that are kept.
-use Rattle.std.proofs.Common.{◌≡◌, ℕ, zero, suc, ◌+◌, ◌-◌, ◌<◌, ◌≤◌, Bool, true, false, List, [], ◌∷◌, ◌++◌, length, take, min, get_or, set, Option, Some, None, Result, Ok, Err, IfOk, IfErr, slice_get, nat_eq, nat_le, if◌then◌else◌, refl, sym, ap, subst, ◌∙◌, inl, inr, arith}
+use Rattle.std.proofs.Common.{◌≡◌, ℕ, zero, suc, ◌+◌, ◌-◌, ◌<◌, ◌≤◌, ◌⊎◌, Bool, true, false, List, [], ◌∷◌, ◌++◌, length, take, min, get_or, set, Option, Some, None, slice_get, nat_eq, nat_le, if◌then◌else◌, refl, sym, ap, subst, ◌∙◌, inl, inr, arith}
 use Rattle.std.specs.Option.{option_map}
-use Rattle.std.specs.BTreeMap.{BTreeMap}
 use Rattle.std.proofs.lemmas.List.{get_or-set_other, get_or_past, take-append-le, take_all, take_more}
 use Rattle.std.proofs.lemmas.Bool.Decides.{nat_tests}
 use Rattle.std.proofs.lemmas.Grind.{get_or-set_at}
@@ -16,7 +15,9 @@ use Rattle.dj_shape_rule.specs.declared.arena.Slot.{Slot}
 use Rattle.dj_shape_rule.specs.declared.arena.LocalsPlace.{LocalsPlace}
 use Rattle.dj_shape_rule.specs.declared.frames.KeptFrame.{KeptFrame}
 use Rattle.dj_shape_rule.specs.Arena.{slots_at, AreLinked, IsIn, IsAt, Extends}
-use Rattle.dj_shape_rule.specs.Placing.{kept_at, AreMarked, ArePlaced, HasOneMore, HasSame}
+use Rattle.dj_shape_rule.specs.declared.numbered.NumberedFrames.{NumberedFrames}
+use Rattle.dj_shape_rule.specs.Numbered.{frame_at}
+use Rattle.dj_shape_rule.specs.Placing.{kept_at, number_place, ArePlaced, HasOneMore}
 use Rattle.dj_shape_rule.specs.Reported.{Reported, ReportedFrames, reported_at, reported_in, Grows, IsKept}
 use Rattle.dj_shape_rule.specs.declared.reading.Reader.{Reader}
 use Rattle.dj_shape_rule.specs.Reading.{ChangesTo, ArePlaces, IsReading, kept_entries}
@@ -144,56 +145,27 @@ last_of_some slots (x ∷ places) entries place are e =
 
 -- ---- frames that are kept
 
-pub placed_grown : (old new : List Slot) (reported : BTreeMap ℕ KeptFrame) → AreLinked old → Extends old new → ArePlaced old reported → ArePlaced new reported
+pub placed_grown : (old new : List Slot) (reported : NumberedFrames) → AreLinked old → Extends old new → ArePlaced old reported → ArePlaced new reported
 placed_grown old new reported linked grows placed number kept at = in_grown old new linked grows kept.place (placed number kept at)
 
-pub placed_same : (slots : List Slot) (old new : BTreeMap ℕ KeptFrame) → HasSame old new → ArePlaced slots old → ArePlaced slots new
-placed_same slots old new same placed number kept at = placed number kept (sym (same number) ∙ at)
+pub placed_none : (slots : List Slot) (reported : NumberedFrames) → reported.kept.items ≡ [] → ArePlaced slots reported
+placed_none slots reported none index kept at = absurd (let e = subst (λ (l : List KeptFrame). slice_get l index ≡ Some kept) none at in cc)
 
-pub placed_more : (slots : List Slot) (old new : BTreeMap ℕ KeptFrame) (at : ℕ) (kept : KeptFrame) → HasOneMore old new at kept → IsIn slots kept.place → ArePlaced slots old → ArePlaced slots new
-placed_more slots old new at kept more is placed number k there = by (kept_at old number) (nat_eq at number) (λ o e. placed number o e) (sym (more number) ∙ there) where
-  by : (o : Option KeptFrame) (b : Bool) → ((x : KeptFrame) → o ≡ Some x → IsIn slots x.place) → or_else o (if b then Some kept else None) ≡ Some k → IsIn slots k.place
-  by (Some x) b each e = let same : x ≡ k = cc in subst (λ (y : KeptFrame). IsIn slots y.place) same (each x refl)
-  by None true each e = let same : kept ≡ k = cc in subst (λ (y : KeptFrame). IsIn slots y.place) same is
-  by None false each e = absurd cc
+-- a frame more, or none
+pub placed_after : (slots : List Slot) (old new : NumberedFrames) (kept : KeptFrame) → (new.kept.items ≡ old.kept.items) ⊎ (new.kept.items ≡ old.kept.items ++ kept ∷ []) → IsIn slots kept.place
+    → ArePlaced slots old → ArePlaced slots new
+placed_after slots old new kept (inl same) is placed index k at = placed index k (sym (ap (λ (l : List KeptFrame). slice_get l index) same) ∙ at)
+placed_after slots old new kept (inr more) is placed index k at = elim (split_last old.kept.items kept k index (sym (ap (λ (l : List KeptFrame). slice_get l index) more) ∙ at)) [
+  | inl there ↦ placed index k there
+  | inr last ↦ subst (λ (x : KeptFrame). IsIn slots x.place) last.1 is
+]
 
-pub placed_after : {A E : Type 0} (r : Result A E) (slots : List Slot) (old new : BTreeMap ℕ KeptFrame) (at : ℕ) (kept : KeptFrame) → IfOk r (λ x. HasOneMore old new at kept)
-    → IfErr r (λ e. HasSame old new) → IsIn slots kept.place → ArePlaced slots old → ArePlaced slots new
-placed_after (Ok x) slots old new at kept more same is placed = placed_more slots old new at kept more is placed
-placed_after (Err e) slots old new at kept more same is placed = placed_same slots old new same placed
-
--- one more is marked
-pub marked_set : (marked : List Bool) (number : ℕ) → number < length marked → (other : ℕ) → get_or (set marked number true) other true ≡ false
-    → (other ≡ number → ⊥) × (get_or marked other true ≡ false)
-marked_set marked number within other e = (own, sym (get_or-set_other marked number other true true own) ∙ e) where
-  own : other ≡ number → ⊥
-  own same =
-      let t : true ≡ false = sym (get_or-set_at marked number other true true same within) ∙ e in
-      absurd cc
-
-pub marked_past : (marked : List Bool) (number : ℕ) → length marked ≤ number → (other : ℕ) → get_or marked other true ≡ false
-    → (other ≡ number → ⊥) × (get_or marked other true ≡ false)
-marked_past marked number past other e = (own, e) where
-  own : other ≡ number → ⊥
-  own same =
-      let t : true ≡ false = sym (get_or_past marked other true (omega arith)) ∙ e in
-      absurd cc
-
-other_number : (a b : ℕ) → (b ≡ a → ⊥) → nat_eq a b ≡ false
-other_number a b differ = by (nat_eq a b) refl where
-  by : (t : Bool) → nat_eq a b ≡ t → t ≡ false
-  by true e = let same : b ≡ a = grind (arith, nat_tests) in absurd (differ same)
-  by false e = refl
-
--- the marks of the frames, where the one that is kept is marked first
-pub marked_after : {A E : Type 0} (r : Result A E) (before after : List Bool) (old new : BTreeMap ℕ KeptFrame) (at : ℕ) (kept : KeptFrame) → IfOk r (λ x. HasOneMore old new at kept)
-    → IfErr r (λ e. HasSame old new) → ((n : ℕ) → get_or after n true ≡ false → (n ≡ at → ⊥) × (get_or before n true ≡ false)) → AreMarked before old → AreMarked after new
-marked_after (Ok x) before after old new at kept more same first marks number e =
-    let own = first number e in
-    let other = other_number at number own.0 in
-    more number ∙ ap (λ (b : Bool). or_else (kept_at old number) (if b then Some kept else None)) other
-    ∙ ap (λ (o : Option KeptFrame). or_else o None) (marks number own.1)
-marked_after (Err f) before after old new at kept more same first marks number e = same number ∙ marks number (first number e).1
+-- the frame at an instruction
+pub placed_at : (slots : List Slot) (reported : NumberedFrames) (number : ℕ) (kept : KeptFrame) → ArePlaced slots reported → kept_at reported number ≡ Some kept → IsIn slots kept.place
+placed_at slots reported number kept placed at = by (number_place reported number) at where
+  by : (place : ℕ) → frame_at reported.kept.items place ≡ Some kept → IsIn slots kept.place
+  by zero e = absurd cc
+  by (suc index) e = placed index kept e
 
 pub reported_none : (frames : ReportedFrames) (number : ℕ) → kept_at frames.reported number ≡ None → reported_at frames number ≡ None
 unfolding reported_at
@@ -218,7 +190,7 @@ reported_more old new at kept slots more number =
 pub reported_still : (old new : ReportedFrames) → Grows old new → (number : ℕ) → reported_at new number ≡ reported_at old number
 unfolding reported_at
 reported_still old new grows number =
-    ap (λ (m : BTreeMap ℕ KeptFrame). option_map (reported_in new.slots.items) (kept_at m number)) grows.1 ∙ by (kept_at old.reported number) (λ kept e. old.placed number kept e) where
+    ap (λ (m : NumberedFrames). option_map (reported_in new.slots.items) (kept_at m number)) grows.1 ∙ by (kept_at old.reported number) (λ kept e. placed_at old.slots.items old.reported number kept old.placed e) where
       by : (o : Option KeptFrame) → ((kept : KeptFrame) → o ≡ Some kept → IsIn old.slots.items kept.place)
           → option_map (reported_in new.slots.items) o ≡ option_map (reported_in old.slots.items) o
       by None placed = refl

@@ -1,6 +1,5 @@
 -- Local variables by their slots, and when they flow into others.
-use Rattle.std.proofs.Common.{◌≡◌, ℕ, zero, suc, ◌-◌, ◌≤◌, Bool, true, false, ◌&&◌, IsTrue, List, [], ◌∷◌, ◌++◌, length, length-append, append_assoc, replicate, inl, inr, ◌+◌, reverse, Option, Some, None, refl, sym, ap, subst, ◌∙◌, arith}
-use Rattle.std.proofs.lemmas.Bool.{cases_lt}
+use Rattle.std.proofs.Common.{◌≡◌, ℕ, zero, suc, ◌-◌, Bool, true, false, ◌&&◌, IsTrue, List, [], ◌∷◌, ◌++◌, length, replicate, reverse, Option, Some, None, refl, sym, ap, subst, ◌∙◌}
 use Rattle.std.proofs.lemmas.List.{reverse-reverse}
 use Rattle.std.specs.Cmp.Lexicographic.{pointwise}
 use Rattle.dj_names.specs.declared.descriptor.Kind.{Kind}
@@ -27,11 +26,6 @@ at_more (x ∷ xs) n (suc slot) = at_more xs n slot
 -- local variables after the last have no kind
 pub at_padded : {A : Type 0} (n : ℕ) (xs : List (Option A)) (slot : ℕ) → local_at (padded n xs) slot ≡ local_at xs slot
 at_padded n xs slot = at_more xs (n - length xs) slot
-
-pub at_past : {A : Type 0} (xs : List (Option A)) (slot : ℕ) → length xs ≤ slot → local_at xs slot ≡ None
-at_past [] slot past = refl
-at_past (x ∷ xs) zero past = absurd (omega arith)
-at_past (x ∷ xs) (suc slot) past = at_past xs slot (omega arith)
 
 -- ---- kinds
 
@@ -95,55 +89,7 @@ to_flow (x ∷ locals) (None ∷ reported) f = to_flow locals reported (λ slot 
 to_flow (x ∷ locals) (Some k ∷ reported) f =
     both (is_kind k x) (locals_flow locals reported) (kind_is k x (f 0 k refl)) (to_flow locals reported (λ slot kind e. f (suc slot) kind e))
 
--- the last of the first of a list
-pub at_last : {A : Type 0} (reported rest new done : List (Option A)) (x : Option A) → reported ≡ rest ++ done → rest ≡ new ++ x ∷ [] → local_at reported (length new) ≡ x
-at_last {A} reported rest new done x e f = ap (λ (l : List (Option A)). local_at l (length new)) (e ∙ ap (λ (l : List (Option A)). l ++ done) f) ∙ at_seam new done where
-  at_seam : (xs ys : List (Option A)) → local_at ((xs ++ x ∷ []) ++ ys) (length xs) ≡ x
-  at_seam [] ys = refl
-  at_seam (y ∷ xs) ys = at_seam xs ys
-
-pub split_less : {A : Type 0} (reported rest new done : List (Option A)) (x : Option A) → reported ≡ rest ++ done → rest ≡ new ++ x ∷ [] → reported ≡ new ++ x ∷ done
-split_less {A} reported rest new done x e f = e ∙ ap (λ (l : List (Option A)). l ++ done) f ∙ append_assoc new (x ∷ []) done
-
-pub one_shorter : {A : Type 0} (rest new : List (Option A)) (x : Option A) → rest ≡ new ++ x ∷ [] → length rest ≡ length new + 1
-one_shorter rest new x e = ap length e ∙ length-append new (x ∷ [])
-
-pub split_few : {A : Type 0} (reported rest done : List (Option A)) → reported ≡ rest ++ done → length rest ≤ length reported
-split_few reported rest done e = omega (arith, ap length e, length-append rest done)
-
-pub split_none : {A : Type 0} (reported rest : List (Option A)) → rest ≡ reported → reported ≡ rest ++ []
-split_none {A} reported rest e = sym (nothing rest ∙ e) where
-  nothing : (l : List (Option A)) → l ++ [] ≡ l
-  nothing [] = refl
-  nothing (x ∷ l) = ap (λ (m : List (Option A)). x ∷ m) (nothing l)
-
-pub flow_none : (locals reported rest : List (Option Kind)) → rest ≡ reported → (slot : ℕ) (kind : Kind) → length rest ≤ slot → local_at reported slot ≡ Some kind → local_at locals slot ≡ Some kind
-flow_none locals reported rest e slot kind past at =
-    let count = ap length e in
-    let none : local_at reported slot ≡ None = at_past reported slot (omega arith) in
-    absurd cc
-
--- what holds of each slot from one on, with one more before it
-pub flow_down : (locals reported rest new done : List (Option Kind)) (x : Option Kind) → reported ≡ rest ++ done → rest ≡ new ++ x ∷ []
-    → ((slot : ℕ) (kind : Kind) → length rest ≤ slot → local_at reported slot ≡ Some kind → local_at locals slot ≡ Some kind)
-    → ((kind : Kind) → x ≡ Some kind → local_at locals (length new) ≡ Some kind)
-    → (slot : ℕ) (kind : Kind) → length new ≤ slot → local_at reported slot ≡ Some kind → local_at locals slot ≡ Some kind
-flow_down locals reported rest new done x split last above here slot kind most e = elim (cases_lt (length new) slot) [
-  | inl less ↦ let count = one_shorter rest new x last in above slot kind (omega arith) e
-  | inr least ↦
-      let same : slot ≡ length new = omega arith in
-      subst (λ (n : ℕ). local_at locals n ≡ Some kind) (sym same)
-      (here kind (sym (at_last reported rest new done x split last) ∙ subst (λ (n : ℕ). local_at reported n ≡ Some kind) same e))
-]
-
-pub from_all_above : (locals reported rest : List (Option Kind)) → rest ≡ [] → ((slot : ℕ) (kind : Kind) → length rest ≤ slot → local_at reported slot ≡ Some kind → local_at locals slot ≡ Some kind)
-    → LocalsFlow locals reported
-from_all_above locals reported rest e above slot kind at = let count = ap length e in above slot kind (omega arith) at
-
--- padding of either list changes nothing
-pub padded_flow : (n m : ℕ) (locals reported : List (Option Kind)) → LocalsFlow locals reported → LocalsFlow (padded n locals) (padded m reported)
-padded_flow n m locals reported f slot kind e = at_padded n locals slot ∙ f slot kind (sym (at_padded m reported slot) ∙ e)
-
+-- padding changes nothing
 pub unpadded_flow : (m : ℕ) (locals reported : List (Option Kind)) → LocalsFlow locals (padded m reported) → LocalsFlow locals reported
 unpadded_flow m locals reported f slot kind e = f slot kind (at_padded m reported slot ∙ e)
 
@@ -177,18 +123,6 @@ pub to_flows : (left reported : Kinds) → LocalsFlow left.locals reported.local
 to_flows left reported f e =
     both (locals_flow left.locals reported.locals) (pointwise same_kind left.stack reported.stack) (to_flow left.locals reported.locals f)
     (subst (λ s. IsTrue (pointwise same_kind left.stack s)) e (stack_itself left.stack))
-
--- ---- local variables of which those after the last aren't kept
-
-pub flow_from_all : (n : ℕ) (kept all reported say : List (Option Kind)) → padded n kept ≡ all → say ≡ reported → LocalsFlow all reported → LocalsFlow kept say
-flow_from_all n kept all reported say same e f slot kind at =
-    sym (at_padded n kept slot) ∙ ap (λ (l : List (Option Kind)). local_at l slot) same
-    ∙ f slot kind (sym (ap (λ (l : List (Option Kind)). local_at l slot) e) ∙ at)
-
-pub flow_to_all : (n : ℕ) (kept all reported say : List (Option Kind)) → padded n kept ≡ all → say ≡ reported → LocalsFlow kept say → LocalsFlow all reported
-flow_to_all n kept all reported say same e f slot kind at =
-    sym (ap (λ (l : List (Option Kind)). local_at l slot) same) ∙ at_padded n kept slot
-    ∙ f slot kind (ap (λ (l : List (Option Kind)). local_at l slot) e ∙ at)
 
 pub reverse_injects : (a b : List Kind) → reverse a ≡ reverse b → a ≡ b
 reverse_injects a b e = sym (reverse-reverse a) ∙ ap reverse e ∙ reverse-reverse b

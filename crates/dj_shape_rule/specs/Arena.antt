@@ -40,3 +40,11 @@ pub record IsAt (slots : List Slot) (place : LocalsPlace) (locals : List (Option
 -- the same slots, and others after them
 abbrev pub Extends : List Slot → List Slot → Type 0
 Extends old new = (more : List Slot) × (new ≡ old ++ more)
+
+-- two lists begin alike up to this count, and the second goes on with these kinds
+pub record IsShared (old new : List (Option Kind)) (from : ℕ) (kinds : List (Option Kind)) : Type 0 where
+  pub shared : List (Option Kind)
+  pub gone : List (Option Kind)
+  pub before : old ≡ shared ++ gone
+  pub after : new ≡ shared ++ kinds
+  pub count : from ≡ length shared

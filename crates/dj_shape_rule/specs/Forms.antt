@@ -1,25 +1,12 @@
 -- Used by the code alone: what the forms of instructions say, whatever their indexes name.
-use Rattle.std.specs.Prelude.{◌≡◌, ℕ, ◌+◌, ◌-◌, ⊤, Bool, true, false, ℤ, Option, Some, None, All, unsigned_abs}
+use Rattle.std.specs.Prelude.{⊤, Bool, true, false, ℤ, All, unsigned_abs}
 use Rattle.dj_ops.specs.declared.instruction.Instr.{Instr}
 use Rattle.dj_ops.specs.declared.instruction.Instr.TheVariants as instrs
 use Rattle.dj_model.specs.trusted.Instructions.{Nothing, ends}
 use Rattle.dj_model.specs.trusted.Opcodes.{simple, operand_does, jump_rows}
 use Rattle.dj_model.specs.trusted.Kinds.{Kinds}
-use Rattle.dj_shape_rule.specs.declared.needs.Changed.{Changed}
-use Rattle.dj_shape_rule.specs.declared.needs.Changed.TheVariants as changes
 use Rattle.dj_shape_rule.specs.Reported.{ReportedFrames, reported_at}
 use Rattle.dj_shape_rule.specs.Flows.{FlowsToFrame}
-use Rattle.dj_shape_rule.specs.Works.{Work, Stores}
-
--- the slot in which it stores, where it does
-abbrev pub StoresAt : Option ℕ → Work → Type 0
-StoresAt slot (Stores kind at) = slot ≡ Some at
-StoresAt slot work = ⊤
-
--- the local variables around the slot
-abbrev pub around : Option ℕ → Changed
-around None = changes.Some 0 0
-around (Some slot) = changes.Some (slot - 1) (slot + 2)
 
 -- whether the run never goes on at the next instruction
 abbrev pub form_ends : Instr → Bool

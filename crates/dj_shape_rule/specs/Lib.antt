@@ -3,11 +3,12 @@ pub mod Arena
 pub mod Kept
 pub mod Pools
 pub mod Standing
+pub mod Numbered
 pub mod Placing
 pub mod Reported
 pub mod Flows
-pub mod Needs
 pub mod Handlers
+pub mod Listed
 pub mod Works
 pub mod Passing
 pub mod Forms

@@ -1,5 +1,6 @@
 -- Used by the code alone: the pass over the instructions of code, from the first to the last.
-use Rattle.std.specs.Prelude.{◌≡◌, ℕ, zero, suc, ◌<◌, ◌≤◌, ⊤, Bool, true, false, List, [], ◌∷◌, map, Option, Some, None, MatchOption, min, Contains, Decides, length, not, ◌⊎◌, slice_get, if◌then◌else◌}
+use Rattle.std.specs.Prelude.{◌≡◌, ℕ, zero, suc, ◌<◌, ◌≤◌, ⊤, Bool, true, false, List, [], ◌∷◌, map, get_or, Option, Some, None, MatchOption, min, Contains, Decides, length, not, ◌⊎◌, slice_get, if◌then◌else◌}
+use Rattle.dj_names.specs.declared.descriptor.Kind.{Kind}
 use Rattle.dj_names.specs.declared.descriptor.Kind.TheVariants as kinds
 use Rattle.dj_labels.specs.declared.labelled.Protected.{Protected}
 use Rattle.dj_pool.specs.trusted.Pool.{Constant}
@@ -7,26 +8,17 @@ use Rattle.dj_program.specs.trusted.Naming.{instruction_in}
 use Rattle.dj_program.specs.trusted.Codes.{range_in}
 use Rattle.dj_model.specs.trusted.Program.{Code}
 use Rattle.dj_model.specs.trusted.Instructions.{Instruction, Other, ends, targets}
-use Rattle.dj_model.specs.trusted.Values.{local_at}
 use Rattle.dj_model.specs.trusted.Kinds.{Kinds, Signature, Placed}
 use Rattle.dj_model.specs.trusted.Shape.{after, first_kinds, goes_on_with, state_before, HoldsAt, IsFirstFault}
-use Rattle.dj_shape_rule.specs.declared.needs.Changed.{Changed}
-use Rattle.dj_shape_rule.specs.declared.needs.Changed.TheVariants as changes
 use Rattle.dj_shape_rule.specs.declared.pass.Method.{Method}
 use Rattle.dj_shape_rule.specs.declared.pass.Pass.{Pass}
 use Rattle.dj_shape_rule.specs.Pools.{ArePoolKinds}
 use Rattle.dj_shape_rule.specs.Standing.{HasRoomOf, standing_in}
 use Rattle.dj_shape_rule.specs.Reported.{Reported, ReportedFrames, reported_at, AreReported}
 use Rattle.dj_shape_rule.specs.Flows.{Flows, FlowsTo, FlowsToFrame}
-use Rattle.dj_shape_rule.specs.Needs.{IsChanged}
-use Rattle.dj_shape_rule.specs.Handlers.{IsKnownBut}
+use Rattle.dj_shape_rule.specs.Handlers.{Handled}
 
 -- ---- what an instruction's form says, whatever its index names
-
--- no other local variables have another kind after it
-abbrev pub ChangesOnly : Changed → Instruction → Type 0
-ChangesOnly changed i = (signature : Signature) (code : Code) (k left : Kinds) → after signature code i k ≡ Some left
-    → (slot : ℕ) → (IsChanged changed slot → ⊥) → local_at left.locals slot ≡ local_at k.locals slot
 
 abbrev pub IsRun : Instruction → Type 0
 IsRun (Other op named) = ⊥
@@ -82,27 +74,34 @@ arriving c (suc number) = goes_on_with c.signature c.code (state_before c.signat
 abbrev pub kept : Bool → Kinds → Option Kinds
 kept going k = if going then Some k else None
 
--- the ranges in order are those of the method; the handlers' frames were looked at, and no handler before this instruction lacks the frame that it needs
-pub record IsReady (method : Method) (number : ℕ) (pass : Pass) : Type 0 where
-  pub same : (row : Protected) → Contains method.rows.now row → Contains pass.handlers.rows.items row
-  pub own : (row : Protected) → Contains pass.handlers.rows.items row → Contains method.rows.now row
-  pub unhandled : IsFirstUnhandled method.frames method.rows.now method.unhandled
-  pub later : (least : ℕ) → method.unhandled ≡ Some least → number ≤ least
+-- before an instruction so far these kinds stood, and it holds where the local variables have what the handlers of its ranges ask
+pub record HeldBut (method : Method) (c : Case) (states : List (List (Option Kind))) (number : ℕ) : Type 0 where
+  pub before : Kinds
+  pub state : state_before c.signature c.code c.placed number ≡ Some before
+  pub kept : get_or states number [] ≡ before.locals
+  pub holds : Handled method.rows.now method.frames number before.locals → HoldsAt c.signature c.code c.placed number
+
+-- so it is with all instructions before this one
+pub record AllHeldBut (method : Method) (c : Case) (number : ℕ) (states : List (List (Option Kind))) : Type 0 where
+  pub many : number ≤ length states
+  pub each : (other : ℕ) → other < number → HeldBut method c states other
 
 -- what is known of the pass, where it goes through the code of a case
 pub record Before (method : Method) (c : Case) (number : ℕ) (pass : Pass) : Type 0 where
   pub room : HasRoomOf pass.state c.code
   pub arrives : arriving c number ≡ kept pass.going pass.state.kinds
-  pub known : IsKnownBut pass.changed method.frames number pass.state.kinds.locals pass.handlers
-  pub ready : IsReady method number pass
+  pub unhandled : IsFirstUnhandled method.frames method.rows.now method.unhandled
+  pub later : (least : ℕ) → method.unhandled ≡ Some least → number ≤ least
+  pub many : length pass.state.states ≡ number
+  pub held : (other : ℕ) → other < number → HeldBut method c pass.state.states other
 
 -- ---- the steps of the pass
 
 -- whether there are kinds before the instruction, and which
 abbrev pub MeetsFrame : Bool → Option Reported → ℕ → Pass → Pass → Type 0
-MeetsFrame true None number old new = (old.going ≡ true) × (new.state.kinds ≡ old.state.kinds) × (new.changed ≡ old.changed)
+MeetsFrame true None number old new = (old.going ≡ true) × (new.state.kinds ≡ old.state.kinds)
 MeetsFrame true (Some reported) number old new =
-    (standing_in old.state reported.locals reported.stack ≡ Some new.state.kinds) × (new.changed ≡ changes.All) × (number ≡ 0 → Flows old.state.kinds reported)
+    (standing_in old.state reported.locals reported.stack ≡ Some new.state.kinds) × (number ≡ 0 → Flows old.state.kinds reported)
 MeetsFrame false None number old new = old.going ≡ false
 MeetsFrame false (Some reported) number old new =
     (standing_in old.state reported.locals reported.stack ≡ None) ⊎ ((number ≡ 0) × (Flows old.state.kinds reported → ⊥))
@@ -112,15 +111,25 @@ pub record Flowing (method : Method) (number : ℕ) (left : Kinds) (i : Instruct
   pub jumps : JumpsFlow left method.frames (targets i)
   pub goes_on : ends i ≡ false → (suc number < length method.code.now) × FlowsTo left (reported_at method.frames (suc number))
 
-pub record Leaving (method : Method) (number : ℕ) (left : Kinds) (going : Bool) (changed : Changed) (i : Instruction) (flows : Bool) : Type 0 where
+pub record Leaving (method : Method) (number : ℕ) (left : Kinds) (going : Bool) (i : Instruction) (flows : Bool) : Type 0 where
   pub goes : going ≡ not (ends i)
-  pub changes : ChangesOnly changed i
   pub decides : IsRun i → Decides flows (Flowing method number left i)
 
--- whether the instruction holds, and what is known before the next one
+-- whether the instruction holds where the handlers of its ranges ask nothing more, and what is known then
 abbrev pub Answers : Bool → Method → Case → ℕ → Pass → Type 0
-Answers true method c number pass = HoldsAt c.signature c.code c.placed number × Before method c (suc number) pass
-Answers false method c number pass = HoldsAt c.signature c.code c.placed number → ⊥
+Answers true method c number pass = Before method c (suc number) pass
+Answers false method c number pass = (HoldsAt c.signature c.code c.placed number → ⊥) × AllHeldBut method c number pass.state.states
+
+-- the number of a fault, or else of instructions
+abbrev pub limit_of : Option ℕ → ℕ → ℕ
+limit_of None count = count
+limit_of (Some number) count = number
+
+-- the first instruction that doesn't hold whatever handlers ask, if there is one
+abbrev pub IsFirstBut : Method → Case → Option ℕ → Pass → Type 0
+IsFirstBut method c None pass = AllHeldBut method c (length c.code.instructions) pass.state.states
+IsFirstBut method c (Some number) pass =
+    (number < length c.code.instructions) × (HoldsAt c.signature c.code c.placed number → ⊥) × AllHeldBut method c number pass.state.states
 
 -- the first instruction that doesn't hold, if there is one
 abbrev pub IsFirst : Case → Option ℕ → Type 0

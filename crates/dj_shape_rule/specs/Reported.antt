@@ -1,8 +1,6 @@
 -- Used by the code alone: the kinds of the frames of a stack map, by the numbers of their instructions.
 use Rattle.std.specs.Prelude.{◌≡◌, ℕ, ◌≤◌, List, length, reverse, Option, Some, None, nat_eq, if◌then◌else◌}
 use Rattle.std.specs.Option.{option_map}
-use Rattle.std.specs.Ordering.{nat_cmp}
-use Rattle.std.specs.BTreeMap.{get}
 use Rattle.dj_names.specs.declared.descriptor.Kind.{Kind}
 use Rattle.dj_model.specs.trusted.Initialisation.{padded}
 use Rattle.dj_model.specs.trusted.Linking.{or_else}
@@ -12,6 +10,7 @@ use Rattle.dj_shape_rule.specs.declared.frames.KeptFrame.{KeptFrame}
 use Rattle.dj_shape_rule.specs.declared.frames.LentFrame.{LentFrame}
 use Rattle.dj_shape_rule.specs.declared.frames.KeptFrames.{KeptFrames}
 use Rattle.dj_shape_rule.specs.Arena.{slots_at, Extends}
+use Rattle.dj_shape_rule.specs.Placing.{kept_at, number_place}
 
 -- the kinds of a frame: local variables in their slots, of which those after the last have no kind, and operands, the top last
 pub record Reported : Type 0 where
@@ -35,7 +34,11 @@ ReportedFrames = KeptFrames
 
 -- the kinds of the frame at the instruction of this number
 unfoldable pub reported_at : ReportedFrames → ℕ → Option Reported
-reported_at frames number = option_map (reported_in frames.slots.items) (get nat_cmp frames.reported number)
+reported_at frames number = option_map (reported_in frames.slots.items) (kept_at frames.reported number)
+
+-- one more than the index of that frame; 0 where there is none
+abbrev pub frame_place : ReportedFrames → ℕ → ℕ
+frame_place frames number = number_place frames.reported number
 
 -- the same frames, and maybe more slots
 abbrev pub Grows : ReportedFrames → ReportedFrames → Type 0

@@ -1,5 +1,5 @@
-ghost use Rattle.std.specs.Prelude.{◌≡◌, ◌+◌, ◌^◌, ◌<◌, ◌∷◌, ◌++◌, [], length, IfOk, MatchOption};
-ghost use Rattle.dj_shape_rule.specs.Arena.{AreLinked, Extends, IsAt, IsIn, slot_at, slots_at};
+ghost use Rattle.std.specs.Prelude.{◌≡◌, ◌+◌, ◌^◌, ◌<◌, ◌∷◌, ◌++◌, [], length, IfOk};
+ghost use Rattle.dj_shape_rule.specs.Arena.{AreLinked, Extends, IsAt, IsIn, IsShared, slots_at};
 
 use crate::error::ShapeError;
 use dj_names::Kind;
@@ -21,7 +21,7 @@ pub struct LocalsPlace {
     pub count: u32,
 }
 
-/// Local variables that are kept in slots, and are looked at from the last to the first.
+/// Local variables that are kept in slots.
 #[derive(Drop)]
 pub struct Locals<'a> {
     slots: &'a [Slot],
@@ -40,20 +40,6 @@ impl<'a> Model for Locals<'a> {
     ghost invariant = { λ locals. AreLinked locals.slots.now × IsIn locals.slots.now locals.place };
 }
 
-// The slot of the last of the local variables that end here.
-#[tactic(auto, using(crate::proofs::Links::slot_below))]
-fn slot_at(slots: &[Slot], end: u32) -> Option<Slot>
-    ensures { result ≡ slot_at slots.now end }
-{
-    if end == 0 {
-        return None;
-    }
-    match slots.get(end as usize - 1) {
-        None => None,
-        Some(slot) => Some(*slot),
-    }
-}
-
 impl<'a> Locals<'a> {
     /// The local variables of a place.
     pub fn new(slots: &'a [Slot], place: LocalsPlace) -> Locals<'a>
@@ -70,31 +56,52 @@ impl<'a> Locals<'a> {
     {
         self.place.count as usize
     }
+}
 
-    /// A copy, from which they can be taken one after the other.
-    pub fn again(&self) -> Locals<'a>
-        ensures { result ≡ self.now }
-    {
-        Locals {
-            slots: self.slots,
-            place: self.place,
+// The place below the last of local variables, and the kind of that one.
+fn below(slots: &[Slot], place: LocalsPlace) -> (LocalsPlace, Option<Kind>)
+    requires linked { AreLinked slots.now }
+    requires within { IsIn slots.now place }
+    requires some { 0 < place.end }
+    ensures within { IsIn slots.now result.0 }
+    ensures less { result.0.end < place.end }
+    ensures kinds { slots_at slots.now place.end ≡ slots_at slots.now result.0.end ++ result.1 ∷ [] }
+{
+    let slot = slots[place.end as usize - 1];
+    let under = LocalsPlace {
+        end: slot.before,
+        count: place.count - 1,
+    };
+    (under, slot.kind)
+}
+
+/// The count of the local variables that two places share, and the kinds of those that the second has above them. It takes as many steps as there are local
+/// variables that only one of them has.
+pub fn new_kinds(
+    slots: &[Slot],
+    old: LocalsPlace,
+    new: LocalsPlace,
+    kinds: &mut Vec<Option<Kind>>,
+) -> Result<usize, ShapeError>
+    requires linked { AreLinked slots.now }
+    requires old { IsIn slots.now old }
+    requires new { IsIn slots.now new }
+    ensures { IfOk result (λ from. IsShared (slots_at slots.now old.end) (slots_at slots.now new.end) from kinds.new.items) }
+{
+    kinds.clear();
+    let mut first = old;
+    let mut second = new;
+    while first.end != second.end {
+        if first.end < second.end {
+            let (under, kind) = below(slots, second);
+            kinds.push(kind)?;
+            second = under;
+        } else {
+            first = below(slots, first).0;
         }
     }
-
-    /// Takes the last one away, and returns its slot among local variables and its kind.
-    pub fn pop(&mut self) -> Option<(usize, Option<Kind>)>
-        ensures { MatchOption result (self.old ≡ []) (λ last. (self.old ≡ self.new ++ last.1 ∷ []) × (last.0 ≡ length self.new)) }
-    {
-        let Some(slot) = slot_at(self.slots, self.place.end) else {
-            return None;
-        };
-        let count = self.place.count - 1;
-        self.place = LocalsPlace {
-            end: slot.before,
-            count,
-        };
-        Some((count as usize, slot.kind))
-    }
+    kinds.reverse();
+    Ok(second.count as usize)
 }
 
 // The number of slots, where the last one has this index.

@@ -1,12 +1,11 @@
-ghost use Rattle.std.specs.Prelude.{◌≡◌, ℕ, true, false, get_or, IfErr, IfOk};
 ghost use Rattle.dj_shape_rule.specs.Arena.{AreLinked};
-ghost use Rattle.dj_shape_rule.specs.Placing.{AreMarked, ArePlaced, HasOneMore, HasSame};
+ghost use Rattle.dj_shape_rule.specs.Placing.{ArePlaced};
 
-use crate::arena::{Locals, LocalsPlace, Slot, add_slot};
+use crate::arena::{Locals, LocalsPlace, Slot, add_slot, new_kinds};
 use crate::error::ShapeError;
+use crate::numbered::NumberedFrames;
 use dj_names::Kind;
 use std::alloc::Global;
-use std::collections::BTreeMap;
 
 /// The kinds of a frame of a stack map, as they are kept.
 #[derive(Drop)]
@@ -19,6 +18,8 @@ pub struct KeptFrame {
 /// The kinds of a frame of a stack map.
 #[derive(Drop)]
 pub struct LentFrame<'a> {
+    /// Its place among all frames, from 1 on.
+    pub place: u32,
     /// The kinds of the local variables in their slots; those after the last have none.
     pub locals: Locals<'a>,
     /// The kinds of the operands, the top last.
@@ -26,54 +27,20 @@ pub struct LentFrame<'a> {
 }
 
 /// The kinds of the frames of a stack map, by the numbers of their instructions. Their local variables are kept in slots, and a frame shares the slots of
-/// those that it has from the frame before it: so all frames together take no more memory than their stack map, and a byte for each instruction.
+/// those that it has from the frame before it: so all frames together take no more memory than their stack map, and four bytes for each instruction.
 #[derive(Drop)]
 pub struct KeptFrames {
     slots: Vec<Slot>,
-    reported: BTreeMap<u64, KeptFrame>,
-    // For each instruction, whether it may have a frame, so that most aren't looked up.
-    marked: Vec<bool>,
+    reported: NumberedFrames,
     pub ghost linked: { AreLinked slots.items },
     pub ghost placed: { ArePlaced slots.items reported },
-    pub ghost marks: { AreMarked marked.items reported },
-}
-
-// Keeps a frame, where there is none at the instruction yet.
-fn keep(reported: &mut BTreeMap<u64, KeptFrame>, at: u64, kept: KeptFrame) -> Result<(), ShapeError>
-    ensures more { IfOk result (λ x. HasOneMore reported.old reported.new at kept) }
-    ensures same { IfErr result (λ e. HasSame reported.old reported.new) }
-{
-    if !reported.contains_key(&at) {
-        reported.insert(at, kept)?;
-    }
-    Ok(())
-}
-
-// Whether the instruction of the number may have a frame. Those after the last may.
-fn is_marked(marked: &[bool], number: u64) -> bool
-    ensures { result ≡ get_or marked.now number true }
-{
-    match marked.get(number as usize) {
-        None => true,
-        Some(may) => *may,
-    }
-}
-
-// Marks the instruction of this number as one that may have a frame.
-#[tactic(auto, using(crate::proofs::Places::marked_set, crate::proofs::Places::marked_past))]
-fn mark(marked: &mut [bool], number: u64)
-    ensures { (other : ℕ) → get_or marked.new other true ≡ false → (other ≡ number → ⊥) × (get_or marked.old other true ≡ false) }
-{
-    let at = number as usize;
-    if at < marked.len() {
-        marked[at] = true;
-    }
 }
 
 impl KeptFrames {
-    ghost use Rattle.std.specs.Prelude.{◌≡◌, ℕ, false, ◌∷◌, ◌++◌, [], None, Some, IfOk, MatchOption};
-    ghost use Rattle.dj_shape_rule.specs.Arena.{IsAt, IsIn, slots_at};
-    ghost use Rattle.dj_shape_rule.specs.Reported.{Grows, IsKept, reported_at, reported_by, reported_in};
+    ghost use Rattle.std.specs.Prelude.{◌≡◌, ◌<◌, ℕ, false, ◌∷◌, ◌++◌, [], length, slice_get, None, Some, IfOk, IfSome, MatchOption};
+    ghost use Rattle.dj_shape_rule.specs.declared.frames.KeptFrame.{KeptFrame};
+    ghost use Rattle.dj_shape_rule.specs.Arena.{IsAt, IsIn, IsShared, slots_at};
+    ghost use Rattle.dj_shape_rule.specs.Reported.{Grows, IsKept, frame_place, reported_at, reported_by, reported_in};
 
     /// No frames, of code with this many instructions.
     pub fn new(alloc: Global, count: usize) -> Result<KeptFrames, ShapeError>
@@ -81,8 +48,7 @@ impl KeptFrames {
     {
         Ok(KeptFrames {
             slots: Vec::new(alloc),
-            reported: BTreeMap::new(alloc),
-            marked: vec![in alloc; false; count]?,
+            reported: NumberedFrames::new(alloc, count)?,
         })
     }
 
@@ -90,31 +56,52 @@ impl KeptFrames {
     pub fn may_report(&self, number: u64) -> bool
         ensures { result ≡ false → reported_at self.now number ≡ None }
     {
-        is_marked(&self.marked, number)
+        self.reported.has(number)
     }
 
     /// The kinds of the frame at the instruction of this number, if there is one.
     pub fn at(&self, number: u64) -> Option<LentFrame<'_>>
-        ensures { MatchOption result (reported_at self.now number ≡ None) (λ lent_frame. reported_at self.now number ≡ Some (reported_by lent_frame)) }
+        ensures frame { MatchOption result (reported_at self.now number ≡ None) (λ lent_frame. reported_at self.now number ≡ Some (reported_by lent_frame)) }
+        ensures place { IfSome result (λ lent_frame. lent_frame.place ≡ frame_place self.now number) }
     {
-        if self.may_report(number) {
-            self.look_up(number)
-        } else {
-            None
-        }
-    }
-
-    // The same, whether the instruction is marked or not.
-    fn look_up(&self, number: u64) -> Option<LentFrame<'_>>
-        ensures { MatchOption result (reported_at self.now number ≡ None) (λ lent_frame. reported_at self.now number ≡ Some (reported_by lent_frame)) }
-    {
-        match self.reported.get(&number) {
+        match self.reported.get(number) {
             None => None,
             Some(kept) => Some(LentFrame {
+                place: self.reported.place(number),
                 locals: self.locals(kept.place),
                 stack: kept.stack.as_slice(),
             }),
         }
+    }
+
+    /// How many there are.
+    pub fn count(&self) -> usize
+        ensures { result ≡ length self.now.reported.kept.items }
+    {
+        self.reported.count()
+    }
+
+    /// The place of the local variables of the frame of this index.
+    pub fn place_of(&self, index: usize) -> LocalsPlace
+        requires { index < length self.now.reported.kept.items }
+        ensures place { (kept : KeptFrame) → slice_get self.now.reported.kept.items index ≡ Some kept → result ≡ kept.place }
+        ensures within { IsIn self.now.slots.items result }
+    {
+        self.reported.by_index(index).place
+    }
+
+    /// The count of the local variables that two places share, and the kinds of those that the second has above them.
+    pub fn new_kinds(
+        &self,
+        old: LocalsPlace,
+        new: LocalsPlace,
+        kinds: &mut Vec<Option<Kind>>,
+    ) -> Result<usize, ShapeError>
+        requires old { IsIn self.now.slots.items old }
+        requires new { IsIn self.now.slots.items new }
+        ensures { IfOk result (λ from. IsShared (slots_at self.now.slots.items old.end) (slots_at self.now.slots.items new.end) from kinds.new.items) }
+    {
+        new_kinds(&self.slots, old, new, kinds)
     }
 
     /// The local variables of a place.
@@ -140,7 +127,6 @@ impl KeptFrames {
         ensures same { self.new.slots.items ≡ self.old.slots.items }
         ensures kept { IfOk result (λ x. IsKept self.old self.new at (reported_in self.old.slots.items kept)) }
     {
-        mark(&mut self.marked, at);
-        keep(&mut self.reported, at, kept)
+        self.reported.keep(at, kept)
     }
 }

@@ -1,18 +1,15 @@
-ghost use Rattle.std.specs.Prelude.{◌≡◌, ℕ, List, All, Option, Decides};
+ghost use Rattle.std.specs.Prelude.{◌≡◌, ℕ, List, All, Decides};
 ghost use Rattle.dj_pool.specs.trusted.Pool.{Constant};
 ghost use Rattle.dj_program.specs.trusted.Naming.{instruction_in};
-ghost use Rattle.dj_model.specs.trusted.Instructions.{Instruction, Nothing, ends, targets};
-ghost use Rattle.dj_model.specs.trusted.Kinds.{Signature};
+ghost use Rattle.dj_model.specs.trusted.Instructions.{Nothing, ends, targets};
 ghost use Rattle.dj_model.specs.trusted.Opcodes.{jump_rows, last_rows, operand_does, row_does, simple};
-ghost use Rattle.dj_shape_rule.specs.Forms.{FlowsAt, FormFlows, StoresAt, around, form_ends};
+ghost use Rattle.dj_shape_rule.specs.Forms.{FlowsAt, FormFlows, form_ends};
+ghost use Rattle.dj_shape_rule.specs.Listed.{AreListed};
 ghost use Rattle.dj_shape_rule.specs.Makes.{form_makes, is_class};
-ghost use Rattle.dj_shape_rule.specs.Passing.{ChangesOnly, IsRun, JumpsFlow};
-ghost use Rattle.dj_shape_rule.specs.Works.{work_of, work_view};
+ghost use Rattle.dj_shape_rule.specs.Passing.{IsRun, JumpsFlow};
 
-use crate::effect::Effect;
 use crate::flows::flows_to_frame;
 use crate::frames::KeptFrames;
-use crate::needs::Changed;
 use crate::pool::{ConstantKind, PoolKinds};
 use crate::state::KindState;
 use dj_ops::Instr;
@@ -68,46 +65,20 @@ pub fn ends(instr: &Instr) -> bool
     form_ends(instr)
 }
 
-// ---- which local variables may have another kind after it
-
-fn effect_slot(effect: Effect) -> Option<u16>
-    ensures { (calls : List (Option Signature)) → StoresAt result (work_view calls effect) }
-{
-    match effect {
-        Effect::Store(_, slot) => Some(slot),
-        _ => None,
-    }
-}
-
-fn around(slot: Option<u16>) -> Changed
-    ensures { result ≡ around slot }
-{
-    match slot {
-        None => Changed::Some(0, 0),
-        Some(slot) => {
-            let slot = usize::from(slot);
-            Changed::Some(slot.saturating_sub(1), slot + 2)
-        }
-    }
-}
-
-/// The local variables that may have another kind after an instruction with this effect.
-pub fn changed_by(effect: Effect) -> Changed
-    ensures { (calls : List (Option Signature)) (i : Instruction) → work_view calls effect ≡ work_of i → ChangesOnly result i }
-{
-    around(effect_slot(effect))
-}
-
 // ---- where it jumps to
 
-fn flows_at(state: &KindState, frames: &KeptFrames, target: i64) -> bool
-    ensures { Decides result (FlowsAt state.now.kinds frames.now target) }
+fn flows_at(state: &mut KindState, frames: &KeptFrames, target: i64) -> bool
+    requires { AreListed frames.now state.old }
+    ensures same { state.new ≡ state.old }
+    ensures flows { Decides result (FlowsAt state.old.kinds frames.now target) }
 {
     flows_to_frame(state, frames, target.unsigned_abs())
 }
 
-fn all_flow(state: &KindState, frames: &KeptFrames, targets: &[i64]) -> bool
-    ensures { Decides result (All (FlowsAt state.now.kinds frames.now) targets.now) }
+fn all_flow(state: &mut KindState, frames: &KeptFrames, targets: &[i64]) -> bool
+    requires { AreListed frames.now state.old }
+    ensures same { state.new ≡ state.old }
+    ensures flows { Decides result (All (FlowsAt state.old.kinds frames.now) targets.now) }
 {
     for target in targets {
         if !flows_at(state, frames, *target) {
@@ -117,8 +88,10 @@ fn all_flow(state: &KindState, frames: &KeptFrames, targets: &[i64]) -> bool
     true
 }
 
-fn pairs_flow(state: &KindState, frames: &KeptFrames, pairs: &[(i32, i64)]) -> bool
-    ensures { Decides result (All (λ pair. FlowsAt state.now.kinds frames.now pair.1) pairs.now) }
+fn pairs_flow(state: &mut KindState, frames: &KeptFrames, pairs: &[(i32, i64)]) -> bool
+    requires { AreListed frames.now state.old }
+    ensures same { state.new ≡ state.old }
+    ensures flows { Decides result (All (λ pair. FlowsAt state.old.kinds frames.now pair.1) pairs.now) }
 {
     for pair in pairs {
         if !flows_at(state, frames, pair.1) {
@@ -128,8 +101,10 @@ fn pairs_flow(state: &KindState, frames: &KeptFrames, pairs: &[(i32, i64)]) -> b
     true
 }
 
-fn form_flows(state: &KindState, frames: &KeptFrames, instr: &Instr) -> bool
-    ensures { Decides result (FormFlows state.now.kinds frames.now instr.now) }
+fn form_flows(state: &mut KindState, frames: &KeptFrames, instr: &Instr) -> bool
+    requires { AreListed frames.now state.old }
+    ensures same { state.new ≡ state.old }
+    ensures flows { Decides result (FormFlows state.old.kinds frames.now instr.now) }
 {
     match instr {
         Instr::Branch { target, .. } => flows_at(state, frames, *target),
@@ -146,8 +121,10 @@ fn form_flows(state: &KindState, frames: &KeptFrames, instr: &Instr) -> bool
 }
 
 /// Whether each target of the instruction has a frame, into which these kinds flow; an instruction that isn't supported has no targets.
-pub fn jumps_flow(state: &KindState, frames: &KeptFrames, instr: &Instr) -> bool
-    ensures { (pool : List Constant) → IsRun (instruction_in pool instr.now) → Decides result (JumpsFlow state.now.kinds frames.now (targets (instruction_in pool instr.now))) }
+pub fn jumps_flow(state: &mut KindState, frames: &KeptFrames, instr: &Instr) -> bool
+    requires { AreListed frames.now state.old }
+    ensures same { state.new ≡ state.old }
+    ensures flows { (pool : List Constant) → IsRun (instruction_in pool instr.now) → Decides result (JumpsFlow state.old.kinds frames.now (targets (instruction_in pool instr.now))) }
 {
     form_flows(state, frames, instr)
 }

@@ -1,4 +1,4 @@
-ghost use Rattle.std.specs.Prelude.{◌≡◌, ◌<◌, ◌^◌, ◌++◌, length, map, List, Some, IfOk};
+ghost use Rattle.std.specs.Prelude.{◌≡◌, ◌<◌, ◌^◌, ◌++◌, ◌∷◌, [], length, map, replicate, List, None, Some, IfOk};
 ghost use Rattle.dj_pool.specs.trusted.Pool.{Constant};
 ghost use Rattle.dj_model.specs.trusted.Kinds.{Signature};
 ghost use Rattle.dj_declarations.specs.trusted.Files.{name_in};
@@ -6,6 +6,7 @@ ghost use Rattle.dj_declarations.specs.Members.{IsDescriptor};
 ghost use Rattle.dj_program.specs.trusted.Codes.{code_in};
 ghost use Rattle.dj_program.specs.Views.{parts_of};
 ghost use Rattle.dj_shape_rule.specs.Judging.{IsFaultOf, IsJudged, fault_reported};
+ghost use Rattle.dj_shape_rule.specs.Listed.{AreFew};
 ghost use Rattle.dj_shape_rule.specs.Passing.{Case, IsFirst};
 ghost use Rattle.dj_shape_rule.specs.Pools.{ArePoolKinds};
 ghost use Rattle.dj_shape_rule.specs.Reading.{entries_with, signature_with};
@@ -14,6 +15,7 @@ ghost use Rattle.dj_shape_rule.specs.Rule.{IsShapeAnswer};
 
 use crate::error::ShapeError;
 use crate::frames::KeptFrames;
+use crate::listing::list_frames;
 use crate::pass::{Method, Pass, first_unhandled};
 use crate::pool::{CallKinds, PoolKinds};
 use crate::reading::{Reader, objects_made, read_frames};
@@ -63,11 +65,15 @@ fn judge(
     returned: Option<Kind>,
     code: &MethodCode,
     frames: KeptFrames,
-    state: KindState,
+    mut state: KindState,
 ) -> Result<Option<u32>, ShapeError>
-    requires { length code.now.code.code < 2 ^ 32 }
+    requires short { length code.now.code.code < 2 ^ 32 }
+    requires one { state.frames ≡ replicate state.max_locals None ∷ [] }
+    requires none { state.states ≡ [] }
+    requires few { AreFew frames state.max_locals }
     ensures { IfOk result (λ fault. (c : Case) → IsJudged kinds.now returned code.now frames state c → IsFirst c fault) }
 {
+    list_frames(alloc, &frames, &mut state)?;
     let rows = code.code.ranges.as_slice();
     let unhandled = first_unhandled(&frames, rows);
     let method = Method {
@@ -78,8 +84,9 @@ fn judge(
         returned,
         unhandled,
     };
-    let mut pass = Pass::new(alloc, &method, state)?;
-    pass.first_fault(&method)
+    let mut pass = Pass::new(state);
+    let fault = pass.first_fault(&method)?;
+    pass.with_handlers(alloc, &method, fault)
 }
 
 // The first fault of code with a stack map.
@@ -98,10 +105,11 @@ fn fault_with_frames(
     let instrs = code.code.code.as_slice();
     let entries = parameter_entries(alloc, is_static, call)?;
     let reader = Reader::new(alloc, entries, instrs.len())?;
-    let mut state = KindState::new(alloc, code.max_stack, code.max_locals);
-    if !state.set(&reader.locals(), &[])? {
+    let mut locals = Vec::new(alloc);
+    reader.copy_locals(&mut locals)?;
+    let Some(state) = KindState::new(alloc, code.max_stack, code.max_locals, &locals)? else {
         return Ok(Some(0));
-    }
+    };
     let made = objects_made(kinds, instrs);
     match read_frames(
         alloc,

@@ -1,23 +1,20 @@
-ghost use Rattle.std.specs.Prelude.{◌≡◌, ◌^◌, ◌+◌, ◌<◌, length, List, [], ◌∷◌, ◌++◌, IfOk, Decides, IsTrue, Some, slice_get};
+ghost use Rattle.std.specs.Prelude.{◌≡◌, ◌^◌, ◌+◌, ◌<◌, length, List, [], ◌∷◌, ◌++◌, IfOk, Decides, IsTrue, true, Some, slice_get};
 ghost use Rattle.dj_labels.specs.declared.labelled.Protected.{Protected};
 ghost use Rattle.dj_pool.specs.trusted.Pool.{Constant};
 ghost use Rattle.dj_program.specs.trusted.Naming.{instruction_in};
-ghost use Rattle.dj_model.specs.trusted.Shape.{first_kinds};
+ghost use Rattle.dj_model.specs.trusted.Linking.{or_else};
 ghost use Rattle.dj_shape_rule.specs.Flows.{FlowsTo};
-ghost use Rattle.dj_shape_rule.specs.Handlers.{Enters, IsKnownBut};
-ghost use Rattle.dj_shape_rule.specs.Passing.{Answers, Before, Case, HasHandlerFrame, IsCase, IsFirst, IsFirstUnhandled, Leaving, MeetsFrame, least_of};
-ghost use Rattle.dj_shape_rule.specs.Standing.{HasRoomOf, SameRoom};
+ghost use Rattle.dj_shape_rule.specs.Listed.{AreListed};
+ghost use Rattle.dj_shape_rule.specs.Passing.{Answers, Before, Case, HasHandlerFrame, IsCase, IsFirst, IsFirstBut, IsFirstUnhandled, Leaving, MeetsFrame, least_of, limit_of};
+ghost use Rattle.dj_shape_rule.specs.Standing.{SameButStates, SameRoom};
 ghost use Rattle.dj_shape_rule.specs.Reported.{reported_at};
-ghost use Rattle.dj_shape_rule.specs.Works.{work_of, work_view};
 
 use crate::apply::{apply, effect_of};
-use crate::effect::Effect;
 use crate::error::ShapeError;
 use crate::flows::{flows, flows_to, same_stacks};
 use crate::frames::KeptFrames;
-use crate::handlers::Handlers;
-use crate::instrs::{changed_by, ends, jumps_flow};
-use crate::needs::Changed;
+use crate::handlers::ranges_of;
+use crate::instrs::{ends, jumps_flow};
 use crate::pool::PoolKinds;
 use crate::state::KindState;
 use dj_labels::Protected;
@@ -45,8 +42,6 @@ pub struct Pass {
     /// What the instruction before it leaves, where the run goes on from there.
     state: KindState,
     going: bool,
-    changed: Changed,
-    handlers: Handlers,
 }
 
 impl Method<'_> {
@@ -61,8 +56,8 @@ impl Method<'_> {
 impl Pass {
     // Whether there are kinds before the instruction: those of its frame, or else those that the instruction before it leaves.
     fn meet_frame(&mut self, method: &Method<'_>, number: u32) -> Result<bool, ShapeError>
+        requires { AreListed method.now.frames self.old.state }
         ensures room { SameRoom self.old.state self.new.state }
-        ensures same { self.new.handlers ≡ self.old.handlers }
         ensures met { IfOk result (λ stands. MeetsFrame stands (reported_at method.now.frames number) number self.old self.new) }
     {
         if !method.frames.may_report(u64::from(number)) {
@@ -71,53 +66,44 @@ impl Pass {
         let Some(reported) = method.frames.at(u64::from(number)) else {
             return Ok(self.going);
         };
-        if number == 0 && !flows(&self.state, &reported) {
+        if number == 0 && !flows(&mut self.state, &reported) {
             return Ok(false);
         }
-        self.changed = Changed::All;
-        self.state.set(&reported.locals, reported.stack)
+        self.state.set(&reported)
     }
 
     // Whether the run goes on at an instruction, and with kinds that flow into its frame, if it has one.
-    fn goes_on(&self, method: &Method<'_>, next: usize) -> bool
-        ensures { Decides result ((next < length method.now.code.now) × FlowsTo self.now.state.kinds (reported_at method.now.frames next)) }
+    fn goes_on(&mut self, method: &Method<'_>, next: usize) -> bool
+        requires { AreListed method.now.frames self.old.state }
+        ensures same { self.new ≡ self.old }
+        ensures goes { Decides result ((next < length method.now.code.now) × FlowsTo self.old.state.kinds (reported_at method.now.frames next)) }
     {
-        next < method.code.len() && flows_to(&self.state, &method.frames, next as u64)
+        next < method.code.len() && flows_to(&mut self.state, &method.frames, next as u64)
     }
 
     // Whether what is left fits wherever the run goes on.
-    fn leave(&mut self, method: &Method<'_>, number: u32, instr: &Instr, effect: Effect) -> bool
-        requires { number < length method.now.code.now }
-        ensures same { (self.new.state ≡ self.old.state) × (self.new.handlers ≡ self.old.handlers) }
-        ensures left { (pool : List Constant) → work_view method.now.kinds.now.calls effect ≡ work_of (instruction_in pool instr.now)
-            → Leaving method.now number self.new.state.kinds self.new.going self.new.changed (instruction_in pool instr.now) result }
+    fn leave(&mut self, method: &Method<'_>, number: u32, instr: &Instr) -> bool
+        requires number { number < length method.now.code.now }
+        requires listed { AreListed method.now.frames self.old.state }
+        ensures same { self.new.state ≡ self.old.state }
+        ensures left { (pool : List Constant) → Leaving method.now number self.new.state.kinds self.new.going (instruction_in pool instr.now) result }
     {
         self.going = !ends(instr);
-        self.changed = changed_by(effect);
-        jumps_flow(&self.state, &method.frames, instr)
+        jumps_flow(&mut self.state, &method.frames, instr)
             && (!self.going || self.goes_on(method, number as usize + 1))
     }
 
-    // Whether the local variables have the kinds of the frames of the handlers of all ranges that the instruction is in.
-    fn meet_handlers(&mut self, method: &Method<'_>, number: u32) -> Result<bool, ShapeError>
-        ensures same { (self.new.state ≡ self.old.state) × (self.new.handlers.rows.items ≡ self.old.handlers.rows.items) }
-        ensures entered { IfOk result (λ handled. IsKnownBut self.old.changed method.now.frames number self.old.state.kinds.locals self.old.handlers
-            → Enters handled method.now.frames number self.new.state.kinds.locals self.new.handlers) }
-    {
-        let locals = self.state.locals();
-        self.handlers
-            .enter(&method.frames, number, locals, self.changed)
-    }
-
-    /// Whether the instruction holds.
+    /// Whether the instruction holds, except for the handlers of the ranges that it is in.
     pub fn step(
         &mut self,
         method: &Method<'_>,
         number: u32,
         instr: &Instr,
     ) -> Result<bool, ShapeError>
-        requires { slice_get method.now.code.now number ≡ Some instr.now }
-        ensures { IfOk result (λ holds. (c : Case) → IsCase method.now c → Before method.now c number self.old → Answers holds method.now c number self.new) }
+        requires at { slice_get method.now.code.now number ≡ Some instr.now }
+        requires listed { AreListed method.now.frames self.old.state }
+        ensures room { SameButStates self.old.state self.new.state }
+        ensures answers { IfOk result (λ holds. (c : Case) → IsCase method.now c → Before method.now c number self.old → Answers holds method.now c number self.new) }
     {
         if !self.meet_frame(method, number)? {
             return Ok(false);
@@ -125,33 +111,28 @@ impl Pass {
         if method.is_unhandled(number) {
             return Ok(false);
         }
-        if !self.meet_handlers(method, number)? {
-            return Ok(false);
-        }
+        self.state.note()?;
         let effect = effect_of(method.kinds, instr);
         if !apply(&mut self.state, method.kinds, method.returned, effect)? {
             return Ok(false);
         }
-        Ok(self.leave(method, number, instr, effect))
+        Ok(self.leave(method, number, instr))
     }
 
     /// The pass at the beginning, with these kinds before the first instruction.
-    pub fn new(alloc: Global, method: &Method<'_>, state: KindState) -> Result<Pass, ShapeError>
-        requires { IsFirstUnhandled method.now.frames method.now.rows.now method.now.unhandled }
-        ensures { IfOk result (λ pass. (c : Case) → HasRoomOf state c.code → state.kinds ≡ first_kinds c.signature c.code → Before method.now c 0 pass) }
+    pub fn new(state: KindState) -> Pass
+        ensures state { result.state ≡ state }
+        ensures going { result.going ≡ true }
     {
-        Ok(Pass {
-            state,
-            going: true,
-            changed: Changed::All,
-            handlers: Handlers::new(alloc, method.rows)?,
-        })
+        Pass { state, going: true }
     }
 
-    /// The number of the first instruction that doesn't hold.
+    /// The number of the first instruction that doesn't hold, whatever the handlers of ranges ask.
     pub fn first_fault(&mut self, method: &Method<'_>) -> Result<Option<u32>, ShapeError>
-        requires { length method.now.code.now < 2 ^ 32 }
-        ensures { IfOk result (λ fault. (c : Case) → IsCase method.now c → Before method.now c 0 self.old → IsFirst c fault) }
+        requires few { length method.now.code.now < 2 ^ 32 }
+        requires listed { AreListed method.now.frames self.old.state }
+        ensures room { SameButStates self.old.state self.new.state }
+        ensures first { IfOk result (λ fault. (c : Case) → IsCase method.now c → Before method.now c 0 self.old → IsFirstBut method.now c fault self.new) }
     {
         for (number, instr) in method.code.iter().enumerate() {
             if !self.step(method, number as u32, instr)? {
@@ -159,6 +140,44 @@ impl Pass {
             }
         }
         Ok(None)
+    }
+
+    /// The number of the first instruction that doesn't hold, where that is it but for the handlers of ranges.
+    pub fn with_handlers(
+        &mut self,
+        alloc: Global,
+        method: &Method<'_>,
+        fault: Option<u32>,
+    ) -> Result<Option<u32>, ShapeError>
+        requires few { length method.now.code.now < 2 ^ 32 }
+        requires listed { AreListed method.now.frames self.old.state }
+        ensures { IfOk result (λ first. (c : Case) → IsCase method.now c → IsFirstBut method.now c fault self.old → IsFirst c first) }
+    {
+        let limit = limit_of(fault, method.code.len());
+        let ranges = ranges_of(alloc, &method.frames, method.rows)?;
+        let found = self.state.first_lacking(alloc, &ranges, limit)?;
+        Ok(first_of(found, fault))
+    }
+}
+
+// The number of a fault; the count of instructions where there is none.
+fn limit_of(fault: Option<u32>, count: usize) -> u32
+    requires { count < 2 ^ 32 }
+    ensures { result ≡ limit_of fault count }
+{
+    match fault {
+        None => count as u32,
+        Some(number) => number,
+    }
+}
+
+// What was found, or else the other.
+fn first_of(found: Option<u32>, other: Option<u32>) -> Option<u32>
+    ensures { result ≡ or_else found other }
+{
+    match found {
+        None => other,
+        Some(number) => Some(number),
     }
 }
 

@@ -13,7 +13,7 @@ ghost use Rattle.dj_shape_rule.specs.Pools.{ArePoolKinds};
 ghost use Rattle.dj_shape_rule.specs.Reading.{ArePlaces, AreRead, ChangesTo, Gains, IsFrameRead, IsReading, entry_view, frame_code, kept_entries, made_as};
 ghost use Rattle.dj_shape_rule.specs.Reported.{Grows, reported_at};
 
-use crate::arena::{Locals, LocalsPlace};
+use crate::arena::LocalsPlace;
 use crate::error::ShapeError;
 use crate::frames::{KeptFrame, KeptFrames};
 use crate::instrs::makes_object;
@@ -271,12 +271,14 @@ impl Reader {
         last_place(&self.places)
     }
 
-    /// The local variables in their slots.
-    pub fn locals(&self) -> Locals<'_>
+    /// Writes the local variables in their slots.
+    pub fn copy_locals(&self, locals: &mut Vec<Option<Kind>>) -> Result<(), ShapeError>
         requires { IsReading self.now }
-        ensures { result ≡ entry_slots self.now.entries.items }
+        ensures { IfOk result (λ x. locals.new.items ≡ entry_slots self.now.entries.items) }
     {
-        self.frames.locals(self.place())
+        self.frames
+            .new_kinds(LocalsPlace { end: 0, count: 0 }, self.place(), locals)?;
+        Ok(())
     }
 
     // Changes the local variables as the form of a frame says, and gives its operands, where each of its types has an entry.

@@ -1,15 +1,16 @@
-ghost use Rattle.std.specs.Prelude.{◌≡◌, ◌≤◌, ◌++◌, [], ◌∷◌, length, reverse, Some, None, nat_le, if◌then◌else◌, IfOk, MatchOption};
+ghost use Rattle.std.specs.Prelude.{◌≡◌, ◌+◌, ◌<◌, ◌≤◌, ◌++◌, [], ◌∷◌, length, get_or, slice_get, reverse, List, Option, Some, None, nat_le, if◌then◌else◌, Decides, IfOk, MatchOption};
 ghost use Rattle.dj_names.specs.declared.descriptor.Kind.{Kind};
-ghost use Rattle.dj_model.specs.trusted.Initialisation.{padded};
+ghost use Rattle.dj_kind_lists.specs.Lists.{IsChanged, IsFirstLack, ListFlows};
 ghost use Rattle.dj_model.specs.trusted.Kinds.{depth};
 ghost use Rattle.dj_model.specs.trusted.Numbers.{is_wide};
 ghost use Rattle.dj_model.specs.trusted.Shape.{gives, leaving, store_kind, taken, with_result};
-ghost use Rattle.dj_model.specs.trusted.Values.{local_at, one_slot, two_slots};
-ghost use Rattle.dj_shape_rule.specs.Standing.{SameRoom, SameLocals, Takes, Leaves, IsCut, no_kinds, piece_kinds, room, standing_in};
+ghost use Rattle.dj_model.specs.trusted.Values.{local_at, one_slot, two_slots, without_half};
+ghost use Rattle.dj_shape_rule.specs.Standing.{IsBegun, IsListed, IsNoted, SameRoom, SameLocals, SameButLists, SameButStates, Takes, Leaves, IsCut, piece_kinds, room, standing_in};
 
-use crate::arena::Locals;
 use crate::error::ShapeError;
-use crate::kinds::{depth_within, is_wide, kind_slots, local_at, same_kind, store_in};
+use crate::frames::LentFrame;
+use crate::kinds::{depth_within, is_some_wide, is_wide, kind_slots, same_kind};
+use dj_kind_lists::{KindLists, KindRange};
 use dj_names::Kind;
 use std::alloc::Global;
 use std::marker::Model;
@@ -25,9 +26,8 @@ pub enum KindPiece {
 #[derive(Drop)]
 pub struct KindState {
     max_stack: u16,
-    max_locals: u16,
-    // Those after the last have no kind: they aren't kept, so that many that aren't used cost nothing.
-    locals: Vec<Option<Kind>>,
+    // Those of the local variables: of this state, of all frames, and of the states before the instructions so far.
+    lists: KindLists,
     // The top at the end.
     stack: Vec<Kind>,
     // A long counts as two operands.
@@ -35,69 +35,86 @@ pub struct KindState {
 }
 
 impl Model for KindState {
-    ghost use Rattle.std.specs.Prelude.{◌≡◌, ◌≤◌, reverse, vec_len};
-    ghost use Rattle.dj_model.specs.trusted.Initialisation.{padded};
+    ghost use Rattle.std.specs.Prelude.{◌≡◌, ◌≤◌, reverse};
     ghost use Rattle.dj_shape_rule.specs.Standing.{Standing, IsDepth};
 
     ghost Value = { Standing };
 
     ghost view = { λ s. record {
       max_stack = s.max_stack;
-      max_locals = s.max_locals;
-      kinds = record { locals = padded s.max_locals s.locals.items; stack = reverse s.stack.items };
+      max_locals = s.lists.count;
+      kinds = record { locals = s.lists.current; stack = reverse s.stack.items };
+      frames = s.lists.frames;
+      states = s.lists.states;
     } };
 
-    ghost invariant = { λ s. IsDepth s.depth (reverse s.stack.items) × (s.depth ≤ s.max_stack) × (vec_len s.locals ≤ s.max_locals) };
-}
-
-// Keeps only these local variables.
-#[tactic(auto, using(crate::proofs::States::filled_few, crate::proofs::States::filled_all))]
-fn fill(kept: &mut Vec<Option<Kind>>, locals: &Locals<'_>) -> Result<(), ShapeError>
-    ensures few { length kept.new.items ≤ length locals.now }
-    ensures filled { IfOk result (λ x. kept.new.items ≡ locals.now) }
-{
-    kept.clear();
-    let mut rest = locals.again();
-    while let Some((_, kind)) = rest.pop() {
-        kept.push(kind)?;
-    }
-    kept.reverse();
-    Ok(())
+    ghost invariant = { λ s. IsDepth s.depth (reverse s.stack.items) × (s.depth ≤ s.max_stack) };
 }
 
 impl KindState {
-    /// No kinds yet.
-    pub fn new(alloc: Global, max_stack: u16, max_locals: u16) -> KindState
-        ensures room { (result.max_stack ≡ max_stack) × (result.max_locals ≡ max_locals) }
-        ensures kinds { result.kinds ≡ no_kinds max_locals }
+    /// No operands, and these local variables, where there is room for them. The only list is one without kinds.
+    pub fn new(
+        alloc: Global,
+        max_stack: u16,
+        max_locals: u16,
+        locals: &[Option<Kind>],
+    ) -> Result<Option<KindState>, ShapeError>
+        ensures { IfOk result (λ made. MatchOption made (max_locals < length locals.now) (λ state. IsBegun max_stack max_locals locals.now state)) }
     {
-        KindState {
+        if usize::from(max_locals) < locals.len() {
+            return Ok(None);
+        }
+        let mut lists = KindLists::new(alloc, max_locals)?;
+        lists.set(locals)?;
+        Ok(Some(KindState {
             max_stack,
-            max_locals,
-            locals: Vec::new(alloc),
+            lists,
             stack: Vec::new(alloc),
             depth: 0,
-        }
+        }))
     }
 
-    /// Whether there is room for these local variables in their slots, and for these operands, the top last. Then the state has these; else the state doesn't matter any more.
-    pub fn set(&mut self, locals: &Locals<'_>, stack: &[Kind]) -> Result<bool, ShapeError>
-        ensures room { SameRoom self.old self.new }
-        ensures set { IfOk result (λ fits. Leaves fits (standing_in self.old locals.now stack.now) self.new.kinds) }
+    /// The room for local variables.
+    pub fn max_locals(&self) -> u16
+        ensures { result ≡ self.now.max_locals }
     {
-        Ok(self.set_locals(locals)? && self.set_stack(stack)?)
+        self.lists.count()
     }
 
-    fn set_locals(&mut self, locals: &Locals<'_>) -> Result<bool, ShapeError>
-        ensures room { SameRoom self.old self.new }
-        ensures set { IfOk result (λ fits. Leaves fits
-            (if nat_le (length locals.now) self.old.max_locals then Some (padded self.old.max_locals locals.now) else None) self.new.kinds.locals) }
+    /// Adds a list of local variables, which has the kinds of an earlier one before a slot, and those of `kinds` from there on.
+    pub fn add_list(
+        &mut self,
+        base: usize,
+        from: usize,
+        kinds: &[Option<Kind>],
+    ) -> Result<(), ShapeError>
+        requires { from + length kinds.now ≤ self.old.max_locals }
+        ensures same { SameButLists self.old self.new }
+        ensures added { IfOk result (λ x. (made : List (Option Kind)) × (self.new.frames ≡ self.old.frames ++ made ∷ [])
+            × IsChanged self.old.max_locals (get_or self.old.frames base []) from kinds.now made) }
     {
-        if usize::from(self.max_locals) < locals.len() {
-            return Ok(false);
-        }
-        fill(&mut self.locals, locals)?;
-        Ok(true)
+        self.lists.add(base, from, kinds)?;
+        Ok(())
+    }
+
+    /// Adds an earlier list once more.
+    pub fn add_again(&mut self, base: usize) -> Result<(), ShapeError>
+        ensures same { SameButLists self.old self.new }
+        ensures added { IfOk result (λ x. (made : List (Option Kind)) × (self.new.frames ≡ self.old.frames ++ made ∷ [])
+            × IsChanged self.old.max_locals (get_or self.old.frames base []) self.old.max_locals [] made) }
+    {
+        self.lists.add_again(base)?;
+        Ok(())
+    }
+
+    /// Whether there is room for the local variables and the operands of a frame. Then the state has these; else the state doesn't matter any more.
+    pub fn set(&mut self, reported: &LentFrame<'_>) -> Result<bool, ShapeError>
+        requires { IsListed self.old reported.now.place reported.now.locals }
+        ensures room { SameRoom self.old self.new }
+        ensures set { IfOk result (λ fits. Leaves fits (standing_in self.old reported.now.locals reported.now.stack.now) self.new.kinds) }
+    {
+        self.lists.take(reported.place as usize);
+        self.set_stack(reported.stack)
     }
 
     #[tactic(auto, using(crate::proofs::States::depth_reverse))]
@@ -116,14 +133,6 @@ impl KindState {
         Ok(true)
     }
 
-    /// The kinds of the local variables; those after the last have none.
-    pub fn locals(&self) -> &[Option<Kind>]
-        ensures kept { padded self.now.max_locals result.now ≡ self.now.kinds.locals }
-        ensures few { length result.now ≤ self.now.max_locals }
-    {
-        &self.locals
-    }
-
     /// The kinds of the operands, the top last.
     pub fn stack(&self) -> &[Kind]
         ensures { reverse result.now ≡ self.now.kinds.stack }
@@ -135,7 +144,38 @@ impl KindState {
     pub fn local_at(&self, slot: usize) -> Option<Kind>
         ensures { result ≡ local_at self.now.kinds.locals slot }
     {
-        local_at(&self.locals, slot)
+        self.lists.get(slot)
+    }
+
+    /// Whether the local variables have the kinds of a frame's.
+    pub fn flows(&mut self, place: u32) -> bool
+        ensures same { self.new ≡ self.old }
+        ensures flows { (list : List (Option Kind)) → slice_get self.old.frames place ≡ Some list → Decides result (ListFlows self.old.kinds.locals list) }
+    {
+        self.lists.flows(place as usize)
+    }
+
+    /// Keeps the local variables before the next instruction.
+    pub fn note(&mut self) -> Result<(), ShapeError>
+        ensures same { SameButStates self.old self.new }
+        ensures noted { IfOk result (λ x. IsNoted self.old self.new) }
+    {
+        self.lists.note()?;
+        Ok(())
+    }
+
+    /// The first instruction below a limit before which the local variables lacked a kind of a frame's, in a range of that frame.
+    pub fn first_lacking(
+        &mut self,
+        alloc: Global,
+        ranges: &[KindRange],
+        limit: u32,
+    ) -> Result<Option<u32>, ShapeError>
+        ensures same { self.new ≡ self.old }
+        ensures first { IfOk result (λ first. IsFirstLack self.old.states self.old.frames ranges.now limit first) }
+    {
+        let first = self.lists.first_lacking(alloc, ranges, limit)?;
+        Ok(first)
     }
 
     /// Whether there is room for the kind, if there is one. Then it is pushed.
@@ -233,11 +273,28 @@ impl KindState {
         ensures stored { IfOk result (λ fits. Leaves fits (store_kind (room self.old) kind slot (Some self.old.kinds)) self.new.kinds) }
     {
         let last = usize::from(slot) + usize::from(is_wide(kind));
-        if usize::from(self.max_locals) <= last {
+        if usize::from(self.max_locals()) <= last {
             return Ok(false);
         }
-        store_in(&mut self.locals, usize::from(slot), kind)?;
+        self.cut_half(slot)?;
+        self.lists.put(slot, Some(kind))?;
+        if is_wide(kind) {
+            self.lists.put(slot + 1, None)?;
+        }
         Ok(true)
+    }
+
+    // Where this slot is the second of a kind that takes two, that kind is lost.
+    fn cut_half(&mut self, slot: u16) -> Result<(), ShapeError>
+        requires { slot < self.old.max_locals }
+        ensures room { SameRoom self.old self.new }
+        ensures stack { self.new.kinds.stack ≡ self.old.kinds.stack }
+        ensures cut { IfOk result (λ x. self.new.kinds.locals ≡ without_half is_wide self.old.kinds.locals slot) }
+    {
+        if 0 < slot && is_some_wide(self.local_at(usize::from(slot) - 1)) {
+            self.lists.put(slot - 1, None)?;
+        }
+        Ok(())
     }
 
     // ---- the upper operands

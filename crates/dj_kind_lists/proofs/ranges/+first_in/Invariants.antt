@@ -1,0 +1,4 @@
+use Rattle.dj_kind_lists.proofs.ranges.+first_in.Given as goal
+
+abbrev pub decreases-first_in : goal.decreases-first_in
+decreases-first_in l = l.part.height
