@@ -1,8 +1,6 @@
 -- Trees of kinds as lists.
 use Rattle.std.proofs.Common.{◌≡◌, ℕ, zero, suc, ◌+◌, ◌-◌, ◌<◌, ◌≤◌, ◌⊎◌, List, [], ◌∷◌, ◌++◌, length, map, get_or, set, slice_get, replicate, Option, Some, None, refl, sym, ap, subst, ◌∙◌, inl, inr, arith, Decides, Bool}
-use Rattle.std.specs.Option.{option_map}
 use Rattle.std.proofs.lemmas.List.{get_or-set_same, get_or-set_other, length-set}
-use Rattle.std.proofs.lemmas.Option.{slice_get-map}
 use Rattle.dj_names.specs.declared.descriptor.Kind.{Kind}
 use Rattle.dj_kind_trees.specs.Nodes.{listed}
 use Rattle.dj_kind_trees.specs.Forests.{Forest, IsTree, IsBare, KeepsTrees, FlowsInto, HasPut, HasReplaced, kind_in, slots_of}

@@ -1,12 +1,10 @@
 -- Blocks of states, and what flows out of all states of one.
-use Rattle.std.proofs.Common.{◌≡◌, ℕ, zero, suc, ◌+◌, ◌-◌, ◌<◌, ◌≤◌, ◌⊎◌, List, [], ◌∷◌, ◌++◌, length, length-append, get_or, Option, Some, None, refl, sym, ap, subst, ◌∙◌, inl, inr, arith}
-use Rattle.std.specs.Prelude.{◌↔◌}
-use Rattle.dj_names.specs.declared.descriptor.Kind.{Kind}
+use Rattle.std.proofs.Common.{◌≡◌, ℕ, zero, suc, ◌+◌, ◌-◌, ◌<◌, ◌≤◌, ◌⊎◌, List, [], ◌∷◌, ◌++◌, length, length-append, refl, sym, ap, subst, ◌∙◌, inl, inr, arith}
 use Rattle.dj_kind_trees.specs.Nodes.{size_of}
 use Rattle.dj_kind_trees.specs.Forests.{Forest, IsTree, KeepsTrees, FlowsInto, HasMet, kind_in, slots_of}
 use Rattle.dj_kind_trees.proofs.Halves.{size_more, size_low, size_some}
 use Rattle.dj_kind_lists.specs.declared.block.Block.{Block}
-use Rattle.dj_kind_lists.specs.Blocks.{state_at, AreStates, no_block, block_at, IsInside, HasAll, meet_of, IsBlock, KeepsBlocks}
+use Rattle.dj_kind_lists.specs.Blocks.{state_at, AreStates, block_at, IsInside, HasAll, meet_of, IsBlock, KeepsBlocks}
 
 -- ---- what is kept
 

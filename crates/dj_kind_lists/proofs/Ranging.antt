@@ -1,11 +1,11 @@
 -- Ranges of states, and what frames ask of them.
-use Rattle.std.proofs.Common.{◌≡◌, ℕ, zero, suc, ◌+◌, ◌-◌, ◌/◌, ◌<◌, ◌≤◌, ◌⊎◌, ◌^◌, Bool, true, false, List, [], ◌∷◌, ◌++◌, length, map, take, get_or, All, is_some, not, Option, Some, None, refl, sym, ap, subst, ◌∙◌, inl, inr, arith}
+use Rattle.std.proofs.Common.{◌≡◌, ℕ, zero, suc, ◌+◌, ◌-◌, ◌<◌, ◌≤◌, ◌⊎◌, ◌^◌, Bool, true, false, List, [], ◌∷◌, ◌++◌, length, map, get_or, All, is_some, not, Option, Some, None, refl, sym, ap, subst, ◌∙◌, inl, inr, arith}
 use Rattle.std.specs.Prelude.{MatchOption}
 use Rattle.std.proofs.lemmas.List.Elements.{All-nil, All-cons, All-head, All-tail, All-push}
 use Rattle.dj_names.specs.declared.descriptor.Kind.{Kind}
 use Rattle.dj_kind_trees.specs.Nodes.{size_of}
-use Rattle.dj_kind_trees.specs.Forests.{Forest, IsTree, KeepsTrees, FlowsInto, kind_in, slots_of}
-use Rattle.dj_kind_trees.proofs.Halves.{size_more, size_low, size_some}
+use Rattle.dj_kind_trees.specs.Forests.{Forest, KeepsTrees, FlowsInto, kind_in}
+use Rattle.dj_kind_trees.proofs.Halves.{size_more, size_low}
 use Rattle.dj_kind_lists.specs.declared.ranges.KindRange.{KindRange}
 use Rattle.dj_kind_lists.specs.Blocks.{state_at, AreStates, IsInside, HasAll}
 use Rattle.dj_kind_lists.specs.Ranges.{RangeFlows, RangesFlow, AllInside, AreLeft, IsFirstIn, IsFirstBelow}

@@ -1,5 +1,5 @@
 -- Blocks of states one after the other, each with the kinds that all of its states have.
-use Rattle.std.specs.Prelude.{◌≡◌, ℕ, zero, suc, ◌+◌, ◌<◌, ◌≤◌, ◌↔◌, List, length, get_or, Option, Some}
+use Rattle.std.specs.Prelude.{◌≡◌, ℕ, zero, suc, ◌+◌, ◌<◌, ◌≤◌, ◌↔◌, List, length, get_or, Some}
 use Rattle.dj_names.specs.declared.descriptor.Kind.{Kind}
 use Rattle.dj_kind_trees.specs.Nodes.{size_of}
 use Rattle.dj_kind_trees.specs.Forests.{Forest, IsTree, kind_in, slots_of}

@@ -1,5 +1,5 @@
 -- What the handlers of ranges ask of the local variables before an instruction.
-use Rattle.std.proofs.Common.{◌≡◌, ℕ, ◌<◌, ◌≤◌, List, [], map, get_or, All, Option, Some, None, slice_get, length, refl, sym, ap, subst, ◌∙◌, arith}
+use Rattle.std.proofs.Common.{◌≡◌, ℕ, ◌<◌, ◌≤◌, List, [], map, get_or, Option, Some, None, slice_get, length, refl, sym, ap, subst, ◌∙◌, arith}
 use Rattle.std.proofs.lemmas.List.{length-map}
 use Rattle.std.proofs.lemmas.List.Elements.{All-map, All-get_or}
 use Rattle.std.proofs.lemmas.Option.{slice_get_within, get_or_from_slice_get, slice_get-get_or, slice_get-map}
@@ -11,7 +11,7 @@ use Rattle.dj_kind_lists.specs.declared.ranges.KindRange.{KindRange}
 use Rattle.dj_kind_lists.specs.Lists.{HoldsIn, AllFlow, ListFlows}
 use Rattle.dj_model.specs.trusted.Values.{local_at}
 use Rattle.dj_model.specs.trusted.Initialisation.{padded}
-use Rattle.dj_shape_rule.specs.Standing.{Standing, IsListed}
+use Rattle.dj_shape_rule.specs.Standing.{Standing}
 use Rattle.dj_shape_rule.specs.Listed.{AreListed}
 use Rattle.dj_shape_rule.specs.Reported.{Reported, ReportedFrames, reported_at, frame_place}
 use Rattle.dj_shape_rule.specs.Handlers.{Says, Handled, range_with, range_of}

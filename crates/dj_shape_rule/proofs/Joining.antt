@@ -1,9 +1,8 @@
 -- The first instruction that doesn't hold, from what was found without the handlers of ranges, and of them.
-use Rattle.std.proofs.Common.{◌≡◌, ℕ, ◌<◌, ◌≤◌, Bool, true, List, [], map, get_or, length, Option, Some, None, slice_get, refl, sym, ap, subst, ◌∙◌, arith}
+use Rattle.std.proofs.Common.{◌≡◌, ℕ, ◌<◌, ◌≤◌, Bool, true, List, [], map, get_or, length, Option, Some, None, slice_get, sym, ap, subst, ◌∙◌, arith}
 use Rattle.std.proofs.lemmas.List.{length-map}
 use Rattle.std.proofs.lemmas.Option.{slice_get-get_or}
 use Rattle.dj_names.specs.declared.descriptor.Kind.{Kind}
-use Rattle.dj_ops.specs.declared.instruction.Instr.{Instr}
 use Rattle.dj_ops.specs.declared.instruction.Instr.TheVariants as instrs
 use Rattle.dj_program.specs.trusted.Naming.{instruction_in}
 use Rattle.dj_kind_lists.specs.declared.ranges.KindRange.{KindRange}
@@ -16,7 +15,7 @@ use Rattle.dj_shape_rule.specs.declared.pass.Pass.{Pass}
 use Rattle.dj_shape_rule.specs.Standing.{Standing, HasRoomOf}
 use Rattle.dj_shape_rule.specs.Listed.{AreListed}
 use Rattle.dj_shape_rule.specs.Handlers.{Handled, range_of}
-use Rattle.dj_shape_rule.specs.Passing.{Case, IsCase, HeldBut, AllHeldBut, IsFirstBut, IsFirst, Before, IsFirstUnhandled, kept, limit_of}
+use Rattle.dj_shape_rule.specs.Passing.{Case, IsCase, HeldBut, IsFirstBut, IsFirst, Before, IsFirstUnhandled, kept, limit_of}
 use Rattle.dj_shape_rule.proofs.Handling.{all_flow, handled_so}
 use Rattle.dj_shape_rule.proofs.Steps.{has_handled}
 

@@ -1,7 +1,6 @@
 -- The whole of a method's code: its frames as they are read, its parameters, and what follows for its shape.
-use Rattle.std.proofs.Common.{◌≡◌, ℕ, ◌<◌, ◌≤◌, Bool, true, false, ◌&&◌, List, [], ◌∷◌, map, length, Option, Some, None, IsSome, IsNone, slice_get, nat_le, if◌then◌else◌, refl, sym, ap, subst, ◌∙◌, inl, inr, arith}
+use Rattle.std.proofs.Common.{◌≡◌, ℕ, ◌<◌, ◌≤◌, Bool, true, false, List, [], ◌∷◌, map, length, Option, Some, None, IsSome, IsNone, slice_get, if◌then◌else◌, refl, sym, ap, subst, ◌∙◌, inl, inr, arith}
 use Rattle.std.specs.Option.{option_map}
-use Rattle.std.proofs.lemmas.Bool.Decides.{nat_tests}
 use Rattle.std.proofs.lemmas.Option.{slice_get-map}
 use Rattle.dj_names.specs.declared.descriptor.Kind.{Kind}
 use Rattle.dj_names.specs.declared.descriptor.Kind.TheVariants as kinds
@@ -28,7 +27,7 @@ use Rattle.dj_program.specs.trusted.Codes.{code_in, range_in}
 use Rattle.dj_program.specs.Views.{parts_of}
 use Rattle.dj_shape_rule.specs.Kept.{KeptKinds}
 use Rattle.dj_shape_rule.specs.Pools.{ArePoolKinds}
-use Rattle.dj_shape_rule.specs.Reported.{Reported, ReportedFrames, AreReported, IsReportedAs, reported_at}
+use Rattle.dj_shape_rule.specs.Reported.{Reported, ReportedFrames, AreReported, IsReportedAs}
 use Rattle.dj_shape_rule.specs.Reading.{made_as, frame_code, signature_with}
 use Rattle.dj_shape_rule.specs.Passing.{Case, IsFirst}
 use Rattle.dj_shape_rule.specs.Judging.{IsFaultOf, IsJudged, fault_reported}

@@ -2,7 +2,6 @@
 use Rattle.std.proofs.Common.{◌≡◌, ℕ, zero, suc, ◌+◌, ◌<◌, ◌≤◌, false, List, [], ◌∷◌, ◌++◌, length, map, take, get_or, Option, Some, None, unwrap_or, refl, sym, ap, ◌∙◌}
 use Rattle.std.proofs.lemmas.List.{append_assoc, take_more, take_all, map-append}
 use Rattle.dj_names.specs.declared.descriptor.Kind.{Kind}
-use Rattle.dj_names.specs.declared.descriptor.Kind.TheVariants as kinds
 use Rattle.dj_names.specs.declared.descriptor.Base.TheVariants as bases
 use Rattle.dj_names.specs.declared.descriptor.Of.{Of}
 use Rattle.dj_names.specs.declared.descriptor.Of.TheVariants as ofs
@@ -22,7 +21,6 @@ use Rattle.dj_model.specs.trusted.Types.{no_parameters}
 use Rattle.dj_declarations.specs.trusted.Files.{desc_in}
 use Rattle.dj_shape_rule.specs.Keeping.{text_kind, text_call, kind_by, call_by}
 use Rattle.dj_shape_rule.specs.declared.pool.ConstantKind.{ConstantKind}
-use Rattle.dj_shape_rule.specs.declared.pool.ConstantKind.TheVariants as constants
 
 -- ---- descriptors
 

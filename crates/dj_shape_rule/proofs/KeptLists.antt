@@ -6,14 +6,13 @@ use Rattle.dj_names.specs.declared.descriptor.Kind.{Kind}
 use Rattle.dj_kind_trees.specs.Nodes.{listed}
 use Rattle.dj_kind_lists.specs.Lists.{IsChanged}
 use Rattle.dj_model.specs.trusted.Initialisation.{padded}
-use Rattle.dj_shape_rule.specs.declared.arena.Slot.{Slot}
 use Rattle.dj_shape_rule.specs.declared.arena.LocalsPlace.{LocalsPlace}
 use Rattle.dj_shape_rule.specs.declared.frames.KeptFrame.{KeptFrame}
 use Rattle.dj_shape_rule.specs.Arena.{slots_at, IsIn, IsShared}
 use Rattle.dj_shape_rule.specs.Numbered.{frame_at}
 use Rattle.dj_shape_rule.specs.Placing.{number_place}
 use Rattle.dj_shape_rule.specs.Reported.{Reported, ReportedFrames, reported_at, reported_in, frame_place}
-use Rattle.dj_shape_rule.specs.Standing.{Standing, IsListed, SameButLists}
+use Rattle.dj_shape_rule.specs.Standing.{Standing, IsListed}
 use Rattle.dj_shape_rule.specs.Listed.{AreListed, AreListedBelow, AreFew, IsLast}
 use Rattle.dj_shape_rule.proofs.Links.{no_place}
 use Rattle.dj_kind_lists.proofs.Listing.{same_lists}

@@ -7,14 +7,13 @@ use Rattle.dj_kind_lists.specs.Lists.{IsChanged, ListFlows}
 use Rattle.dj_kind_lists.proofs.Listing.{same_lists}
 use Rattle.dj_model.specs.trusted.Values.{local_at}
 use Rattle.dj_model.specs.trusted.Initialisation.{padded}
-use Rattle.dj_model.specs.trusted.Kinds.{Kinds}
 use Rattle.dj_shape_rule.specs.Arena.{IsShared}
 use Rattle.dj_shape_rule.specs.Flows.{LocalsFlow}
 use Rattle.dj_shape_rule.specs.Standing.{Standing, IsListed}
 use Rattle.dj_shape_rule.specs.Listed.{AreListed}
 use Rattle.dj_shape_rule.specs.Forms.{FlowsAt}
 use Rattle.dj_shape_rule.specs.declared.frames.LentFrame.{LentFrame}
-use Rattle.dj_shape_rule.specs.Reported.{Reported, ReportedFrames, reported_at, reported_by, frame_place}
+use Rattle.dj_shape_rule.specs.Reported.{ReportedFrames, reported_at, reported_by, frame_place}
 use Rattle.dj_shape_rule.proofs.Slots.{at_padded}
 
 pub order : (a b : ℕ) → (a < b) ⊎ (b ≤ a)

@@ -15,7 +15,6 @@ use Rattle.dj_shape_rule.specs.declared.pass.Pass.{Pass}
 use Rattle.dj_shape_rule.specs.Standing.{Standing, HasRoomOf, SameRoom, IsNoted, standing_in}
 use Rattle.dj_shape_rule.specs.Reported.{Reported, reported_at, reported_kinds, IsReportedAs}
 use Rattle.dj_shape_rule.specs.Flows.{Flows, FlowsTo}
-use Rattle.dj_shape_rule.specs.Handlers.{Handled}
 use Rattle.dj_shape_rule.specs.Passing.{IsRun, HasHandlerFrame, IsFirstUnhandled, Case, IsCase, Before, HeldBut, AllHeldBut, arriving, kept, Flowing, Leaving, MeetsFrame, Answers}
 use Rattle.dj_shape_rule.proofs.Lists.{get_before, get_last, order}
 use Rattle.dj_shape_rule.proofs.Steps.{state_is, no_state, holds, has_begins, has_handles, has_flowing, arrives}

@@ -1,6 +1,5 @@
 -- Used by the code alone: the local variables of frames, kept as lists.
-use Rattle.std.specs.Prelude.{◌≡◌, ℕ, suc, ◌≤◌, ◌<◌, List, [], length, get_or, Option, Some, slice_get}
-use Rattle.dj_names.specs.declared.descriptor.Kind.{Kind}
+use Rattle.std.specs.Prelude.{◌≡◌, ℕ, suc, ◌≤◌, ◌<◌, [], length, get_or, Some, slice_get}
 use Rattle.dj_kind_trees.specs.Nodes.{listed}
 use Rattle.dj_model.specs.trusted.Initialisation.{padded}
 use Rattle.dj_shape_rule.specs.declared.arena.LocalsPlace.{LocalsPlace}

@@ -9,7 +9,7 @@ use Rattle.dj_program.specs.trusted.Codes.{range_in}
 use Rattle.dj_model.specs.trusted.Program.{Code}
 use Rattle.dj_model.specs.trusted.Instructions.{Instruction, Other, ends, targets}
 use Rattle.dj_model.specs.trusted.Kinds.{Kinds, Signature, Placed}
-use Rattle.dj_model.specs.trusted.Shape.{after, first_kinds, goes_on_with, state_before, HoldsAt, IsFirstFault}
+use Rattle.dj_model.specs.trusted.Shape.{first_kinds, goes_on_with, state_before, HoldsAt, IsFirstFault}
 use Rattle.dj_shape_rule.specs.declared.pass.Method.{Method}
 use Rattle.dj_shape_rule.specs.declared.pass.Pass.{Pass}
 use Rattle.dj_shape_rule.specs.Pools.{ArePoolKinds}

@@ -2,8 +2,7 @@
 use Rattle.std.specs.Prelude.{◌≡◌, ℕ, ⊤, List, Option, None, get_or}
 use Rattle.dj_names.specs.trusted.Types.{field_kind}
 use Rattle.dj_pool.specs.trusted.Pool.{Constant}
-use Rattle.dj_model.specs.trusted.Types.{Member}
-use Rattle.dj_model.specs.trusted.Instructions.{Named, Nothing, AnInt, ALong, AText, AClass, AField, AMethod, AnInterfaceMethod, Another}
+use Rattle.dj_model.specs.trusted.Instructions.{Named, AnInt, ALong, AText, AClass, AField, AMethod, AnInterfaceMethod, Another}
 use Rattle.dj_model.specs.trusted.Kinds.{Signature, call_signature}
 use Rattle.dj_declarations.specs.trusted.Files.{desc_in, name_in}
 use Rattle.dj_declarations.specs.Members.{IsDescriptor}

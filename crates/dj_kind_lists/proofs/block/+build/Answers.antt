@@ -1,10 +1,9 @@
-use Rattle.std.proofs.Common.{◌≡◌, ℕ, suc, ◌+◌, ◌-◌, ◌/◌, ◌<◌, ◌≤◌, ◌++◌, ◌∷◌, [], List, length, refl, sym, ap, subst, ◌∙◌, arith, rules}
+use Rattle.std.proofs.Common.{◌≡◌, ℕ, suc, ◌+◌, ◌-◌, ◌/◌, ◌++◌, ◌∷◌, [], length, refl, sym, ap, subst, ◌∙◌, arith, rules}
 use Rattle.std.proofs.lemmas.Bool.Decides.{nat_tests}
 use Rattle.std.proofs.lemmas.Result.{IfOk-weaker}
 use Rattle.dj_kind_trees.specs.Nodes.{size_of}
 use Rattle.dj_kind_trees.specs.Forests.{IsTree, HasMet}
 use Rattle.dj_kind_trees.proofs.Halves.{half_size, size_low}
-use Rattle.dj_kind_lists.specs.declared.block.Block.{Block}
 use Rattle.dj_kind_lists.specs.Blocks.{meet_of, IsBlock}
 use Rattle.dj_kind_lists.proofs.Meeting.{states_kept, block_kept, of_block, new_block, low_block}
 use Rattle.dj_kind_lists.proofs.block.+build.Goals as goal

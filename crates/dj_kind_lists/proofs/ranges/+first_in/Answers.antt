@@ -1,9 +1,9 @@
-use Rattle.std.proofs.Common.{◌≡◌, ◌∙◌, ◌+◌, ◌-◌, ◌/◌, ◌≤◌, ℕ, suc, List, [], length, sym, ap, subst, arith, rules}
+use Rattle.std.proofs.Common.{◌≡◌, ◌+◌, ◌-◌, ◌/◌, ℕ, suc, length, sym, ap, subst, arith, rules}
 use Rattle.std.proofs.lemmas.Bool.Decides.{nat_tests}
 use Rattle.std.proofs.lemmas.Result.{IfOk-weaker}
 use Rattle.dj_kind_trees.specs.Nodes.{size_of}
 use Rattle.dj_kind_trees.proofs.Halves.{half_size}
-use Rattle.dj_kind_lists.specs.Blocks.{HasAll, IsBlock, IsInside, meet_of}
+use Rattle.dj_kind_lists.specs.Blocks.{HasAll, IsBlock}
 use Rattle.dj_kind_lists.proofs.Meeting.{keeps_twice, states_kept, block_kept, blocks_themselves, of_block, block_halves, first_inside}
 use Rattle.dj_kind_lists.proofs.Ranging.{no_ranges, none_inside, low_first, some_found, none_found, of_rest, match_before, right_first, same_ranges, all_inside_before}
 use Rattle.dj_kind_lists.proofs.ranges.+first_in.Goals as goal

@@ -1,4 +1,4 @@
-use Rattle.dj_kind_lists.proofs.Ranging.{one_left, one_dropped, not_true}
+use Rattle.dj_kind_lists.proofs.Ranging.{one_left, one_dropped}
 use Rattle.dj_kind_lists.proofs.ranges.add_left.Goals as goal
 
 pub returns-then-not-is_left-clause-left : goal.returns-then-not-is_left-clause-left

@@ -1,5 +1,4 @@
-use Rattle.std.proofs.Common.{◌≡◌, ◌+◌, ◌<◌, sym, ap, arith}
-use Rattle.dj_kind_trees.specs.Nodes.{size_of}
+use Rattle.std.proofs.Common.{◌<◌, sym, arith}
 use Rattle.dj_kind_trees.proofs.Halves.{size_low}
 use Rattle.dj_kind_trees.proofs.Wrapping.{size_next}
 use Rattle.dj_kind_lists.proofs.Ranging.{next_few}

@@ -1,6 +1,5 @@
-use Rattle.std.proofs.Common.{◌≡◌, ◌∙◌, ◌⊎◌, ℕ, Bool, true, false, not, refl, sym, ap, subst, inl, inr}
+use Rattle.std.proofs.Common.{true, false, sym, subst}
 use Rattle.dj_kind_trees.specs.Forests.{IsTree, FlowsInto}
-use Rattle.dj_kind_lists.specs.Blocks.{state_at}
 use Rattle.dj_kind_lists.proofs.Ranging.{apart_flows, meet_flows, meet_lacks, one_whole, after_first, before_last, not_false, not_true}
 use Rattle.dj_kind_lists.proofs.ranges.is_left.Goals as goal
 

@@ -1,4 +1,4 @@
-use Rattle.std.proofs.Common.{rules, ◌≡◌, ◌∙◌, ◌+◌, ◌++◌, ◌∷◌, [], List, take, get_or, sym, ap, subst}
+use Rattle.std.proofs.Common.{rules, ◌≡◌, [], List, take, sym, subst}
 use Rattle.std.proofs.lemmas.List.{take_more, take_all}
 use Rattle.dj_kind_lists.specs.declared.ranges.KindRange.{KindRange}
 use Rattle.dj_kind_lists.specs.Ranges.{AreLeft}

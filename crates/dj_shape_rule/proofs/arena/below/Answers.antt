@@ -1,4 +1,4 @@
-use Rattle.std.proofs.Common.{◌+◌, ◌-◌, ◌≤◌, None, refl, slice_index_or, arith}
+use Rattle.std.proofs.Common.{◌-◌, None, refl, slice_index_or, arith}
 use Rattle.dj_shape_rule.specs.declared.arena.Slot.{Slot}
 use Rattle.dj_shape_rule.proofs.Links.{below_is}
 use Rattle.dj_shape_rule.proofs.arena.below.Goals as goal

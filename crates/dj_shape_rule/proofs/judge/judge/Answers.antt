@@ -1,10 +1,8 @@
-use Rattle.std.proofs.Common.{◌∙◌, ◌≡◌, List, ap, map, sym, subst}
+use Rattle.std.proofs.Common.{◌∙◌, List, ap, map, sym}
 use Rattle.dj_ops.specs.declared.instruction.Instr.{Instr}
 use Rattle.dj_labels.specs.declared.labelled.Protected.{Protected}
 use Rattle.dj_program.specs.trusted.Naming.{instruction_in}
 use Rattle.dj_program.specs.trusted.Codes.{range_in}
-use Rattle.dj_model.specs.trusted.Kinds.{Kinds}
-use Rattle.dj_model.specs.trusted.Shape.{first_kinds}
 use Rattle.dj_shape_rule.proofs.Works.{ok_more}
 use Rattle.dj_shape_rule.proofs.Lists.{are_kept, are_still}
 use Rattle.dj_shape_rule.proofs.Joining.{begins}

@@ -1,5 +1,5 @@
 use Rattle.std.proofs.Common.{◌≡◌, ◌∙◌, ◌+◌, ◌≤◌, ℕ, length, refl, sym, subst, arith}
-use Rattle.dj_shape_rule.specs.Listed.{AreFew, AreListedBelow, IsLast}
+use Rattle.dj_shape_rule.specs.Listed.{AreFew, AreListedBelow}
 use Rattle.dj_shape_rule.proofs.KeptLists.{none_below, none_last, all_listed}
 use Rattle.dj_shape_rule.proofs.listing.list_frames.Goals as goal
 

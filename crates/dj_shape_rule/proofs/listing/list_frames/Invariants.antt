@@ -1,4 +1,4 @@
-use Rattle.std.proofs.Common.{◌≤◌, ◌+◌, length}
+use Rattle.std.proofs.Common.{◌+◌}
 use Rattle.dj_shape_rule.specs.Listed.{AreListedBelow, IsLast}
 use Rattle.dj_shape_rule.specs.Standing.{SameButLists}
 use Rattle.dj_shape_rule.proofs.listing.list_frames.Given as goal

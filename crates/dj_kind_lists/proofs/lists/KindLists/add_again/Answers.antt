@@ -1,6 +1,6 @@
-use Rattle.std.proofs.Common.{◌≡◌, ◌∙◌, ◌++◌, ◌∷◌, [], ℕ, List, Option, map, get_or, refl, sym, ap, subst}
+use Rattle.std.proofs.Common.{◌≡◌, ◌∙◌, ◌++◌, ◌∷◌, [], ℕ, List, Option, map, get_or, sym, ap, subst}
 use Rattle.dj_names.specs.declared.descriptor.Kind.{Kind}
-use Rattle.dj_kind_lists.specs.Lists.{Lists, IsChanged, IsShort, AreLists, kinds_of, tree_at}
+use Rattle.dj_kind_lists.specs.Lists.{Lists, IsChanged, IsShort, kinds_of, tree_at}
 use Rattle.dj_kind_lists.proofs.Listing.{changed_again, short_more, list_more}
 use Rattle.dj_kind_lists.proofs.lists.KindLists.add_again.Goals as goal
 

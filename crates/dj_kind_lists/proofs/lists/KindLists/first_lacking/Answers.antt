@@ -1,4 +1,4 @@
-use Rattle.std.proofs.Common.{◌≡◌, ◌∙◌, ℕ, List, ap, sym, subst}
+use Rattle.std.proofs.Common.{◌∙◌, ℕ, List, subst}
 use Rattle.std.proofs.lemmas.Result.{IfOk-weaker}
 use Rattle.dj_kind_lists.specs.Lists.{Lists, IsFirstLack}
 use Rattle.dj_kind_lists.specs.Ranges.{IsFirstBelow}

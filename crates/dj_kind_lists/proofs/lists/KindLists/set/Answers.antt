@@ -1,4 +1,4 @@
-use Rattle.std.proofs.Common.{◌+◌, ◌≤◌, [], length, sym, subst, arith}
+use Rattle.std.proofs.Common.{◌≤◌, [], length, sym, subst, arith}
 use Rattle.dj_kind_lists.specs.Lists.{Lists, SameLists, IsChanged, kinds_of}
 use Rattle.dj_kind_lists.proofs.Listing.{view_of, same_view, changed_so}
 use Rattle.dj_kind_lists.proofs.lists.KindLists.set.Goals as goal

@@ -1,4 +1,4 @@
-use Rattle.std.proofs.Common.{◌≡◌, ◌∙◌, ◌<◌, ℕ, ◌+◌, suc, ap, subst, arith, length}
+use Rattle.std.proofs.Common.{◌≡◌, ◌∙◌, ℕ, ◌+◌, suc, ap, subst, arith, length}
 use Rattle.std.proofs.lemmas.List.{length-map}
 use Rattle.dj_program.specs.trusted.Naming.{instruction_in}
 use Rattle.dj_shape_rule.specs.Passing.{Before}

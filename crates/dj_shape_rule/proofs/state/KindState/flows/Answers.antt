@@ -1,4 +1,4 @@
-use Rattle.std.proofs.Common.{◌∙◌, Some, slice_get, Decides, reverse, ap, subst}
+use Rattle.std.proofs.Common.{◌∙◌, slice_get, Decides, reverse, ap, subst}
 use Rattle.dj_kind_lists.specs.Lists.{Lists, ListFlows}
 use Rattle.dj_shape_rule.specs.Standing.{Standing}
 use Rattle.dj_shape_rule.proofs.Standings.{standing_of}

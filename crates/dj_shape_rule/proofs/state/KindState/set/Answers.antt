@@ -1,6 +1,6 @@
-use Rattle.std.proofs.Common.{◌≡◌, ◌∙◌, Some, slice_get, reverse, refl, sym, ap, subst}
+use Rattle.std.proofs.Common.{◌∙◌, slice_get, reverse, ap, subst}
 use Rattle.std.proofs.lemmas.Result.{IfOk-weaker}
-use Rattle.dj_shape_rule.specs.Standing.{Standing, IsListed, SameRoom, Leaves, standing_in}
+use Rattle.dj_shape_rule.specs.Standing.{Standing, SameRoom}
 use Rattle.dj_shape_rule.proofs.Standings.{standing_of, same_room, set_so, room_after}
 use Rattle.dj_shape_rule.proofs.state.KindState.set.Goals as goal
 
