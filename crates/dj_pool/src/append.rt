@@ -61,6 +61,18 @@ impl<'a> Pool<'a> {
         Ok(Pool { entries })
     }
 
+    /// A copy of the entries for as long as the pool is lent, so that entries with texts of a shorter life may be appended.
+    pub fn lend<'t>(&'t self, alloc: Global) -> Result<Pool<'t>, AppendError>
+        ensures ok { IfOk result (λ pool. pool ≡ self.now) }
+        ensures err { IfErr result (λ e. e ≡ AppendError.Memory) }
+    {
+        let mut entries = Vec::with_capacity(alloc, self.entries.len())?;
+        for entry in self.entries.as_slice() {
+            entries.push(lent(entry))?;
+        }
+        Ok(Pool { entries })
+    }
+
     fn push_one(&mut self, entry: Entry<'a>) -> Result<(), AppendError>
         ensures ok { OnOk result (self.new ≡ self.old ++ constant_of entry.entry ∷ []) }
         ensures err { IfErr result (λ e. (self.new ≡ self.old) × (e ≡ AppendError.Memory)) }
@@ -137,5 +149,28 @@ fn with_text<'a>(entry: &Entry<'a>, text: u16) -> Entry<'a>
         Entry::NameAndType(name, _) => Entry::NameAndType(*name, text),
         Entry::MethodType(_) => Entry::MethodType(text),
         other => *other,
+    }
+}
+
+/// The entry, with its text lent.
+fn lent<'t>(entry: &'t Entry<'_>) -> Entry<'t>
+    ensures { constant_of result ≡ constant_of entry.now }
+{
+    match *entry {
+        Entry::Utf8(text) => Entry::Utf8(text),
+        Entry::Integer(value) => Entry::Integer(value),
+        Entry::Float(bits) => Entry::Float(bits),
+        Entry::Long(value) => Entry::Long(value),
+        Entry::Double(bits) => Entry::Double(bits),
+        Entry::Class(text) => Entry::Class(text),
+        Entry::Text(text) => Entry::Text(text),
+        Entry::Field(class, member) => Entry::Field(class, member),
+        Entry::Method(class, member) => Entry::Method(class, member),
+        Entry::InterfaceMethod(class, member) => Entry::InterfaceMethod(class, member),
+        Entry::NameAndType(name, desc) => Entry::NameAndType(name, desc),
+        Entry::Handle(kind, member) => Entry::Handle(kind, member),
+        Entry::MethodType(text) => Entry::MethodType(text),
+        Entry::Dynamic(row, member) => Entry::Dynamic(row, member),
+        Entry::Hole => Entry::Hole,
     }
 }
