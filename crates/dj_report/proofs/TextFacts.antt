@@ -76,6 +76,15 @@ costed-statuses = refl
 raw-statuses : map (λ end. report_status (reports.Raw end 3)) each_end ≡ map outcome_status each_end
 raw-statuses = refl
 
+-- a run of rewritten classes has all of it, the digest before the steps
+ran-texts : map report_text (reports.Ran (outcomes.OkBytes (7 ∷ [])) costs (0 ∷ 171 ∷ 255 ∷ []) 24 ∷ reports.Ran outcomes.Link costs [] 10 ∷ [])
+    ≡ codes "OK 1 07\ncosts alloc 24 invoke 10 jump 0 throw 7\ncode 00abff\nsteps 24\n" ∷ codes "LINK\ncosts alloc 24 invoke 10 jump 0 throw 7\ncode \nsteps 10\n" ∷ []
+unfolding digits
+ran-texts = refl
+
+ran-statuses : map (λ end. report_status (reports.Ran end costs [] 3)) each_end ≡ map outcome_status each_end
+ran-statuses = refl
+
 -- ---- rules
 
 -- 1 to 21, and the numbers beside them

@@ -59,6 +59,7 @@ pub fn status_of(report: &Report) -> u8
         Report::Absent(_) => 65,
         Report::Costed { outcome, .. } => status_of_outcome(outcome),
         Report::Raw { outcome, .. } => status_of_outcome(outcome),
+        Report::Ran { outcome, .. } => status_of_outcome(outcome),
         Report::Usage => 64,
         Report::Syntax { .. } | Report::Label { .. } | Report::Large { .. } => 68,
         Report::Written(_) => 0,

@@ -2,7 +2,7 @@
 ghost use Rattle.std.specs.Prelude.{◌≡◌, ◌<◌, ◌++◌, OnOk};
 ghost use Rattle.std.specs.List.{flat_map};
 ghost use Rattle.dj_report.specs.trusted.Outcomes.{low_hex_digit, byte_hex, unit_hex, bytes_text, units_text, message_text, thrown_text};
-ghost use Rattle.dj_report.specs.trusted.Outcomes.{charge_name, outcome_text, cost_text, costs_text, raw_text, run_text, outcome_status};
+ghost use Rattle.dj_report.specs.trusted.Outcomes.{charge_name, outcome_text, cost_text, costs_text, raw_text, run_text, ran_text, outcome_status};
 
 use crate::bytes::ReportError;
 use crate::parts::{put_decimal, put_escaped};
@@ -180,6 +180,25 @@ pub fn put_raw(out: &mut Vec<u8>, outcome: &Outcome, steps: u64) -> Result<(), R
     ensures { OnOk result (out.new.items ≡ out.old.items ++ raw_text outcome.now steps) }
 {
     put_outcome(out, outcome)?;
+    out.extend_from_slice(b"\nsteps ")?;
+    put_decimal(out, steps)?;
+    out.push(b'\n')?;
+    Ok(())
+}
+
+/// Appends the four lines of a run of rewritten classes.
+pub fn put_ran(
+    out: &mut Vec<u8>,
+    outcome: &Outcome,
+    costs: &Costs,
+    code: &[u8],
+    steps: u64,
+) -> Result<(), ReportError>
+    ensures { OnOk result (out.new.items ≡ out.old.items ++ ran_text outcome.now costs.now code.now steps) }
+{
+    put_run(out, outcome, costs)?;
+    out.extend_from_slice(b"code ")?;
+    put_byte_digits(out, code)?;
     out.extend_from_slice(b"\nsteps ")?;
     put_decimal(out, steps)?;
     out.push(b'\n')?;

@@ -4,7 +4,7 @@ ghost use Rattle.std.specs.List.{flat_map};
 ghost use Rattle.dj_report.specs.trusted.Text.{rule_name, member_text, number_text, violation_text, violations_text, limit_text, syntax_text, line_fault_text, report_text};
 
 use crate::bytes::ReportError;
-use crate::outcome::{put_raw, put_run};
+use crate::outcome::{put_ran, put_raw, put_run};
 use crate::parts::{put_decimal, put_escaped};
 use crate::report::{Limit, Report, Violation};
 
@@ -155,6 +155,12 @@ pub fn put_report(out: &mut Vec<u8>, report: &Report) -> Result<(), ReportError>
         }
         Report::Costed { outcome, costs } => put_run(out, outcome, costs)?,
         Report::Raw { outcome, steps } => put_raw(out, outcome, *steps)?,
+        Report::Ran {
+            outcome,
+            costs,
+            code,
+            steps,
+        } => put_ran(out, outcome, costs, code, *steps)?,
         Report::Usage => out.extend_from_slice(b"USAGE\n")?,
         Report::Syntax { line, column } => put_syntax(out, *line, *column)?,
         Report::Label { line } => put_line_fault(out, "LABEL", *line)?,

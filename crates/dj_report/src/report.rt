@@ -109,17 +109,37 @@ pub enum Report {
     /// There is no file of this path, as UTF-8.
     Absent(Name),
     /// How a run ended, and what it was charged.
-    Costed { outcome: Outcome, costs: Costs },
+    Costed {
+        outcome: Outcome,
+        costs: Costs,
+    },
     /// How a run of `raw` ended, and after how many steps.
-    Raw { outcome: Outcome, steps: u64 },
+    Raw {
+        outcome: Outcome,
+        steps: u64,
+    },
+    /// How a run of rewritten classes ended, what it was charged, the SHA-256 digest of their files, and after how many steps it ended.
+    Ran {
+        outcome: Outcome,
+        costs: Costs,
+        code: [u8; 32],
+        steps: u64,
+    },
     /// The words give no job.
     Usage,
     /// What is in this line of an assembler's text, at this column, isn't allowed there.
-    Syntax { line: u32, column: u32 },
+    Syntax {
+        line: u32,
+        column: u32,
+    },
     /// This line of an assembler's text names a label that is unknown or of no use there, or defines one again.
-    Label { line: u32 },
+    Label {
+        line: u32,
+    },
     /// This line of an assembler's text has something that doesn't fit.
-    Large { line: u32 },
+    Large {
+        line: u32,
+    },
     /// The bytes of a class file, and nothing else.
     Written(Bytes),
 }

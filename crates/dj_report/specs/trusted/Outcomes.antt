@@ -75,6 +75,10 @@ run_text outcome costs = line (outcome_text outcome) ++ line (costs_text costs)
 abbrev pub raw_text : Outcome → ℕ → List ℕ
 raw_text outcome steps = line (outcome_text outcome) ++ line (codes "steps " ++ decimal steps)
 
+-- the lines of the outcome and of the costs, that of the digest, and that of the steps
+abbrev pub ran_text : Outcome → Costs → List ℕ → ℕ → List ℕ
+ran_text outcome costs code steps = run_text outcome costs ++ line (codes "code " ++ flat_map byte_hex code) ++ line (codes "steps " ++ decimal steps)
+
 abbrev pub outcome_status : Outcome → ℕ
 outcome_status outcomes.OkNull = 0
 outcome_status (outcomes.OkBytes bytes) = 0

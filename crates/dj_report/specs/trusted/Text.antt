@@ -8,7 +8,7 @@ use Rattle.dj_report.specs.declared.report.Violation.{Violation}
 use Rattle.dj_report.specs.declared.report.Report.{Report}
 use Rattle.dj_report.specs.declared.report.Report.TheVariants as reports
 use Rattle.dj_report.specs.trusted.Parts.{line, escaped}
-use Rattle.dj_report.specs.trusted.Outcomes.{run_text, raw_text, outcome_status}
+use Rattle.dj_report.specs.trusted.Outcomes.{run_text, raw_text, ran_text, outcome_status}
 
 -- the name of a rule, by its number; other numbers have the empty name
 abbrev pub rule_name : ℕ → List ℕ
@@ -76,6 +76,7 @@ report_text (reports.Later path) = line (codes "LATER " ++ escaped path)
 report_text (reports.Absent path) = line (codes "ABSENT " ++ escaped path)
 report_text (reports.Costed outcome costs) = run_text outcome costs
 report_text (reports.Raw outcome steps) = raw_text outcome steps
+report_text (reports.Ran outcome costs code steps) = ran_text outcome costs code steps
 report_text reports.Usage = line (codes "USAGE")
 report_text (reports.Syntax at column) = syntax_text at column
 report_text (reports.Label at) = line_fault_text (codes "LABEL") at
@@ -91,6 +92,7 @@ report_status (reports.Later path) = 75
 report_status (reports.Absent path) = 65
 report_status (reports.Costed outcome costs) = outcome_status outcome
 report_status (reports.Raw outcome steps) = outcome_status outcome
+report_status (reports.Ran outcome costs code steps) = outcome_status outcome
 report_status reports.Usage = 64
 report_status (reports.Syntax at column) = 68
 report_status (reports.Label at) = 68
