@@ -1,5 +1,7 @@
 """Further class files of `bench/shape`: with rows of the exception table, with many methods, and such that are refused."""
 
+import random
+
 from slow_forms import begun, by_turns, form, ints, longs, steps, up_to
 from slow_methods import (
     FAR, INT_TYPE, LONG_TYPE, MOST, NOP, NULL, NULL_TYPE, RETURN, STAND_IN, TOP_TYPE, ZERO,
@@ -55,11 +57,11 @@ def rows_of_many_handlers_and_many_longs(size):
     return rows_over_stores(size, up_to(8000, size / 40), INT_TYPE * 2 + longs(min(30000, size / 3)))
 
 
-def changing_stores(method, slots, count, tail=3):
-    """A store in one local variable after the other, of an int or of null by turns; its start, and how many bytes each has."""
+def changing_stores(method, slots, count):
+    """A store in one of so many local variables after the other, first of null, then of an int and so on; where they start."""
     start = method.here()
-    for number in range(min(count, (MOST - method.here() - tail) // 5)):
-        method.add(store(256 + slots(number), ("null", "int")[number % 2]))
+    for number in range(min(count, (MOST - method.here() - 3) // 5)):
+        method.add(store(256 + number * 37 % slots, ("null", "int")[number // slots % 2]))
     return start
 
 
@@ -81,8 +83,7 @@ def rows_and_stores_in_many_ints(size):
 def stores_in_spread_variables(size, rows):
     """What all of a range have is another list in each block of instructions."""
     method = begun(ints(min(65000, size / 3)))
-    slots = len(method.frames[0][1][1]) - 4 - 256
-    start = changing_stores(method, lambda number: number * 37 % max(1, slots), size // 8)
+    start = changing_stores(method, max(1, len(method.frames[0][1][1]) - 4 - 256), size // 8)
     end = method.here()
     method.add(RETURN)
     handler = method.handler(full(INT_TYPE, NULL_TYPE))
@@ -209,30 +210,33 @@ def lists_in_rows_of_few_instructions(size):
 def lists_with_gaps_in_rows(size):
     """Many handlers with whole lists of their own, which have nothing where stores go; rows begin and end everywhere."""
     handlers = up_to(400, (size / 40) ** 0.5)
-    count = up_to(65000, size / 3 / handlers)
-    return gaps_in_rows(size, handlers, count, size / 20, size // 24, 16)
+    return gaps_in_rows(handlers, up_to(65000, size / 3 / handlers), size / 20, size // 24, 16)
 
 
-def gaps_in_rows(size, handlers, count, rows, stores, gap):
+@form
+def lists_with_many_gaps_in_rows(size):
+    """The same with nothing in each second local variable."""
+    handlers = up_to(400, size**0.5 / 4)
+    return gaps_in_rows(handlers, up_to(65000, size / 3 / handlers), size / 25, size // 15, 2)
+
+
+def gaps_in_rows(handlers, count, rows, stores, gap):
     wanted = types(("T" + "I" * (gap - 1)) * (count // gap + 1))[:count]
     method = begun(types("I" * count))
     start = method.here()
-    widths = []
+    places, gaps, draw = [], max(1, count // gap), random.Random(1)
     for number in range(stores):
-        slot = gap * (number * 31 % max(1, count // gap))
-        more = store(slot, ("null", "int")[number % 2])
+        more = store(gap * (number * 31 % gaps), ("null", "int")[number // gaps % 2])
         if method.here() + len(more) + handlers + 2 > MOST:
             break
-        widths.append(method.here())
+        places.append(method.here())
         method.add(more)
-    widths.append(method.here())
+    places.append(method.here())
     method.add(RETURN)
     those = [method.handler(full(wanted, NULL_TYPE)) for _ in range(handlers)]
-    last = len(widths) - 1
     for number in range(up_to(MOST, rows)):
-        first = number * 17 % last
-        end = min(last, first + 1 + number * number % (1 + last // 3))
-        method.cover(widths[first], widths[end], those[number % handlers])
+        first, last = sorted(draw.sample(range(len(places)), 2))
+        method.cover(places[first], places[last], those[number % handlers])
     return method.made()
 
 
