@@ -2,11 +2,11 @@
 many local variables, which comes from nowhere: it stands behind a return."""
 
 from slow_methods import (
-    ATHROW, FAR, INT_TYPE, LONG_TYPE, MOST, NOP, NULL, NULL_TYPE, RETURN, STAND_IN, TOP_TYPE, TYPES, ZERO,
-    Made, Method, appended, chopped, full, one_operand, same, store, types,
+    FAR, INT_TYPE, LONG_TYPE, MOST, Made, Method, NOP, RETURN, STAND_IN, TOP_TYPE, TYPES, ZERO, appended, chopped, full, one_operand, same, store,
+    types,
 )
 
-from class_files import PUBLIC, STATIC, Pool, class_file, code, row, u1, u2
+from class_files import PUBLIC, STATIC, Pool, class_file, code, row, u2
 from opcodes import opcode
 
 forms = {}
@@ -206,24 +206,17 @@ def jumps_to_lists(size, kind, by_switch=False):
     declared, width = TYPES[kind]
     count = up_to(120, (size / 12) ** 0.5)
     each = declared * min(lists_of(2 * count, size, 4 * count * count), 65000 // width)
-    method, waiting, targets = Method(), [], []
-
-    def state():
-        method.at_frame(full(each), NOP)
-        return [method.here()]
-
-    half = count // 2
+    method, half = Method(), count // 2
     # The targets' addresses are reckoned first.
     length = 1 + 4 * count + 20 if by_switch else 2 + 4 * count
     first = 1 + half * (length + 4)
     targets = [first + number for number in range(count)]
     for number in range(count):
         if number == half:
-            method.add(NOP * 0)
             pad_to(method, first)
             for _ in targets:
                 method.at_frame(full(each), RETURN)
-        state()
+        method.at_frame(full(each), NOP)
         if by_switch:
             method.switch(targets)
         else:
@@ -298,7 +291,7 @@ def a_switch_to_frames_that_chop_and_append(size):
     """Each target has another list than the one before."""
     method = begun(longs(min(30000, size / 3)))
     count = up_to(10000, size / 15)
-    method.switch([0] * 0 or targets_after(method, count))
+    method.switch(targets_after(method, count))
     for number in range(count):
         method.at_frame(chopped(1) if number % 2 == 0 else appended(LONG_TYPE), RETURN)
     return method.made()

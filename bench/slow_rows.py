@@ -4,11 +4,10 @@ import random
 
 from slow_forms import begun, by_turns, form, ints, longs, steps, up_to
 from slow_methods import (
-    FAR, INT_TYPE, LONG_TYPE, MOST, NOP, NULL, NULL_TYPE, RETURN, STAND_IN, TOP_TYPE, ZERO,
-    Made, Method, appended, chopped, full, one_operand, same, store, types,
+    INT_TYPE, LONG_TYPE, MOST, Made, Method, NOP, NULL, NULL_TYPE, RETURN, STAND_IN, ZERO, appended, chopped, full, one_operand, same, store, types,
 )
 
-from class_files import PUBLIC, STATIC, Pool, attribute, class_file, code, row, u1, u2
+from class_files import PUBLIC, STATIC, Pool, class_file, code, row, u1, u2
 from opcodes import opcode
 
 
