@@ -1,0 +1,133 @@
+-- The members of a rewritten class are the rewritten members.
+use Rattle.std.proofs.Common.{◌≡◌, ℕ, zero, suc, ◌+◌, ◌<◌, ◌≤◌, Bool, true, false, List, [], ◌∷◌, ◌++◌, map, filter, take, drop, length, get_or, refl, sym, ap, ap₂, subst, ◌∙◌, arith, codes, if◌then◌else◌}
+use Rattle.std.specs.Prelude.{Contains}
+use Rattle.std.specs.List.{AllByRecursion}
+use Rattle.std.proofs.lemmas.List.{map-append}
+use Rattle.dj_pool.specs.trusted.Pool.{Constant}
+use Rattle.dj_class.specs.trusted.ClassFile.{AttributeInfo, MemberInfo, ClassFile}
+use Rattle.dj_early_rules.specs.trusted.Attributes.{is_named}
+use Rattle.dj_model.specs.trusted.Program.{Program}
+use Rattle.dj_program.specs.trusted.Programs.{AreSideBySide}
+use Rattle.dj_rename.specs.Pools.{desc_need, new_index, appended_texts, first_index, renamed_descs}
+use Rattle.dj_rewritten.specs.Files.{desc_indexes, new_desc, rewritten_field, IsRewrittenBody, IsRewrittenMethod}
+use Rattle.dj_rewrite_code.specs.Answers.{attribute_in, HasRewrittenBody}
+use Rattle.dj_rewrite.specs.declared.answers.MethodAnswer.{MethodAnswer}
+use Rattle.dj_rewrite.specs.declared.answers.MethodAnswer.TheVariants as answers
+use Rattle.dj_rewrite.specs.Answers.{desc_of, AnswersMethod, AreAnswers, HasLarge}
+use Rattle.dj_rewrite.specs.Members.{field_with, fields_with, method_with, methods_with}
+
+-- ---- lists
+
+pub length_map : {A B : Type 0} (f : A → B) (xs : List A) → length (map f xs) ≡ length xs
+length_map f [] = refl
+length_map f (x ∷ xs) = ap suc (length_map f xs)
+
+pub take_front : {A : Type 0} (xs ys : List A) → take (length xs) (xs ++ ys) ≡ xs
+take_front [] ys = refl
+take_front (x ∷ xs) ys = ap (λ (zs : List _). x ∷ zs) (take_front xs ys)
+
+pub drop_front : {A : Type 0} (xs ys : List A) → drop (length xs) (xs ++ ys) ≡ ys
+drop_front [] ys = refl
+drop_front (x ∷ xs) ys = drop_front xs ys
+
+map_twice : {A B C : Type 0} (f : B → C) (g : A → B) (xs : List A) → map f (map g xs) ≡ map (λ x. f (g x)) xs
+map_twice f g [] = refl
+map_twice f g (x ∷ xs) = ap (λ (ys : List _). f (g x) ∷ ys) (map_twice f g xs)
+
+-- ---- descriptors
+
+abbrev pub new_of : List Constant → List ℕ → ℕ → ℕ
+new_of pool descs desc = new_index pool (appended_texts pool descs) (desc_need pool desc desc)
+
+descs_are : (c : ClassFile) → renamed_descs c.pool (appended_texts c.pool (desc_indexes c)) (desc_indexes c)
+    ≡ map (new_of c.pool (desc_indexes c)) (map desc_of c.fields) ++ map (new_of c.pool (desc_indexes c)) (map desc_of c.methods)
+descs_are c = map-append (new_of c.pool (desc_indexes c)) (map desc_of c.fields) (map desc_of c.methods)
+
+as_many : (c : ClassFile) → length (map (new_of c.pool (desc_indexes c)) (map desc_of c.fields)) ≡ length c.fields
+as_many c = length_map (new_of c.pool (desc_indexes c)) (map desc_of c.fields) ∙ length_map desc_of c.fields
+
+pub field_descs : (c : ClassFile) → take (length c.fields) (renamed_descs c.pool (appended_texts c.pool (desc_indexes c)) (desc_indexes c)) ≡ map (new_of c.pool (desc_indexes c)) (map desc_of c.fields)
+field_descs c =
+    let own = map (new_of c.pool (desc_indexes c)) (map desc_of c.fields) in
+    let more = map (new_of c.pool (desc_indexes c)) (map desc_of c.methods) in
+    ap₂ (λ (n : ℕ) (xs : List ℕ). take n xs) (sym (as_many c)) (descs_are c) ∙ take_front own more
+
+pub method_descs : (c : ClassFile) → drop (length c.fields) (renamed_descs c.pool (appended_texts c.pool (desc_indexes c)) (desc_indexes c)) ≡ map (new_of c.pool (desc_indexes c)) (map desc_of c.methods)
+method_descs c =
+    let own = map (new_of c.pool (desc_indexes c)) (map desc_of c.fields) in
+    let more = map (new_of c.pool (desc_indexes c)) (map desc_of c.methods) in
+    ap₂ (λ (n : ℕ) (xs : List ℕ). drop n xs) (sym (as_many c)) (descs_are c) ∙ drop_front own more
+
+pub descs_length : (c : ClassFile) → length (renamed_descs c.pool (appended_texts c.pool (desc_indexes c)) (desc_indexes c)) ≡ length c.fields + length c.methods
+descs_length c = length_map (new_of c.pool (desc_indexes c)) (desc_indexes c) ∙ two c.fields c.methods where
+  two : (fs ms : List MemberInfo) → length (map desc_of fs ++ map desc_of ms) ≡ length fs + length ms
+  two [] ms = length_map desc_of ms
+  two (f ∷ fs) ms = ap suc (two fs ms)
+
+-- ---- fields
+
+fields_each : (pool : List Constant) (descs : List ℕ) (fs : List MemberInfo) → fields_with pool fs (map (new_of pool descs) (map desc_of fs)) ≡ map (rewritten_field pool descs) fs
+fields_each pool descs [] = refl
+fields_each pool descs (f ∷ fs) = ap (λ (xs : List MemberInfo). rewritten_field pool descs f ∷ xs) (fields_each pool descs fs)
+
+pub fields_are : (c : ClassFile) (descs : List ℕ) → descs ≡ renamed_descs c.pool (appended_texts c.pool (desc_indexes c)) (desc_indexes c)
+    → fields_with c.pool c.fields (take (length c.fields) descs) ≡ map (rewritten_field c.pool (desc_indexes c)) c.fields
+fields_are c descs e =
+    ap (λ (xs : List ℕ). fields_with c.pool c.fields (take (length c.fields) xs)) e
+    ∙ ap (fields_with c.pool c.fields) (field_descs c)
+    ∙ fields_each c.pool (desc_indexes c) c.fields
+
+-- ---- methods
+
+no_more_large : (answer : MethodAnswer) (made : List MethodAnswer) → (HasLarge (answer ∷ made) → ⊥) → HasLarge made → ⊥
+no_more_large answer made never_so (k, lt, is) = never_so (suc k, omega (arith, lt), is)
+
+module _ (program : Program) (pool : List Constant) (descs : List ℕ) where
+  abbrev first : ℕ
+  first = first_index pool (appended_texts pool descs)
+
+  one_method : (m : MemberInfo) (answer : MethodAnswer) → AnswersMethod program pool first m answer → (answer ≡ answers.TooLarge → ⊥)
+      → IsRewrittenMethod program pool descs m (method_with m answer (new_desc pool descs m))
+  one_method m answers.Bodiless none fits = record {
+    attributes = [];
+    each = subst (λ (list : List AttributeInfo). AreSideBySide (IsRewrittenBody program pool first m) list []) (sym none) tt;
+    is = refl;
+  }
+  one_method m (answers.Rewritten code) has fits = record {
+    attributes = attribute_in code ∷ [];
+    each = subst (λ (list : List AttributeInfo). AreSideBySide (IsRewrittenBody program pool first m) list (attribute_in code ∷ [])) (sym has.one) (has.body, tt);
+    is = refl;
+  }
+  one_method m answers.TooLarge large fits = absurd (fits refl)
+
+  methods_each : (ms : List MemberInfo) (made : List MethodAnswer) → AreAnswers program pool first ms made → (HasLarge made → ⊥)
+      → AreSideBySide (IsRewrittenMethod program pool descs) ms (methods_with ms made (map (new_of pool descs) (map desc_of ms)))
+  methods_each [] [] each fits = tt
+  methods_each [] (answer ∷ made) each fits = absurd each
+  methods_each (m ∷ ms) [] each fits = absurd each
+  methods_each (m ∷ ms) (answer ∷ made) each fits = (
+    one_method m answer each.0 (λ e. fits (0, omega arith, e)),
+    methods_each ms made each.1 (no_more_large answer made fits),
+  )
+
+pub methods_are : (program : Program) (c : ClassFile) (descs : List ℕ) (made : List MethodAnswer) → descs ≡ renamed_descs c.pool (appended_texts c.pool (desc_indexes c)) (desc_indexes c)
+    → AreAnswers program c.pool (first_index c.pool (appended_texts c.pool (desc_indexes c))) c.methods made → (HasLarge made → ⊥)
+    → AreSideBySide (IsRewrittenMethod program c.pool (desc_indexes c)) c.methods (methods_with c.methods made (drop (length c.fields) descs))
+methods_are program c descs made e each fits =
+    subst (λ (xs : List ℕ). AreSideBySide (IsRewrittenMethod program c.pool (desc_indexes c)) c.methods (methods_with c.methods made xs))
+    (sym (ap (drop (length c.fields)) e ∙ method_descs c))
+    (methods_each program c.pool (desc_indexes c) c.methods made each fits)
+
+-- ---- lists of answers
+
+pub as_many_answers : {A B : Type 0} (Stand : A → B → Type 0) (xs : List A) (ys : List B) → AreSideBySide Stand xs ys → length ys ≡ length xs
+as_many_answers Stand [] [] h = refl
+as_many_answers Stand [] (y ∷ ys) h = absurd h
+as_many_answers Stand (x ∷ xs) [] h = absurd h
+as_many_answers Stand (x ∷ xs) (y ∷ ys) h = ap suc (as_many_answers Stand xs ys h.1)
+
+pub side_more : {A B : Type 0} (Stand : A → B → Type 0) (xs : List A) (ys : List B) (x : A) (y : B) → AreSideBySide Stand xs ys → Stand x y → AreSideBySide Stand (xs ++ x ∷ []) (ys ++ y ∷ [])
+side_more Stand [] [] x y h s = (s, tt)
+side_more Stand [] (z ∷ ys) x y h s = absurd h
+side_more Stand (z ∷ xs) [] x y h s = absurd h
+side_more Stand (w ∷ xs) (z ∷ ys) x y h s = (h.0, side_more Stand xs ys x y h.1 s)
