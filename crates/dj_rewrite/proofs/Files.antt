@@ -16,6 +16,7 @@ use Rattle.dj_groups.specs.Grouped.{labels_in_groups}
 use Rattle.dj_program.specs.trusted.Codes.{CodeParts, code_in, IsMethodCode}
 use Rattle.dj_program.specs.trusted.Programs.{AreSideBySide}
 use Rattle.dj_program.proofs.Once.{one_code_parts}
+use Rattle.dj_rename.specs.declared.rewritten.Rewritten.{Rewritten}
 use Rattle.dj_rename.specs.Pools.{appended_texts, first_index, renamed_descs, rewritten_pool}
 use Rattle.dj_rewritten.specs.Files.{desc_indexes, new_desc, without_synchronized, rewritten_map, rewritten_field, IsRewrittenCode, IsRewrittenBody, IsRewrittenMethod, IsRewrittenFile}
 use Rattle.dj_rewritten.specs.TooLarge.{first_of_class, DoesNotFit, HasLargePool, IsTooLargeMethod, HasLargeMethod, IsLargeFile, IsTooLargeClass}
@@ -23,10 +24,10 @@ use Rattle.dj_rewritten.proofs.Bodies.{bodies_filtered}
 use Rattle.dj_rewrite_code.specs.Answers.{groups_by, IsKnownMethod, HasRewrittenBody, HasLargeCode}
 use Rattle.dj_rewrite.specs.declared.answers.MethodAnswer.{MethodAnswer}
 use Rattle.dj_rewrite.specs.declared.answers.MethodAnswer.TheVariants as answers
-use Rattle.dj_rewrite.specs.Answers.{desc_of, IsKnownClass, AnswersMethod, AreAnswers, HasLarge, WritesFile, TellsMethod, TellsFile}
+use Rattle.dj_rewrite.specs.Answers.{desc_of, IsKnownClass, AnswersMethod, AreAnswers, HasLarge, WritesFile}
 use Rattle.dj_rewrite.specs.Members.{fields_with, methods_with}
-use Rattle.dj_rewrite.specs.Steps.{IsNewPool, new_file}
-use Rattle.dj_rewrite.proofs.Members.{length_map, new_of, fields_are, methods_are, method_descs, as_many_answers}
+use Rattle.dj_rewrite.specs.Steps.{IsNewPool, new_file, TellsMethod, TellsFile}
+use Rattle.dj_rewrite.proofs.NewMembers.{length_map, new_of, fields_are, methods_are, method_descs, as_many_answers}
 use Rattle.dj_rewrite.proofs.Validity.{class_there, classes_there, fields_valid, methods_valid}
 use Rattle.dj_rewrite.proofs.Fits.{same_fit}
 
@@ -73,12 +74,15 @@ module _ (program : Program) (c : ClassFile) (known : IsKnownClass program c) wh
     go (m ∷ ms) (x ∷ made) [] a b = absurd (omega (arith, b))
     go (m ∷ ms) (x ∷ made) (d ∷ descs) a b = ap suc (go ms made descs (omega (arith, a)) (omega (arith, b)))
 
-  module _ (pool : List Constant) (descs : List ℕ) (new : IsNewPool c pool descs) (made : List MethodAnswer) (each : AreAnswers program c.pool first c.methods made) where
+  module _ (renamed : Rewritten) (new : IsNewPool c renamed) (made : List MethodAnswer) (each : AreAnswers program c.pool first c.methods made) where
+    abbrev pool : List Constant
+    pool = renamed.pool
+
+    abbrev descs : List ℕ
+    descs = renamed.descs
+
     abbrev d : ClassFile
     d = new_file c pool descs made
-
-    abbrev at_pool : (List Constant → Type 0) → Type 0
-    at_pool P = P pool
 
     moved : (P : List Constant → Type 0) → P (rewritten_pool c.pool members) → P pool
     moved P h = subst P (sym new.is) h
@@ -258,16 +262,16 @@ module _ (program : Program) (c : ClassFile) (known : IsKnownClass program c) wh
 
   pub told_large : (d : ClassFile) (any : ℕ) (made : List MethodAnswer) → (HasLargePool c → ⊥) → IsRewrittenFile program c d → 67108864 < length (class_bytes d)
       → AreAnswers program c.pool any c.methods made → (HasLarge made → ⊥) → TellsFile program c true made
-  told_large d any made pool is past each fits = record {
-    class_is = (λ t. told_file d pool (no_large any made each fits) is past, λ l. refl);
-    methods_are = all_told any c.methods made each;
-  }
+  told_large d any made pool is past each fits =
+      let large = told_file d pool (no_large any made each fits) is past in
+      record { class_is = (λ t. large, λ l. refl); methods_are = all_told any c.methods made each; some = inl large }
 
   pub told_pool : HasLargePool c → (any : ℕ) (made : List MethodAnswer) → AreAnswers program c.pool any c.methods made → TellsFile program c true made
-  told_pool large any made each = record { class_is = (λ t. inl large, λ l. refl); methods_are = all_told any c.methods made each }
+  told_pool large any made each = record { class_is = (λ t. inl large, λ l. refl); methods_are = all_told any c.methods made each; some = inl (inl large) }
 
   pub told_methods : (HasLargePool c → ⊥) → (any : ℕ) (made : List MethodAnswer) → AreAnswers program c.pool any c.methods made → HasLarge made → TellsFile program c false made
-  told_methods pool any made each large = record { class_is = (λ t. absurd cc, neither); methods_are = all_told any c.methods made each } where
-    neither : IsTooLargeClass program c → IsTrue false
-    neither (inl p) = absurd (pool p)
-    neither (inr file) = absurd (file.methods (some_large any made each large))
+  told_methods pool any made each large =
+      record { class_is = (λ t. absurd cc, neither); methods_are = all_told any c.methods made each; some = inr (some_large any made each large) } where
+        neither : IsTooLargeClass program c → IsTrue false
+        neither (inl p) = absurd (pool p)
+        neither (inr file) = absurd (file.methods (some_large any made each large))

@@ -1,5 +1,5 @@
 -- Why a class's constants don't fit, as renaming tells it.
-use Rattle.std.proofs.Common.{◌≡◌, ℕ, zero, suc, ◌+◌, ◌<◌, ◌≤◌, ◌⊎◌, Bool, true, false, not, ◌&&◌, List, [], ◌∷◌, ◌++◌, map, filter, length, length-append, Option, Some, None, nat_lt, refl, sym, ap, subst, ◌∙◌, arith, inl, inr, if◌then◌else◌}
+use Rattle.std.proofs.Common.{◌≡◌, ℕ, zero, suc, ◌+◌, ◌<◌, ◌≤◌, ◌^◌, ◌⊎◌, Bool, true, false, not, ◌&&◌, List, [], ◌∷◌, ◌++◌, map, filter, length, length-append, Option, Some, None, nat_lt, refl, sym, ap, subst, ◌∙◌, arith, inl, inr, if◌then◌else◌}
 use Rattle.std.specs.List.{list_any, AllByRecursion}
 use Rattle.std.proofs.lemmas.Bool.{ltb-true, ltb-false}
 use Rattle.std.proofs.lemmas.Option.{none-some}
@@ -12,7 +12,7 @@ use Rattle.dj_rename.specs.declared.error.RenameError.TheVariants as errors
 use Rattle.dj_rename.specs.Pools.{Need, needs, is_changed, first_places, need_text, appended_texts, renamed_constant, renamed_pool, accounter_constants, first_index, rewritten_pool, IsLongText, IsFull}
 use Rattle.dj_rename.specs.Refusals.{most_bytes, refusal_at, first_error, refusal_from, refusal, AreAppended}
 use Rattle.dj_rewritten.specs.Files.{desc_indexes}
-use Rattle.dj_rewritten.specs.TooLarge.{HasLargePool}
+use Rattle.dj_rewritten.specs.TooLarge.{first_of_class, HasLargePool}
 
 abbrev changed : List Constant → List Need → List Name
 changed pool list = map need_text (filter (is_changed pool) list)
@@ -100,17 +100,9 @@ refused_large c errors.Full never_so r =
 refused_large c (errors.Long of) never_so r = inr (λ all. (all_told c.pool (desc_indexes c)).long of r all)
 refused_large c errors.Memory never_so r = absurd (never_so refl)
 
--- the accounter's constants find no room
-abbrev before_accounter : ClassFile → List Constant
-before_accounter c = renamed_pool c.pool (appended_texts c.pool (desc_indexes c))
-
-pub new_pool_is : (c : ClassFile) (first : ℕ) → first ≡ length (before_accounter c) + 1 → before_accounter c ++ accounter_constants first ≡ rewritten_pool c.pool (desc_indexes c)
-unfolding rewritten_pool
-new_pool_is c first e =
-    ap (λ (n : ℕ). before_accounter c ++ accounter_constants n) (let m = many_renamed c.pool (appended_texts c.pool (desc_indexes c)) in omega (arith, e, m))
-
-pub full_large : (c : ClassFile) → last_index < length (before_accounter c ++ accounter_constants (length (before_accounter c) + 1)) → HasLargePool c
-full_large c past = inl (let same = ap length (new_pool_is c (length (before_accounter c) + 1) refl) in omega (arith, past, same))
+-- the accounter's first constant leaves room for the others
+pub first_fits : (c : ClassFile) → IsPool (rewritten_pool c.pool (desc_indexes c)) → first_of_class c + 25 < 2 ^ 16
+first_fits c valid = let few = valid.count in let all = many_new c.pool (desc_indexes c) in omega (arith, few, all)
 
 -- neither
 pub pool_fits : (c : ClassFile) (texts : List Name) → AreAppended c.pool (desc_indexes c) texts → IsPool (rewritten_pool c.pool (desc_indexes c)) → HasLargePool c → ⊥

@@ -1,10 +1,12 @@
 -- A rewritten file is a valid class file.
 use Rattle.std.proofs.Common.{◌≡◌, ℕ, zero, suc, ◌+◌, ◌<◌, ◌≤◌, ◌^◌, ⊤, ◌⊎◌, Bool, true, false, List, [], ◌∷◌, ◌++◌, map, filter, length, Option, Some, None, refl, sym, ap, subst, ◌∙◌, arith, inl, inr, codes, if◌then◌else◌}
-use Rattle.std.specs.Prelude.{Contains, IsSomeAnd}
+use Rattle.std.specs.Prelude.{All, Contains, IsSomeAnd}
 use Rattle.std.specs.Option.{option_map}
 use Rattle.std.specs.Int.Bits.{bit_and}
 use Rattle.std.specs.List.{AllByRecursion}
+use Rattle.std.proofs.lemmas.List.Elements.{All-from_recursion}
 use Rattle.std.proofs.lemmas.Nat.{and_le_l}
+use Rattle.dj_names.specs.declared.descriptor.Desc.TheVariants as descs
 use Rattle.dj_names.specs.trusted.Types.{Name}
 use Rattle.dj_names.specs.Types.{in_sandbox}
 use Rattle.dj_names.specs.trusted.Names.{IsUnqualifiedName, IsMethodName, IsClassName}
@@ -16,9 +18,10 @@ use Rattle.dj_model.specs.trusted.Program.{Program}
 use Rattle.dj_program.specs.trusted.Programs.{AreSideBySide}
 use Rattle.dj_rename.specs.Names.{renamed_desc}
 use Rattle.dj_rename.specs.Pools.{desc_need, appended_texts, first_index, rewritten_pool}
+use Rattle.dj_rename.specs.Refusals.{IsDescriptor, IsDescIndex}
 use Rattle.dj_rename.proofs.NameLaws.{sandbox_name}
 use Rattle.dj_rename.proofs.PoolLaws.{text_kept, need_met, in_name}
-use Rattle.dj_rewritten.specs.Files.{without_synchronized, new_desc, rewritten_field}
+use Rattle.dj_rewritten.specs.Files.{desc_indexes, without_synchronized, new_desc, rewritten_field}
 use Rattle.dj_rewritten.proofs.Kept.{there}
 use Rattle.dj_rewritten.proofs.Heads.{class_read}
 use Rattle.dj_rewritten.proofs.Valid.{field_renamed, method_renamed}
@@ -29,7 +32,7 @@ use Rattle.dj_rewrite.specs.declared.answers.MethodAnswer.{MethodAnswer}
 use Rattle.dj_rewrite.specs.declared.answers.MethodAnswer.TheVariants as answers
 use Rattle.dj_rewrite.specs.Answers.{desc_of, AnswersMethod, AreAnswers}
 use Rattle.dj_rewrite.specs.Members.{method_with, methods_with}
-use Rattle.dj_rewrite.proofs.Members.{new_of}
+use Rattle.dj_rewrite.proofs.NewMembers.{new_of}
 
 pub at_some : {A : Type 0} (P : A → Type 0) (o : Option A) (a : A) → o ≡ Some a → P a → IsSomeAnd o P
 at_some P o a e h = subst (λ (x : Option _). IsSomeAnd x P) (sym e) h
@@ -134,3 +137,31 @@ module _ (pool : List Constant) (members : List ℕ) (valid : IsPool pool) where
       method_valid m x h.0 (own m (0, omega arith, refl)) a.0,
       methods_valid ms made h.1 (λ n (k, lt, is). own n (suc k, omega (arith, lt), is)) a.1,
     )
+
+-- ---- descriptors
+
+descs_valid : {P : Name → Type 0} (pool : List Constant) (ms : List MemberInfo) → ((text : Name) → P text → IsDescriptor text) → AllByRecursion (λ (m : MemberInfo). NamesText P pool m.desc) ms
+    → AllByRecursion (IsDescIndex pool) (map desc_of ms)
+descs_valid pool [] described h = tt
+descs_valid {P} pool (m ∷ ms) described h =
+    let t = there P (text_at pool m.desc) h.0 in
+    (at_some IsDescriptor (text_at pool m.desc) t.value t.is (described t.value t.such), descs_valid pool ms described h.1)
+
+both_valid : (P : ℕ → Type 0) (xs ys : List ℕ) → AllByRecursion P xs → AllByRecursion P ys → AllByRecursion P (xs ++ ys)
+both_valid P [] ys h i = i
+both_valid P (x ∷ xs) ys h i = (h.0, both_valid P xs ys h.1 i)
+
+field_descs_named : (pool : List Constant) (fs : List MemberInfo) → AllByRecursion (IsField pool) fs → AllByRecursion (λ (m : MemberInfo). NamesText IsFieldDescriptor pool m.desc) fs
+field_descs_named pool [] h = tt
+field_descs_named pool (f ∷ fs) h = (h.0.desc, field_descs_named pool fs h.1)
+
+method_descs_named : (pool : List Constant) (ms : List MemberInfo) → AllByRecursion (IsMethod pool) ms → AllByRecursion (λ (m : MemberInfo). NamesText IsMethodDescriptor pool m.desc) ms
+method_descs_named pool [] h = tt
+method_descs_named pool (m ∷ ms) h = (h.0.desc, method_descs_named pool ms h.1)
+
+pub descs_described : (c : ClassFile) → IsValid c → All (IsDescIndex c.pool) (desc_indexes c)
+descs_described c valid =
+    All-from_recursion (IsDescIndex c.pool) (desc_indexes c)
+    (both_valid (IsDescIndex c.pool) (map desc_of c.fields) (map desc_of c.methods)
+    (descs_valid c.pool c.fields (λ text d. (descs.Field d.0, d.1)) (field_descs_named c.pool c.fields valid.fields))
+    (descs_valid c.pool c.methods (λ text d. (descs.Method d.0 d.1, d.2)) (method_descs_named c.pool c.methods valid.methods)))

@@ -1,18 +1,20 @@
 -- What becomes of a class file that is rewritten.
-use Rattle.std.specs.Prelude.{◌≡◌, ◌↔◌, ℕ, ◌+◌, ◌<◌, ◌≤◌, ◌^◌, ⊤, Bool, List, [], ◌∷◌, filter, length, codes, Contains, IsTrue}
+use Rattle.std.specs.Prelude.{◌≡◌, ◌↔◌, ℕ, ◌+◌, ◌<◌, ◌≤◌, ◌^◌, List, [], ◌∷◌, filter, length, codes, Contains}
 use Rattle.std.specs.List.{AllByRecursion}
+use Rattle.dj_names.specs.trusted.Types.{Name}
 use Rattle.dj_pool.specs.trusted.Pool.{Constant}
 use Rattle.dj_class.specs.trusted.ClassFile.{MemberInfo, ClassFile, IsValid, class_bytes}
 use Rattle.dj_early_rules.specs.trusted.Attributes.{is_named}
 use Rattle.dj_model.specs.trusted.Program.{Program}
 use Rattle.dj_program.specs.trusted.Programs.{AreSideBySide}
 use Rattle.dj_rewritten.specs.Files.{IsRewrittenFile}
-use Rattle.dj_rewritten.specs.TooLarge.{IsTooLargeMethod, HasLargeMethod, IsTooLargeClass}
+use Rattle.dj_rewritten.specs.TooLarge.{HasLargeMethod, IsTooLargeClass}
 use Rattle.dj_rewrite_code.specs.Answers.{IsKnownMethod, HasRewrittenBody, HasLargeCode}
 use Rattle.dj_rewrite.specs.declared.answers.MethodAnswer.{MethodAnswer}
 use Rattle.dj_rewrite.specs.declared.answers.MethodAnswer.TheVariants as answers
 use Rattle.dj_rewrite.specs.declared.file.FileAnswer.{FileAnswer}
 use Rattle.dj_rewrite.specs.declared.file.FileAnswer.TheVariants as files
+use Rattle.dj_rewrite.specs.Rule.{IsTooLargeIn}
 
 abbrev pub desc_of : MemberInfo → ℕ
 desc_of m = m.desc
@@ -38,7 +40,7 @@ HasLarge made = Contains made answers.TooLarge
 
 -- ---- files
 
--- the bytes are those of the rewritten file
+-- the bytes are those of the rewritten file, and all of it fits
 pub record WritesFile (program : Program) (c : ClassFile) (bytes : List ℕ) : Type 0 where
   pub file : ClassFile
   pub rewritten : IsRewrittenFile program c file
@@ -46,15 +48,11 @@ pub record WritesFile (program : Program) (c : ClassFile) (bytes : List ℕ) : T
   pub class_fits : IsTooLargeClass program c → ⊥
   pub methods_fit : HasLargeMethod program c → ⊥
 
--- of each method it is told whether it is too large
-abbrev pub TellsMethod : Program → ClassFile → MemberInfo → MethodAnswer → Type 0
-TellsMethod program c m answer = (answer ≡ answers.TooLarge) ↔ IsTooLargeMethod program c m
-
--- the class or a method is too large
-pub record TellsFile (program : Program) (c : ClassFile) (class : Bool) (methods : List MethodAnswer) : Type 0 where
-  pub class_is : IsTrue class ↔ IsTooLargeClass program c
-  pub methods_are : AreSideBySide (TellsMethod program c) c.methods methods
+-- some of it doesn't fit, and these texts tell what
+pub record AreTooLarge (program : Program) (c : ClassFile) (texts : List Name) : Type 0 where
+  pub all : (text : Name) → Contains texts text ↔ IsTooLargeIn program c text
+  pub some : 0 < length texts
 
 abbrev pub AnswersFile : Program → ClassFile → FileAnswer → Type 0
 AnswersFile program c (files.Written bytes) = WritesFile program c bytes
-AnswersFile program c (files.TooLarge class methods) = TellsFile program c class methods.items
+AnswersFile program c (files.TooLarge texts) = AreTooLarge program c texts.items

@@ -1,4 +1,5 @@
 pub mod Answers
 pub mod Members
-pub mod Steps
 pub mod Rule
+pub mod Sets
+pub mod Steps

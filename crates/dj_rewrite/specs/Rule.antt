@@ -12,22 +12,26 @@ use Rattle.dj_model.specs.trusted.Program.{Program}
 use Rattle.dj_program.specs.trusted.Naming.{units_in}
 use Rattle.dj_rewritten.specs.TooLarge.{IsTooLargeMethod, IsTooLargeClass}
 
+-- a member's name, followed by its descriptor
+abbrev pub member_text : List Constant → MemberInfo → Name
+member_text pool m = name_in pool m.name ++ name_in pool m.desc
+
+-- the class is too large, where the text is empty, or its method of this text is
+abbrev pub IsTooLargeIn : Program → ClassFile → Name → Type 0
+IsTooLargeIn program c member =
+    (IsTooLargeClass program c × (member ≡ []))
+    ⊎ ((m : MemberInfo) × Contains c.methods m × IsTooLargeMethod program c m × (member ≡ member_text c.pool m))
+
 -- the characters of the class's name, and .class
 abbrev pub file_path : Name → Name
 file_path class = encode_utf8_all (utf16_lossy_chars (units_in class)) ++ codes ".class"
 
--- the line of a class, or of its member of this name and descriptor
+-- the line of a class, or of its member of this text
 abbrev pub line_of : ClassFile → Name → Violation
 line_of c member = record { path = file_path (this_name c); member = member; number = None; rule = 21 }
 
-abbrev pub member_text : List Constant → MemberInfo → Name
-member_text pool m = name_in pool m.name ++ name_in pool m.desc
-
--- the class is too large, or one of its methods
 abbrev pub IsTooLargeLineIn : Program → ClassFile → Violation → Type 0
-IsTooLargeLineIn program c v =
-    (IsTooLargeClass program c × (v ≡ line_of c []))
-    ⊎ ((m : MemberInfo) × Contains c.methods m × IsTooLargeMethod program c m × (v ≡ line_of c (member_text c.pool m)))
+IsTooLargeLineIn program c v = (member : Name) × IsTooLargeIn program c member × (v ≡ line_of c member)
 
 abbrev pub IsTooLargeLine : Program → List ClassFile → Violation → Type 0
 IsTooLargeLine program files v = (c : ClassFile) × Contains files c × IsTooLargeLineIn program c v

@@ -1,19 +1,21 @@
 //! One class file.
 ghost use Rattle.std.specs.Prelude.{◌≡◌, ◌+◌, length, IfOk};
+ghost use Rattle.dj_class.specs.trusted.ClassFile.{class_bytes};
 ghost use Rattle.dj_class.specs.Views.{class_of};
 ghost use Rattle.dj_image.specs.Imaged.{program_of};
-ghost use Rattle.dj_rewritten.specs.TooLarge.{first_of_class, HasLargePool};
-ghost use Rattle.dj_rewrite.specs.Answers.{AnswersFile, AreAnswers, HasLarge, IsKnownClass};
-ghost use Rattle.dj_rewrite.specs.Steps.{IsNewPool, IsNewView};
+ghost use Rattle.dj_rewritten.specs.TooLarge.{HasLargePool};
+ghost use Rattle.dj_rewrite.specs.Answers.{AnswersFile, IsKnownClass};
+ghost use Rattle.dj_rewrite.specs.Steps.{IsNewPool, new_file};
 
 use crate::answers::{MethodAnswer, answer_methods, has_large};
 use crate::indexes::indexes_of;
+use crate::large::large_texts;
 use crate::members::{new_fields, new_methods};
 use dj_class::{Attributes, ClassView};
 use dj_image::Image;
-use dj_names::Bytes;
-use dj_pool::{Indexes, Pool};
-use dj_rename::{RenameError, Renamed, append_accounter, rename_pool, rename_texts};
+use dj_names::{Bytes, Name};
+use dj_pool::Indexes;
+use dj_rename::{RenameError, Rewritten, rename_texts, rewrite_pool};
 use dj_write::write_class;
 use std::alloc::{AllocError, Global};
 
@@ -25,11 +27,8 @@ const MOST_BYTES: usize = 67_108_864;
 pub(crate) enum FileAnswer {
     /// Its rewritten bytes.
     Written(Bytes),
-    /// The class or a method doesn't fit: whether it is the class, and what becomes of the methods.
-    TooLarge {
-        class: bool,
-        methods: Vec<MethodAnswer>,
-    },
+    /// The texts of the methods that don't fit, and an empty one where it is the class that doesn't.
+    TooLarge(Vec<Name>),
 }
 
 // A copy of indexes.
@@ -47,15 +46,15 @@ fn copied(alloc: Global, indexes: &Indexes) -> Result<Indexes, AllocError>
 fn new_view<'a>(
     alloc: Global,
     view: &ClassView<'a>,
-    renamed: Renamed<'a>,
+    new: Rewritten<'a>,
     answers: &'a [MethodAnswer],
 ) -> Result<ClassView<'a>, AllocError>
-    requires descs { length renamed.entry.descs ≡ length (class_of view.now).fields + length (class_of view.now).methods }
+    requires descs { length new.entry.descs ≡ length (class_of view.now).fields + length (class_of view.now).methods }
     requires answers { length answers.now ≡ length (class_of view.now).methods }
-    ensures { IfOk result (λ made. IsNewView (class_of view.now) renamed.entry.pool renamed.entry.descs answers.now (class_of made)) }
+    ensures { IfOk result (λ made. class_of made ≡ new_file (class_of view.now) new.entry.pool new.entry.descs answers.now) }
 {
     let count = view.fields.as_slice().len();
-    let descs = renamed.descs.as_slice();
+    let descs = new.descs.as_slice();
     Ok(ClassView {
         minor: view.minor,
         major: view.major,
@@ -66,31 +65,45 @@ fn new_view<'a>(
         fields: new_fields(alloc, &view.pool, view.fields.as_slice(), &descs[..count])?,
         methods: new_methods(alloc, view.methods.as_slice(), answers, &descs[count..])?,
         attributes: Attributes::new(alloc),
-        pool: renamed.pool,
+        pool: new.pool,
     })
 }
 
-// The file, where neither its constants nor its methods are too large.
-fn written(
+// The bytes of that class.
+fn new_bytes<'a>(
+    alloc: Global,
+    view: &ClassView<'a>,
+    new: Rewritten<'a>,
+    answers: &'a [MethodAnswer],
+) -> Result<Bytes, AllocError>
+    requires descs { length new.entry.descs ≡ length (class_of view.now).fields + length (class_of view.now).methods }
+    requires answers { length answers.now ≡ length (class_of view.now).methods }
+    ensures { IfOk result (λ bytes. bytes ≡ class_bytes (new_file (class_of view.now) new.entry.pool new.entry.descs answers.now)) }
+{
+    let made = new_view(alloc, view, new, answers)?;
+    write_class(alloc, &made).or(Err(AllocError))
+}
+
+// What becomes of a class whose constants aren't too large.
+fn with_pool(
     alloc: Global,
     image: &Image,
     view: &ClassView<'_>,
-    renamed: Renamed<'_>,
-    answers: Vec<MethodAnswer>,
+    new: Rewritten<'_>,
 ) -> Result<FileAnswer, AllocError>
     requires known { IsKnownClass (program_of image.now) (class_of view.now) }
-    requires pool { IsNewPool (class_of view.now) renamed.entry.pool renamed.entry.descs }
-    requires answers { AreAnswers (program_of image.now) view.now.pool (first_of_class (class_of view.now)) (class_of view.now).methods answers.items }
-    requires fit { HasLarge answers.items → ⊥ }
+    requires pool { IsNewPool (class_of view.now) new.entry }
     ensures { IfOk result (AnswersFile (program_of image.now) (class_of view.now)) }
 {
-    let made = new_view(alloc, view, renamed, &answers)?;
-    let bytes = write_class(alloc, &made).or(Err(AllocError))?;
-    if bytes.len() > MOST_BYTES {
-        return Ok(FileAnswer::TooLarge {
-            class: true,
-            methods: answers,
-        });
+    let answers = answer_methods(alloc, image, view, new.first)?;
+    if has_large(&answers) {
+        let texts = large_texts(alloc, view, false, &answers)?;
+        return Ok(FileAnswer::TooLarge(texts));
+    }
+    let bytes = new_bytes(alloc, view, new, &answers)?;
+    if bytes.as_slice().len() > MOST_BYTES {
+        let texts = large_texts(alloc, view, true, &answers)?;
+        return Ok(FileAnswer::TooLarge(texts));
     }
     Ok(FileAnswer::Written(bytes))
 }
@@ -101,10 +114,9 @@ fn large_pool(alloc: Global, image: &Image, view: &ClassView<'_>) -> Result<File
     requires large { HasLargePool (class_of view.now) }
     ensures { IfOk result (AnswersFile (program_of image.now) (class_of view.now)) }
 {
-    Ok(FileAnswer::TooLarge {
-        class: true,
-        methods: answer_methods(alloc, image, view, 1)?,
-    })
+    let answers = answer_methods(alloc, image, view, 1)?;
+    let texts = large_texts(alloc, view, true, &answers)?;
+    Ok(FileAnswer::TooLarge(texts))
 }
 
 /// What becomes of a class file. The image has the classes of the objects that its code makes.
@@ -122,18 +134,10 @@ pub(crate) fn rewrite_file(
         Err(RenameError::Memory) => return Err(AllocError),
         Err(_) => return large_pool(alloc, image, view),
     };
-    let mut renamed = rename_pool(alloc, &view.pool, &indexes, &texts).or(Err(AllocError))?;
-    let first = match append_accounter(&mut renamed.pool) {
-        Ok(first) => first,
-        Err(RenameError::Memory) => return Err(AllocError),
-        Err(_) => return large_pool(alloc, image, view),
-    };
-    let answers = answer_methods(alloc, image, view, first)?;
-    if has_large(&answers) {
-        return Ok(FileAnswer::TooLarge {
-            class: false,
-            methods: answers,
-        });
+    match rewrite_pool(alloc, &view.pool, &indexes, &texts) {
+        Ok(new) => with_pool(alloc, image, view, new),
+        Err(RenameError::Full) => large_pool(alloc, image, view),
+        Err(RenameError::Long(_)) => unreachable!(),
+        Err(RenameError::Memory) => Err(AllocError),
     }
-    written(alloc, image, view, renamed, answers)
 }

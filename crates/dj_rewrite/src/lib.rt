@@ -6,11 +6,15 @@ mod answers;
 mod error;
 mod file;
 mod indexes;
+mod large;
+mod least;
 mod lines;
 mod members;
 mod rewritten;
 mod rule;
+mod set;
 
 pub use error::RewriteError;
 pub use rewritten::{Rewritten, RewrittenFile};
 pub use rule::too_large;
+pub use set::rewrite;

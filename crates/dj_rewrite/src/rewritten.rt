@@ -1,8 +1,8 @@
 //! Rewritten class files.
-ghost use Rattle.std.specs.Prelude.{◌≡◌, [], ◌∷◌, ◌++◌, OnOk, OnErr};
+ghost use Rattle.std.specs.Prelude.{◌≡◌, IsPermutation, IsSorted};
+ghost use Rattle.dj_rewrite.specs.Sets.{file_cmp};
 
 use dj_names::{Bytes, Name};
-use std::alloc::{AllocError, Global};
 use std::marker::Model;
 
 /// A rewritten class file.
@@ -30,20 +30,13 @@ impl Model for Rewritten {
 }
 
 impl Rewritten {
-    /// No files.
-    pub fn new(alloc: Global) -> Rewritten
-        ensures { result ≡ [] }
+    /// The files, put in order.
+    pub(crate) fn in_order(mut items: Vec<RewrittenFile>) -> Rewritten
+        ensures moved { IsPermutation items.entry.items result }
+        ensures in_order { IsSorted file_cmp result }
     {
-        Rewritten {
-            items: Vec::new(alloc),
-        }
-    }
-
-    pub(crate) fn push(&mut self, item: RewrittenFile) -> Result<(), AllocError>
-        ensures ok { OnOk result (self.new ≡ self.old ++ item ∷ []) }
-        ensures err { OnErr result (self.new ≡ self.old) }
-    {
-        Ok(self.items.push(item)?)
+        items.sort_unstable_by(|a, b| a.name.as_slice().cmp(b.name.as_slice()));
+        Rewritten { items }
     }
 
     /// The files, borrowed.

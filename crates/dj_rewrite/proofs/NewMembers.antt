@@ -2,8 +2,10 @@
 use Rattle.std.proofs.Common.{◌≡◌, ℕ, zero, suc, ◌+◌, ◌<◌, ◌≤◌, Bool, true, false, List, [], ◌∷◌, ◌++◌, map, filter, take, drop, length, get_or, refl, sym, ap, ap₂, subst, ◌∙◌, arith, codes, if◌then◌else◌}
 use Rattle.std.specs.Prelude.{Contains}
 use Rattle.std.specs.List.{AllByRecursion}
-use Rattle.std.proofs.lemmas.List.{map-append}
+use Rattle.std.proofs.lemmas.List.{map-append, take_more}
 use Rattle.dj_pool.specs.trusted.Pool.{Constant}
+use Rattle.dj_class.specs.declared.class.MemberView.{MemberView}
+use Rattle.dj_class.specs.Members.{member_of}
 use Rattle.dj_class.specs.trusted.ClassFile.{AttributeInfo, MemberInfo, ClassFile}
 use Rattle.dj_early_rules.specs.trusted.Attributes.{is_named}
 use Rattle.dj_model.specs.trusted.Program.{Program}
@@ -131,3 +133,54 @@ side_more Stand [] [] x y h s = (s, tt)
 side_more Stand [] (z ∷ ys) x y h s = absurd h
 side_more Stand (z ∷ xs) [] x y h s = absurd h
 side_more Stand (w ∷ xs) (z ∷ ys) x y h s = (h.0, side_more Stand xs ys x y h.1 s)
+
+-- ---- what is read of a class, element by element
+
+pub at_member : (P : MemberInfo → Type 0) (views : List MemberView) (list : List MemberInfo) (i : ℕ) (x : MemberView) → map member_of views ≡ list → AllByRecursion P list → i < length views → x ≡ get_or views i x → P (member_of x)
+at_member P views list i x are all lt is = go views i x (subst (AllByRecursion P) (sym are) all) lt is where
+  go : (views : List MemberView) (i : ℕ) (x : MemberView) → AllByRecursion P (map member_of views) → i < length views → x ≡ get_or views i x → P (member_of x)
+  go [] i x h lt is = absurd (omega (arith, lt))
+  go (v ∷ vs) zero x h lt is = subst (λ (w : MemberView). P (member_of w)) (sym is) h.0
+  go (v ∷ vs) (suc i) x h lt is = go vs i x h.1 (omega (arith, lt)) is
+
+pub answers_more : {A : Type 0} (Stand : MemberInfo → A → Type 0) (views : List MemberView) (i : ℕ) (x : MemberView) (made : List A) (a : A) → i < length views → x ≡ get_or views i x
+    → AreSideBySide Stand (map member_of (take i views)) made → Stand (member_of x) a → AreSideBySide Stand (map member_of (take (i + 1) views)) (made ++ a ∷ [])
+answers_more Stand views i x made a lt is h s =
+    subst (λ (ms : List MemberInfo). AreSideBySide Stand ms (made ++ a ∷ []))
+    (sym (ap (map member_of) (take_more views i x lt ∙ ap (λ (y : MemberView). take i views ++ y ∷ []) (sym is)) ∙ map-append member_of (take i views) (x ∷ [])))
+    (side_more Stand (map member_of (take i views)) made (member_of x) a h s)
+
+module _ (pool : List Constant) where
+  pub fields_more : (fs : List MemberView) (descs : List ℕ) (i : ℕ) (x : MemberView) (d : ℕ) → i < length fs → i < length descs → x ≡ get_or fs i x → d ≡ get_or descs i d
+      → fields_with pool (map member_of (take (i + 1) fs)) (take (i + 1) descs) ≡ fields_with pool (map member_of (take i fs)) (take i descs) ++ field_with pool (member_of x) d ∷ []
+  fields_more [] descs i x d lt less p q = absurd (omega (arith, lt))
+  fields_more (f ∷ fs) [] i x d lt less p q = absurd (omega (arith, less))
+  fields_more (f ∷ fs) (e ∷ descs) zero x d lt less p q = ap₂ (λ (y : MemberView) (n : ℕ). field_with pool (member_of y) n ∷ []) (sym p) (sym q)
+  fields_more (f ∷ fs) (e ∷ descs) (suc i) x d lt less p q = ap (λ (ms : List MemberInfo). field_with pool (member_of f) e ∷ ms) (fields_more fs descs i x d (omega (arith, lt)) (omega (arith, less)) p q)
+
+  pub fields_all : (fs : List MemberView) (descs : List ℕ) (i : ℕ) → length fs ≤ i → fields_with pool (map member_of (take i fs)) (take i descs) ≡ fields_with pool (map member_of fs) descs
+  fields_all [] descs zero few = refl
+  fields_all [] descs (suc i) few = refl
+  fields_all (f ∷ fs) descs zero few = absurd (omega (arith, few))
+  fields_all (f ∷ fs) [] (suc i) few = refl
+  fields_all (f ∷ fs) (d ∷ descs) (suc i) few = ap (λ (ms : List MemberInfo). field_with pool (member_of f) d ∷ ms) (fields_all fs descs i (omega (arith, few)))
+
+pub methods_more : (ms : List MemberView) (made : List MethodAnswer) (descs : List ℕ) (i : ℕ) (x : MemberView) (a : MethodAnswer) (d : ℕ) → i < length ms → i < length made → i < length descs
+    → x ≡ get_or ms i x → a ≡ get_or made i a → d ≡ get_or descs i d
+    → methods_with (map member_of (take (i + 1) ms)) (take (i + 1) made) (take (i + 1) descs) ≡ methods_with (map member_of (take i ms)) (take i made) (take i descs) ++ method_with (member_of x) a d ∷ []
+methods_more [] made descs i x a d lt less few p q r = absurd (omega (arith, lt))
+methods_more (m ∷ ms) [] descs i x a d lt less few p q r = absurd (omega (arith, less))
+methods_more (m ∷ ms) (b ∷ made) [] i x a d lt less few p q r = absurd (omega (arith, few))
+methods_more (m ∷ ms) (b ∷ made) (e ∷ descs) zero x a d lt less few p q r =
+    ap₂ (λ (y : MemberView) (n : ℕ). method_with (member_of y) b n ∷ []) (sym p) (sym r) ∙ ap (λ (z : MethodAnswer). method_with (member_of x) z d ∷ []) (sym q)
+methods_more (m ∷ ms) (b ∷ made) (e ∷ descs) (suc i) x a d lt less few p q r =
+    ap (λ (more : List MemberInfo). method_with (member_of m) b e ∷ more) (methods_more ms made descs i x a d (omega (arith, lt)) (omega (arith, less)) (omega (arith, few)) p q r)
+
+pub methods_all : (ms : List MemberView) (made : List MethodAnswer) (descs : List ℕ) (i : ℕ) → length ms ≤ i
+    → methods_with (map member_of (take i ms)) (take i made) (take i descs) ≡ methods_with (map member_of ms) made descs
+methods_all [] made descs zero few = refl
+methods_all [] made descs (suc i) few = refl
+methods_all (m ∷ ms) made descs zero few = absurd (omega (arith, few))
+methods_all (m ∷ ms) [] descs (suc i) few = refl
+methods_all (m ∷ ms) (b ∷ made) [] (suc i) few = refl
+methods_all (m ∷ ms) (b ∷ made) (d ∷ descs) (suc i) few = ap (λ (more : List MemberInfo). method_with (member_of m) b d ∷ more) (methods_all ms made descs i (omega (arith, few)))
