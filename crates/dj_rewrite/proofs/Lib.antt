@@ -6,3 +6,4 @@ pub mod Files
 pub mod LargeTexts
 pub mod LeastParts
 pub mod Paths
+pub mod SetFacts
