@@ -1,7 +1,7 @@
 -- The members of a rewritten class are the rewritten members.
 use Rattle.std.proofs.Common.{◌≡◌, ℕ, zero, suc, ◌+◌, ◌<◌, ◌≤◌, Bool, true, false, List, [], ◌∷◌, ◌++◌, map, filter, take, drop, length, get_or, refl, sym, ap, ap₂, subst, ◌∙◌, arith, codes, if◌then◌else◌}
 use Rattle.std.specs.Prelude.{Contains}
-use Rattle.std.specs.List.{AllByRecursion}
+use Rattle.std.specs.List.{AllByRecursion, list_any}
 use Rattle.std.proofs.lemmas.List.{map-append, take_more}
 use Rattle.dj_pool.specs.trusted.Pool.{Constant}
 use Rattle.dj_class.specs.declared.class.MemberView.{MemberView}
@@ -16,6 +16,7 @@ use Rattle.dj_rewrite_code.specs.Answers.{attribute_in, HasRewrittenBody}
 use Rattle.dj_rewrite.specs.declared.answers.MethodAnswer.{MethodAnswer}
 use Rattle.dj_rewrite.specs.declared.answers.MethodAnswer.TheVariants as answers
 use Rattle.dj_rewrite.specs.Answers.{desc_of, AnswersMethod, AreAnswers, HasLarge}
+use Rattle.dj_rewrite.specs.Steps.{is_large}
 use Rattle.dj_rewrite.specs.Members.{field_with, fields_with, method_with, methods_with}
 
 -- ---- lists
@@ -184,3 +185,19 @@ methods_all (m ∷ ms) made descs zero few = absurd (omega (arith, few))
 methods_all (m ∷ ms) [] descs (suc i) few = refl
 methods_all (m ∷ ms) (b ∷ made) [] (suc i) few = refl
 methods_all (m ∷ ms) (b ∷ made) (d ∷ descs) (suc i) few = ap (λ (more : List MemberInfo). method_with (member_of m) b d ∷ more) (methods_all ms made descs i (omega (arith, few)))
+
+-- ---- methods that are too large
+
+pub large_any : (made : List MethodAnswer) → list_any is_large made ≡ true → HasLarge made
+large_any [] e = absurd cc
+large_any (answers.TooLarge ∷ made) e = (0, omega arith, refl)
+large_any (answers.Bodiless ∷ made) e = let more = large_any made e in (suc more.0, omega (arith, more.1), more.2)
+large_any (answers.Rewritten code ∷ made) e = let more = large_any made e in (suc more.0, omega (arith, more.1), more.2)
+
+pub none_large : (made : List MethodAnswer) → list_any is_large made ≡ false → HasLarge made → ⊥
+none_large [] e (k, lt, is) = absurd (omega (arith, lt))
+none_large (answers.TooLarge ∷ made) e large = absurd cc
+none_large (answers.Bodiless ∷ made) e (zero, lt, is) = absurd cc
+none_large (answers.Bodiless ∷ made) e (suc k, lt, is) = none_large made e (k, omega (arith, lt), is)
+none_large (answers.Rewritten code ∷ made) e (zero, lt, is) = absurd cc
+none_large (answers.Rewritten code ∷ made) e (suc k, lt, is) = none_large made e (k, omega (arith, lt), is)

@@ -1,5 +1,5 @@
 -- What becomes of a class file that is rewritten.
-use Rattle.std.specs.Prelude.{◌≡◌, ◌↔◌, ℕ, ◌+◌, ◌<◌, ◌≤◌, ◌^◌, List, [], ◌∷◌, filter, length, codes, Contains}
+use Rattle.std.specs.Prelude.{◌≡◌, ◌↔◌, ℕ, ◌<◌, List, [], ◌∷◌, filter, length, codes, Contains}
 use Rattle.std.specs.List.{AllByRecursion}
 use Rattle.dj_names.specs.trusted.Types.{Name}
 use Rattle.dj_pool.specs.trusted.Pool.{Constant}
@@ -19,11 +19,10 @@ use Rattle.dj_rewrite.specs.Rule.{IsTooLargeIn}
 abbrev pub desc_of : MemberInfo → ℕ
 desc_of m = m.desc
 
--- the file is valid, no method of it is faulty, its code makes objects of classes of the program, and it is no larger than all files of a set may be
+-- the file is valid, no method of it is faulty, and its code makes objects of classes of the program
 pub record IsKnownClass (program : Program) (c : ClassFile) : Type 0 where
   pub valid : IsValid c
   pub methods : AllByRecursion (IsKnownMethod program c.pool) c.methods
-  pub small : length (class_bytes c) ≤ 67108864
 
 -- ---- methods
 

@@ -63,6 +63,10 @@ IsLargeText pool method text = (method.1 ≡ answers.TooLarge) × (text ≡ memb
 abbrev pub AreLargeTexts : ClassFile → List MethodAnswer → Name → Type 0
 AreLargeTexts c made text = (method : MemberInfo × MethodAnswer) × Contains (zip c.methods made) method × IsLargeText c.pool method text
 
+abbrev pub is_large : MethodAnswer → Bool
+is_large answers.TooLarge = true
+is_large answer = false
+
 -- the empty text of the class itself
 abbrev pub class_texts : Bool → List Name
 class_texts true = [] ∷ []

@@ -1,13 +1,14 @@
 //! What becomes of the methods of a class.
-ghost use Rattle.std.specs.Prelude.{◌+◌, ◌<◌, ◌^◌, ◌↔◌, IsTrue, IfOk, All};
-ghost use Rattle.std.specs.List.{AllByRecursion};
+ghost use Rattle.std.specs.Prelude.{◌≡◌, ◌+◌, ◌<◌, ◌^◌, IfOk};
+ghost use Rattle.std.specs.List.{AllByRecursion, list_any};
 ghost use Rattle.dj_pool.specs.trusted.Pool.{IsPool};
 ghost use Rattle.dj_class.specs.Members.{member_of};
 ghost use Rattle.dj_class.specs.Views.{class_of};
 ghost use Rattle.dj_class.specs.trusted.ClassFile.{IsAttribute};
 ghost use Rattle.dj_image.specs.Imaged.{program_of};
 ghost use Rattle.dj_rewrite_code.specs.Answers.{IsKnownMethod};
-ghost use Rattle.dj_rewrite.specs.Answers.{AnswersMethod, AreAnswers, HasLarge, IsKnownClass};
+ghost use Rattle.dj_rewrite.specs.Answers.{AnswersMethod, AreAnswers, IsKnownClass};
+ghost use Rattle.dj_rewrite.specs.Steps.{is_large};
 
 use dj_class::{ClassView, MemberView};
 use dj_image::Image;
@@ -60,16 +61,25 @@ pub(crate) fn answer_methods(
 {
     let mut answers = Vec::new(alloc);
     for method in view.methods.as_slice() {
-        answers.push(answer_method(alloc, image, &view.pool, first, method)?)?;
+        let answer = answer_method(alloc, image, &view.pool, first, method)?;
+        answers.push(answer)?;
     }
     Ok(answers)
 }
 
+// Whether its code doesn't fit.
+fn is_large(answer: &MethodAnswer) -> bool
+    ensures { result ≡ is_large answer.now }
+{
+    match answer {
+        MethodAnswer::TooLarge => true,
+        MethodAnswer::Bodiless | MethodAnswer::Rewritten(_) => false,
+    }
+}
+
 /// Whether the code of one of the methods doesn't fit.
 pub(crate) fn has_large(answers: &[MethodAnswer]) -> bool
-    ensures { IsTrue result ↔ HasLarge answers.now }
+    ensures { result ≡ list_any is_large answers.now }
 {
-    answers
-        .iter()
-        .any(|answer| matches!(answer, MethodAnswer::TooLarge))
+    answers.iter().any(|answer| is_large(answer))
 }

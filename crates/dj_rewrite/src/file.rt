@@ -1,10 +1,11 @@
 //! One class file.
 ghost use Rattle.std.specs.Prelude.{◌≡◌, ◌+◌, length, IfOk};
-ghost use Rattle.dj_class.specs.trusted.ClassFile.{class_bytes};
+ghost use Rattle.dj_class.specs.trusted.ClassFile.{IsValid, class_bytes};
 ghost use Rattle.dj_class.specs.Views.{class_of};
+ghost use Rattle.dj_model.specs.trusted.Program.{Program};
 ghost use Rattle.dj_image.specs.Imaged.{program_of};
 ghost use Rattle.dj_rewritten.specs.TooLarge.{HasLargePool};
-ghost use Rattle.dj_rewrite.specs.Answers.{AnswersFile, IsKnownClass};
+ghost use Rattle.dj_rewrite.specs.Answers.{AnswersFile, AreAnswers, HasLarge, IsKnownClass};
 ghost use Rattle.dj_rewrite.specs.Steps.{IsNewPool, new_file};
 
 use crate::answers::{MethodAnswer, answer_methods, has_large};
@@ -70,11 +71,11 @@ fn new_view<'a>(
 }
 
 // The bytes of that class.
-fn new_bytes<'a>(
+fn new_bytes(
     alloc: Global,
-    view: &ClassView<'a>,
-    new: Rewritten<'a>,
-    answers: &'a [MethodAnswer],
+    view: &ClassView<'_>,
+    new: Rewritten<'_>,
+    answers: &[MethodAnswer],
 ) -> Result<Bytes, AllocError>
     requires descs { length new.entry.descs ≡ length (class_of view.now).fields + length (class_of view.now).methods }
     requires answers { length answers.now ≡ length (class_of view.now).methods }
@@ -82,6 +83,27 @@ fn new_bytes<'a>(
 {
     let made = new_view(alloc, view, new, answers)?;
     write_class(alloc, &made).or(Err(AllocError))
+}
+
+// The file, where neither its constants nor its methods are too large.
+fn written(
+    alloc: Global,
+    view: &ClassView<'_>,
+    new: Rewritten<'_>,
+    answers: &[MethodAnswer],
+) -> Result<FileAnswer, AllocError>
+    requires valid { IsValid (class_of view.now) }
+    requires answers { length answers.now ≡ length (class_of view.now).methods }
+    requires pool { IsNewPool (class_of view.now) new.entry }
+    requires fit { HasLarge answers.now → ⊥ }
+    ensures { (program : Program) → IsKnownClass program (class_of view.now) → AreAnswers program (class_of view.now).pool new.entry.first (class_of view.now).methods answers.now → IfOk result (AnswersFile program (class_of view.now)) }
+{
+    let bytes = new_bytes(alloc, view, new, answers)?;
+    if bytes.as_slice().len() > MOST_BYTES {
+        let texts = large_texts(alloc, view, true, answers)?;
+        return Ok(FileAnswer::TooLarge(texts));
+    }
+    Ok(FileAnswer::Written(bytes))
 }
 
 // What becomes of a class whose constants aren't too large.
@@ -100,12 +122,7 @@ fn with_pool(
         let texts = large_texts(alloc, view, false, &answers)?;
         return Ok(FileAnswer::TooLarge(texts));
     }
-    let bytes = new_bytes(alloc, view, new, &answers)?;
-    if bytes.as_slice().len() > MOST_BYTES {
-        let texts = large_texts(alloc, view, true, &answers)?;
-        return Ok(FileAnswer::TooLarge(texts));
-    }
-    Ok(FileAnswer::Written(bytes))
+    written(alloc, view, new, &answers)
 }
 
 // A class whose constants are too large: its methods are told all the same. Where the accounter's constants would begin makes no difference to their sizes.

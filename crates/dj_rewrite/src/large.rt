@@ -42,7 +42,8 @@ fn add_text(
     match answer {
         MethodAnswer::Bodiless | MethodAnswer::Rewritten(_) => Ok(()),
         MethodAnswer::TooLarge => {
-            texts.push(member_text(alloc, pool, method)?)?;
+            let text = member_text(alloc, pool, method)?;
+            texts.push(text)?;
             Ok(())
         }
     }

@@ -20,7 +20,7 @@ pub(crate) fn least_text(texts: &[Name]) -> &Name
 {
     let mut least = &texts[0];
     for text in texts {
-        if text.as_slice() < least.as_slice() {
+        if text.as_slice().cmp(least.as_slice()).is_lt() {
             least = text;
         }
     }

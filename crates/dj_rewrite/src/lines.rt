@@ -24,9 +24,11 @@ fn line(alloc: Global, view: &ClassView<'_>, member: &Name) -> Result<Violation,
     requires { IsValid (class_of view.now) }
     ensures { IfOk result (λ made. made ≡ line_of (class_of view.now) member.now) }
 {
+    let path = class_path(alloc, class_name(view))?;
+    let member = Name::from_slice(alloc, member.as_slice())?;
     Ok(Violation {
-        path: class_path(alloc, class_name(view))?,
-        member: Name::from_slice(alloc, member.as_slice())?,
+        path,
+        member,
         number: None,
         rule: TOO_LARGE,
     })
@@ -43,7 +45,8 @@ fn add_member_lines(
     ensures { OnOk result (Adds (IsLineAmong (λ member v. v ≡ line_of (class_of view.now) member) members.now) found.old.items found.new.items) }
 {
     for member in members {
-        add_line(found, line(alloc, view, member)?)?;
+        let made = line(alloc, view, member)?;
+        add_line(found, made)?;
     }
     Ok(())
 }

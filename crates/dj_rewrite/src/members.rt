@@ -42,7 +42,8 @@ pub(crate) fn new_fields<'a>(
 {
     let mut made = Members::new(alloc);
     for (i, field) in fields.iter().enumerate() {
-        made.push(new_field(alloc, pool, field, descs[i])?)?;
+        let new = new_field(alloc, pool, field, descs[i])?;
+        made.push(new)?;
     }
     Ok(made)
 }
@@ -93,7 +94,8 @@ pub(crate) fn new_methods<'a>(
 {
     let mut made = Members::new(alloc);
     for (i, method) in methods.iter().enumerate() {
-        made.push(new_method(alloc, method, &answers[i], descs[i])?)?;
+        let new = new_method(alloc, method, &answers[i], descs[i])?;
+        made.push(new)?;
     }
     Ok(made)
 }

@@ -38,10 +38,9 @@ fn least_part(alloc: Global, view: &ClassView<'_>, members: &[Name]) -> Result<P
     ensures { IfOk result (IsLeastPart (this_name (class_of view.now)) members.now) }
 {
     let least = least_text(members);
-    Ok(Part {
-        class: name_of(alloc, view)?,
-        member: Name::from_slice(alloc, least.as_slice())?,
-    })
+    let class = name_of(alloc, view)?;
+    let member = Name::from_slice(alloc, least.as_slice())?;
+    Ok(Part { class, member })
 }
 
 // Rewrites one class more.
@@ -57,10 +56,8 @@ fn advanced(
     let Progress { mut files, least } = before;
     match rewrite_file(alloc, image, view)? {
         FileAnswer::Written(bytes) => {
-            files.push(RewrittenFile {
-                name: name_of(alloc, view)?,
-                bytes,
-            })?;
+            let name = name_of(alloc, view)?;
+            files.push(RewrittenFile { name, bytes })?;
             Ok(Progress { files, least })
         }
         FileAnswer::TooLarge(members) => {
@@ -89,8 +86,9 @@ pub fn rewrite(
     for view in views {
         progress = advanced(alloc, image, progress, view)?;
     }
-    match progress.least {
-        None => Ok(Rewritten::in_order(progress.files)),
+    let Progress { files, least } = progress;
+    match least {
+        None => Ok(Rewritten::in_order(files)),
         Some(Part { class, member }) => Err(RewriteError::TooLarge { class, member }),
     }
 }
