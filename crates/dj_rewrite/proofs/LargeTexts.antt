@@ -1,11 +1,15 @@
 -- What of a class doesn't fit, by the texts that tell it.
-use Rattle.std.proofs.Common.{◌≡◌, ℕ, zero, suc, ◌<◌, ◌⊎◌, ◌↔◌, Bool, true, false, List, [], ◌∷◌, ◌++◌, length, get_or, zip, refl, sym, ap, ap₂, subst, ◌∙◌, arith, inl, inr, Contains, IsTrue}
+use Rattle.std.proofs.Common.{◌≡◌, ℕ, zero, suc, ◌+◌, ◌<◌, ◌≤◌, ⊤, ◌⊎◌, ◌↔◌, Bool, true, false, List, [], ◌∷◌, ◌++◌, length, map, take, get_or, zip, Option, Some, None, refl, sym, ap, ap₂, subst, ◌∙◌, arith, inl, inr, Contains, IsTrue}
+use Rattle.std.specs.Prelude.{IsSomeAnd}
+use Rattle.std.proofs.lemmas.List.{take_all}
 use Rattle.std.proofs.lemmas.List.Elements.{Contains-append_left, Contains-push, Contains-push_cases}
 use Rattle.dj_names.specs.trusted.Types.{Name}
-use Rattle.dj_pool.specs.trusted.Pool.{Constant}
+use Rattle.dj_pool.specs.trusted.Pool.{Constant, text_at, NamesText}
+use Rattle.dj_class.specs.declared.class.MemberView.{MemberView}
+use Rattle.dj_class.specs.Members.{member_of}
 use Rattle.dj_class.specs.trusted.ClassFile.{MemberInfo, ClassFile}
 use Rattle.dj_report.specs.Lines.{Gains}
-use Rattle.dj_report.proofs.Adding.{adds_nothing}
+use Rattle.dj_report.proofs.Adding.{IsAmong, adds_nothing, adds_read}
 use Rattle.dj_report.proofs.Sorted.{contains_first, contains_later, contains_none, contains_cases}
 use Rattle.dj_model.specs.trusted.Program.{Program}
 use Rattle.dj_program.specs.trusted.Programs.{AreSideBySide}
@@ -14,7 +18,8 @@ use Rattle.dj_rewrite.specs.declared.answers.MethodAnswer.{MethodAnswer}
 use Rattle.dj_rewrite.specs.declared.answers.MethodAnswer.TheVariants as answers
 use Rattle.dj_rewrite.specs.Answers.{AreTooLarge}
 use Rattle.dj_rewrite.specs.Rule.{member_text, IsTooLargeIn}
-use Rattle.dj_rewrite.specs.Steps.{class_texts, TellsMethod, TellsFile, IsLargeText, AreLargeTexts, AreTexts}
+use Rattle.dj_rewrite.specs.Steps.{is_large, class_texts, TellsMethod, TellsFile, IsLargeText, AreLargeTexts, AreTexts}
+use Rattle.dj_rewrite.proofs.NewMembers.{length_map, member_at}
 
 -- ---- pairs
 
@@ -32,19 +37,58 @@ zip_length (x ∷ xs) (y ∷ ys) (suc i) lt e = let more = zip_length xs ys i (o
 
 -- ---- one text
 
-pub text_added : (pool : List Constant) (m : MemberInfo) (answer : MethodAnswer) (old new : List Name) (text : Name) → answer ≡ answers.TooLarge → text ≡ member_text pool m → new ≡ old ++ text ∷ []
+large_is : (answer : MethodAnswer) → is_large answer ≡ true → answer ≡ answers.TooLarge
+large_is answers.Bodiless e = absurd cc
+large_is (answers.Rewritten code) e = absurd cc
+large_is answers.TooLarge e = refl
+
+not_large : (answer : MethodAnswer) → is_large answer ≡ false → answer ≡ answers.TooLarge → ⊥
+not_large answers.Bodiless e is = absurd cc
+not_large (answers.Rewritten code) e is = absurd cc
+not_large answers.TooLarge e is = absurd cc
+
+pub text_added : (pool : List Constant) (m : MemberInfo) (answer : MethodAnswer) (old new : List Name) (text : Name) → is_large answer ≡ true → text ≡ member_text pool m → new ≡ old ++ text ∷ []
     → Gains (IsLargeText pool (m, answer)) old new
 text_added pool m answer old new text told is grown =
     subst (λ (list : List Name). Gains (IsLargeText pool (m, answer)) old list) (sym grown) (λ v. (
-      λ has. elim (Contains-push_cases old text v has) [ inl before ↦ inl before | inr e ↦ inr (told, sym e ∙ is) ],
+      λ has. elim (Contains-push_cases old text v has) [ inl before ↦ inl before | inr e ↦ inr (large_is answer told, sym e ∙ is) ],
       λ any. elim any [
         | inl before ↦ Contains-append_left old (text ∷ []) v before
         | inr own ↦ subst (Contains (old ++ text ∷ [])) (is ∙ sym own.1) (Contains-push old text)
       ],
     ))
 
-pub none_added : (pool : List Constant) (m : MemberInfo) (answer : MethodAnswer) (old : List Name) → (answer ≡ answers.TooLarge → ⊥) → Gains (IsLargeText pool (m, answer)) old old
-none_added pool m answer old other = adds_nothing (IsLargeText pool (m, answer)) old (λ v is. other is.0)
+pub none_added : (pool : List Constant) (m : MemberInfo) (answer : MethodAnswer) (old : List Name) → is_large answer ≡ false → Gains (IsLargeText pool (m, answer)) old old
+none_added pool m answer old other = adds_nothing (IsLargeText pool (m, answer)) old (λ v is. not_large answer other is.0)
+
+zip_short : {A B : Type 0} (xs : List A) (ys : List B) → length (zip xs ys) ≤ length xs
+zip_short [] ys = omega arith
+zip_short (x ∷ xs) [] = omega arith
+zip_short (x ∷ xs) (y ∷ ys) = let more = zip_short xs ys in omega (arith, more)
+
+module _ (c : ClassFile) (made : List MethodAnswer) (views : List MemberView) (are : map member_of views ≡ c.methods) (many : length made ≡ length c.methods) where
+  count : length c.methods ≡ length views
+  count = ap length (sym are) ∙ length_map member_of views
+
+  -- with those of one method more
+  pub texts_more : (i : ℕ) (x : MemberView) (answer : MethodAnswer) (start old new : List Name) → i < length views → x ≡ get_or views i x → answer ≡ get_or made i answer
+      → Gains (IsAmong (IsLargeText c.pool) (take i (zip c.methods made))) start old → Gains (IsLargeText c.pool (member_of x, answer)) old new
+      → Gains (IsAmong (IsLargeText c.pool) (take (i + 1) (zip c.methods made))) start new
+  texts_more i x answer start old new lt is has before this =
+      adds_read (IsLargeText c.pool) (zip c.methods made) i (member_of x, answer) start old new (zip_length c.methods made i (omega (arith, lt, count)) many)
+      (zip_at c.methods made i (member_of x) answer (omega (arith, lt, count)) (omega (arith, lt, count, many)) (member_at views c.methods i x are lt is) has) before this
+
+  pub texts_all : (i : ℕ) (start new : List Name) → length views ≤ i → Gains (IsAmong (IsLargeText c.pool) (take i (zip c.methods made))) start new → Gains (AreLargeTexts c made) start new
+  texts_all i start new past gains =
+      subst (λ (list : List (MemberInfo × MethodAnswer)). Gains (IsAmong (IsLargeText c.pool) list) start new)
+      (take_all i (zip c.methods made) (let short = zip_short c.methods made in omega (arith, short, count, past))) gains
+
+-- any text
+pub text_there : (P : Name → Type 0) (pool : List Constant) (index : ℕ) → NamesText P pool index → NamesText (λ _. ⊤) pool index
+text_there P pool index h = go (text_at pool index) h where
+  go : (o : Option Name) → IsSomeAnd o P → IsSomeAnd o (λ _. ⊤)
+  go None h = absurd h
+  go (Some text) h = tt
 
 -- ---- methods
 

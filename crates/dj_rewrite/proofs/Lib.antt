@@ -7,3 +7,4 @@ pub mod LargeTexts
 pub mod LeastParts
 pub mod Paths
 pub mod SetFacts
+pub mod TooLarges

@@ -151,13 +151,21 @@ answers_more Stand views i x made a lt is h s =
     (sym (ap (map member_of) (take_more views i x lt ∙ ap (λ (y : MemberView). take i views ++ y ∷ []) (sym is)) ∙ map-append member_of (take i views) (x ∷ [])))
     (side_more Stand (map member_of (take i views)) made (member_of x) a h s)
 
+-- a member's view is there as what it shows
+pub member_at : (views : List MemberView) (list : List MemberInfo) (i : ℕ) (x : MemberView) → map member_of views ≡ list → i < length views → x ≡ get_or views i x → member_of x ≡ get_or list i (member_of x)
+member_at views list i x are lt is = subst (λ (ms : List MemberInfo). member_of x ≡ get_or ms i (member_of x)) are (go views i x lt is) where
+  go : (views : List MemberView) (i : ℕ) (x : MemberView) → i < length views → x ≡ get_or views i x → member_of x ≡ get_or (map member_of views) i (member_of x)
+  go [] i x lt is = absurd (omega (arith, lt))
+  go (v ∷ vs) zero x lt is = ap member_of is
+  go (v ∷ vs) (suc i) x lt is = go vs i x (omega (arith, lt)) is
+
 module _ (pool : List Constant) where
-  pub fields_more : (fs : List MemberView) (descs : List ℕ) (i : ℕ) (x : MemberView) (d : ℕ) → i < length fs → i < length descs → x ≡ get_or fs i x → d ≡ get_or descs i d
-      → fields_with pool (map member_of (take (i + 1) fs)) (take (i + 1) descs) ≡ fields_with pool (map member_of (take i fs)) (take i descs) ++ field_with pool (member_of x) d ∷ []
-  fields_more [] descs i x d lt less p q = absurd (omega (arith, lt))
-  fields_more (f ∷ fs) [] i x d lt less p q = absurd (omega (arith, less))
-  fields_more (f ∷ fs) (e ∷ descs) zero x d lt less p q = ap₂ (λ (y : MemberView) (n : ℕ). field_with pool (member_of y) n ∷ []) (sym p) (sym q)
-  fields_more (f ∷ fs) (e ∷ descs) (suc i) x d lt less p q = ap (λ (ms : List MemberInfo). field_with pool (member_of f) e ∷ ms) (fields_more fs descs i x d (omega (arith, lt)) (omega (arith, less)) p q)
+  pub fields_more : (fs : List MemberView) (descs : List ℕ) (i : ℕ) (x : MemberView) → i < length fs → i < length descs → x ≡ get_or fs i x
+      → fields_with pool (map member_of (take (i + 1) fs)) (take (i + 1) descs) ≡ fields_with pool (map member_of (take i fs)) (take i descs) ++ field_with pool (member_of x) (get_or descs i 0) ∷ []
+  fields_more [] descs i x lt less p = absurd (omega (arith, lt))
+  fields_more (f ∷ fs) [] i x lt less p = absurd (omega (arith, less))
+  fields_more (f ∷ fs) (e ∷ descs) zero x lt less p = ap (λ (y : MemberView). field_with pool (member_of y) e ∷ []) (sym p)
+  fields_more (f ∷ fs) (e ∷ descs) (suc i) x lt less p = ap (λ (ms : List MemberInfo). field_with pool (member_of f) e ∷ ms) (fields_more fs descs i x (omega (arith, lt)) (omega (arith, less)) p)
 
   pub fields_all : (fs : List MemberView) (descs : List ℕ) (i : ℕ) → length fs ≤ i → fields_with pool (map member_of (take i fs)) (take i descs) ≡ fields_with pool (map member_of fs) descs
   fields_all [] descs zero few = refl
@@ -166,16 +174,15 @@ module _ (pool : List Constant) where
   fields_all (f ∷ fs) [] (suc i) few = refl
   fields_all (f ∷ fs) (d ∷ descs) (suc i) few = ap (λ (ms : List MemberInfo). field_with pool (member_of f) d ∷ ms) (fields_all fs descs i (omega (arith, few)))
 
-pub methods_more : (ms : List MemberView) (made : List MethodAnswer) (descs : List ℕ) (i : ℕ) (x : MemberView) (a : MethodAnswer) (d : ℕ) → i < length ms → i < length made → i < length descs
-    → x ≡ get_or ms i x → a ≡ get_or made i a → d ≡ get_or descs i d
-    → methods_with (map member_of (take (i + 1) ms)) (take (i + 1) made) (take (i + 1) descs) ≡ methods_with (map member_of (take i ms)) (take i made) (take i descs) ++ method_with (member_of x) a d ∷ []
-methods_more [] made descs i x a d lt less few p q r = absurd (omega (arith, lt))
-methods_more (m ∷ ms) [] descs i x a d lt less few p q r = absurd (omega (arith, less))
-methods_more (m ∷ ms) (b ∷ made) [] i x a d lt less few p q r = absurd (omega (arith, few))
-methods_more (m ∷ ms) (b ∷ made) (e ∷ descs) zero x a d lt less few p q r =
-    ap₂ (λ (y : MemberView) (n : ℕ). method_with (member_of y) b n ∷ []) (sym p) (sym r) ∙ ap (λ (z : MethodAnswer). method_with (member_of x) z d ∷ []) (sym q)
-methods_more (m ∷ ms) (b ∷ made) (e ∷ descs) (suc i) x a d lt less few p q r =
-    ap (λ (more : List MemberInfo). method_with (member_of m) b e ∷ more) (methods_more ms made descs i x a d (omega (arith, lt)) (omega (arith, less)) (omega (arith, few)) p q r)
+pub methods_more : (ms : List MemberView) (made : List MethodAnswer) (descs : List ℕ) (i : ℕ) (x : MemberView) (a : MethodAnswer) → i < length ms → i < length made → i < length descs
+    → x ≡ get_or ms i x → a ≡ get_or made i a
+    → methods_with (map member_of (take (i + 1) ms)) (take (i + 1) made) (take (i + 1) descs) ≡ methods_with (map member_of (take i ms)) (take i made) (take i descs) ++ method_with (member_of x) a (get_or descs i 0) ∷ []
+methods_more [] made descs i x a lt less few p q = absurd (omega (arith, lt))
+methods_more (m ∷ ms) [] descs i x a lt less few p q = absurd (omega (arith, less))
+methods_more (m ∷ ms) (b ∷ made) [] i x a lt less few p q = absurd (omega (arith, few))
+methods_more (m ∷ ms) (b ∷ made) (e ∷ descs) zero x a lt less few p q = ap₂ (λ (y : MemberView) (z : MethodAnswer). method_with (member_of y) z e ∷ []) (sym p) (sym q)
+methods_more (m ∷ ms) (b ∷ made) (e ∷ descs) (suc i) x a lt less few p q =
+    ap (λ (more : List MemberInfo). method_with (member_of m) b e ∷ more) (methods_more ms made descs i x a (omega (arith, lt)) (omega (arith, less)) (omega (arith, few)) p q)
 
 pub methods_all : (ms : List MemberView) (made : List MethodAnswer) (descs : List ℕ) (i : ℕ) → length ms ≤ i
     → methods_with (map member_of (take i ms)) (take i made) (take i descs) ≡ methods_with (map member_of ms) made descs
@@ -185,6 +192,10 @@ methods_all (m ∷ ms) made descs zero few = absurd (omega (arith, few))
 methods_all (m ∷ ms) [] descs (suc i) few = refl
 methods_all (m ∷ ms) (b ∷ made) [] (suc i) few = refl
 methods_all (m ∷ ms) (b ∷ made) (d ∷ descs) (suc i) few = ap (λ (more : List MemberInfo). method_with (member_of m) b d ∷ more) (methods_all ms made descs i (omega (arith, few)))
+
+-- as many as the class has
+pub count_of : (views : List MemberView) (list : List MemberInfo) → map member_of views ≡ list → length views ≡ length list
+count_of views list are = sym (length_map member_of views) ∙ ap length are
 
 -- ---- methods that are too large
 

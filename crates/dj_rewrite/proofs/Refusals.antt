@@ -9,10 +9,12 @@ use Rattle.dj_pool.specs.Answers.{last_index}
 use Rattle.dj_class.specs.trusted.ClassFile.{ClassFile}
 use Rattle.dj_rename.specs.declared.error.RenameError.{RenameError}
 use Rattle.dj_rename.specs.declared.error.RenameError.TheVariants as errors
-use Rattle.dj_rename.specs.Pools.{Need, needs, is_changed, first_places, need_text, appended_texts, renamed_constant, renamed_pool, accounter_constants, first_index, rewritten_pool, IsLongText, IsFull}
+use Rattle.dj_rename.specs.declared.rewritten.Rewritten.{Rewritten}
+use Rattle.dj_rename.specs.Pools.{Need, needs, is_changed, first_places, need_text, appended_texts, renamed_constant, renamed_pool, accounter_constants, first_index, renamed_descs, rewritten_pool, IsLongText, IsFull}
 use Rattle.dj_rename.specs.Refusals.{most_bytes, refusal_at, first_error, refusal_from, refusal, AreAppended}
 use Rattle.dj_rewritten.specs.Files.{desc_indexes}
 use Rattle.dj_rewritten.specs.TooLarge.{first_of_class, HasLargePool}
+use Rattle.dj_rewrite.specs.Steps.{IsNewPool}
 
 abbrev changed : List Constant → List Need → List Name
 changed pool list = map need_text (filter (is_changed pool) list)
@@ -108,3 +110,19 @@ first_fits c valid = let few = valid.count in let all = many_new c.pool (desc_in
 pub pool_fits : (c : ClassFile) (texts : List Name) → AreAppended c.pool (desc_indexes c) texts → IsPool (rewritten_pool c.pool (desc_indexes c)) → HasLargePool c → ⊥
 pool_fits c texts appended valid (inl full) = (let few = valid.count in omega (arith, full, few))
 pool_fits c texts appended valid (inr long) = long ((all_told c.pool (desc_indexes c)).fit appended.fit)
+
+-- the constants that are made
+pub new_pool : (c : ClassFile) (descs : List ℕ) (new : Rewritten) (texts : List Name) → descs ≡ desc_indexes c → AreAppended c.pool (desc_indexes c) texts → new.pool ≡ rewritten_pool c.pool descs → IsPool new.pool
+    → new.descs ≡ renamed_descs c.pool (appended_texts c.pool descs) descs → new.first ≡ first_index c.pool (appended_texts c.pool descs) → IsNewPool c new
+new_pool c descs new texts same appended is valid descs_are first_is =
+    let own : new.pool ≡ rewritten_pool c.pool (desc_indexes c) = is ∙ ap (rewritten_pool c.pool) same in
+    record {
+      is = own;
+      valid = valid;
+      descs_are = descs_are ∙ ap (λ (ds : List ℕ). renamed_descs c.pool (appended_texts c.pool ds) ds) same;
+      first_is = first_is ∙ ap (λ (ds : List ℕ). first_index c.pool (appended_texts c.pool ds)) same;
+      fits = pool_fits c texts appended (subst IsPool own valid);
+    }
+
+pub first_there : (c : ClassFile) (new : Rewritten) → IsNewPool c new → new.first + 25 < 2 ^ 16
+first_there c new is = subst (λ (n : ℕ). n + 25 < 2 ^ 16) (sym is.first_is) (first_fits c (subst IsPool is.is is.valid))

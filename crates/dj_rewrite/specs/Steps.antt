@@ -81,6 +81,14 @@ AreTexts c class made texts = (program : Program) → TellsFile program c class 
 abbrev pub part_of : Part → Name × Name
 part_of part = (part.class, part.member)
 
+abbrev pub lesser_text : Name → Name → Name
+lesser_text a b = if is_lt (slice_cmp nat_cmp b a) then b else a
+
+-- one of the texts, and none of those before the place is less
+pub record IsLeastUpTo (texts : List Name) (place : ℕ) (least : Name) : Type 0 where
+  pub there : Contains texts least
+  pub least : (other : Name) → Contains (take place texts) other → IsFalse (is_gt (slice_cmp nat_cmp least other))
+
 pub record IsLeastText (texts : List Name) (least : Name) : Type 0 where
   pub there : Contains texts least
   pub least : (other : Name) → Contains texts other → IsFalse (is_gt (slice_cmp nat_cmp least other))

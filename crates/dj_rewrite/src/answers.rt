@@ -67,8 +67,8 @@ pub(crate) fn answer_methods(
     Ok(answers)
 }
 
-// Whether its code doesn't fit.
-fn is_large(answer: &MethodAnswer) -> bool
+/// Whether its code doesn't fit.
+pub(crate) fn is_large(answer: &MethodAnswer) -> bool
     ensures { result ≡ is_large answer.now }
 {
     match answer {

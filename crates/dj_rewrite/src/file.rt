@@ -4,6 +4,8 @@ ghost use Rattle.dj_class.specs.trusted.ClassFile.{IsValid, class_bytes};
 ghost use Rattle.dj_class.specs.Views.{class_of};
 ghost use Rattle.dj_model.specs.trusted.Program.{Program};
 ghost use Rattle.dj_image.specs.Imaged.{program_of};
+ghost use Rattle.dj_rename.specs.Refusals.{AreAppended};
+ghost use Rattle.dj_rewritten.specs.Files.{desc_indexes};
 ghost use Rattle.dj_rewritten.specs.TooLarge.{HasLargePool};
 ghost use Rattle.dj_rewrite.specs.Answers.{AnswersFile, AreAnswers, HasLarge, IsKnownClass};
 ghost use Rattle.dj_rewrite.specs.Steps.{IsNewPool, new_file};
@@ -11,12 +13,12 @@ ghost use Rattle.dj_rewrite.specs.Steps.{IsNewPool, new_file};
 use crate::answers::{MethodAnswer, answer_methods, has_large};
 use crate::indexes::indexes_of;
 use crate::large::large_texts;
-use crate::members::{new_fields, new_methods};
+use crate::members::{fields_with, methods_with};
 use dj_class::{Attributes, ClassView};
 use dj_image::Image;
 use dj_names::{Bytes, Name};
 use dj_pool::Indexes;
-use dj_rename::{RenameError, Rewritten, rename_texts, rewrite_pool};
+use dj_rename::{RenameError, Rewritten, Texts, rename_texts, rewrite_pool};
 use dj_write::write_class;
 use std::alloc::{AllocError, Global};
 
@@ -54,18 +56,24 @@ fn new_view<'a>(
     requires answers { length answers.now ≡ length (class_of view.now).methods }
     ensures { IfOk result (λ made. class_of made ≡ new_file (class_of view.now) new.entry.pool new.entry.descs answers.now) }
 {
-    let count = view.fields.as_slice().len();
+    let fields = view.fields.as_slice();
+    let methods = view.methods.as_slice();
     let descs = new.descs.as_slice();
+    let (of_fields, of_methods) = descs.split_at(fields.len());
+    let new_interfaces = copied(alloc, &view.interfaces)?;
+    let new_fields = fields_with(alloc, &view.pool, fields, of_fields)?;
+    let new_methods = methods_with(alloc, methods, answers, of_methods)?;
+    let no_attributes = Attributes::new(alloc);
     Ok(ClassView {
         minor: view.minor,
         major: view.major,
         flags: view.flags,
         this_class: view.this_class,
         super_class: view.super_class,
-        interfaces: copied(alloc, &view.interfaces)?,
-        fields: new_fields(alloc, &view.pool, view.fields.as_slice(), &descs[..count])?,
-        methods: new_methods(alloc, view.methods.as_slice(), answers, &descs[count..])?,
-        attributes: Attributes::new(alloc),
+        interfaces: new_interfaces,
+        fields: new_fields,
+        methods: new_methods,
+        attributes: no_attributes,
         pool: new.pool,
     })
 }
@@ -99,7 +107,8 @@ fn written(
     ensures { (program : Program) → IsKnownClass program (class_of view.now) → AreAnswers program (class_of view.now).pool new.entry.first (class_of view.now).methods answers.now → IfOk result (AnswersFile program (class_of view.now)) }
 {
     let bytes = new_bytes(alloc, view, new, answers)?;
-    if bytes.as_slice().len() > MOST_BYTES {
+    let size = bytes.as_slice().len();
+    if size > MOST_BYTES {
         let texts = large_texts(alloc, view, true, answers)?;
         return Ok(FileAnswer::TooLarge(texts));
     }
@@ -118,11 +127,12 @@ fn with_pool(
     ensures { IfOk result (AnswersFile (program_of image.now) (class_of view.now)) }
 {
     let answers = answer_methods(alloc, image, view, new.first)?;
-    if has_large(&answers) {
-        let texts = large_texts(alloc, view, false, &answers)?;
+    let made = answers.as_slice();
+    if has_large(made) {
+        let texts = large_texts(alloc, view, false, made)?;
         return Ok(FileAnswer::TooLarge(texts));
     }
-    written(alloc, view, new, &answers)
+    written(alloc, view, new, made)
 }
 
 // A class whose constants are too large: its methods are told all the same. Where the accounter's constants would begin makes no difference to their sizes.
@@ -132,8 +142,30 @@ fn large_pool(alloc: Global, image: &Image, view: &ClassView<'_>) -> Result<File
     ensures { IfOk result (AnswersFile (program_of image.now) (class_of view.now)) }
 {
     let answers = answer_methods(alloc, image, view, 1)?;
-    let texts = large_texts(alloc, view, true, &answers)?;
+    let made = answers.as_slice();
+    let texts = large_texts(alloc, view, true, made)?;
     Ok(FileAnswer::TooLarge(texts))
+}
+
+// What becomes of a class whose renamed texts aren't too large.
+fn with_texts(
+    alloc: Global,
+    image: &Image,
+    view: &ClassView<'_>,
+    descs: &[u16],
+    texts: &Texts,
+) -> Result<FileAnswer, AllocError>
+    requires known { IsKnownClass (program_of image.now) (class_of view.now) }
+    requires descs { descs.now ≡ desc_indexes (class_of view.now) }
+    requires texts { AreAppended (class_of view.now).pool (desc_indexes (class_of view.now)) texts.now }
+    ensures { IfOk result (AnswersFile (program_of image.now) (class_of view.now)) }
+{
+    match rewrite_pool(alloc, &view.pool, descs, texts) {
+        Ok(new) => with_pool(alloc, image, view, new),
+        Err(RenameError::Full) => large_pool(alloc, image, view),
+        Err(RenameError::Long(_)) => unreachable!(),
+        Err(RenameError::Memory) => Err(AllocError),
+    }
 }
 
 /// What becomes of a class file. The image has the classes of the objects that its code makes.
@@ -146,15 +178,11 @@ pub(crate) fn rewrite_file(
     ensures { IfOk result (AnswersFile (program_of image.now) (class_of view.now)) }
 {
     let indexes = indexes_of(alloc, view)?;
-    let texts = match rename_texts(alloc, &view.pool, &indexes) {
-        Ok(texts) => texts,
-        Err(RenameError::Memory) => return Err(AllocError),
-        Err(_) => return large_pool(alloc, image, view),
-    };
-    match rewrite_pool(alloc, &view.pool, &indexes, &texts) {
-        Ok(new) => with_pool(alloc, image, view, new),
+    let descs = indexes.as_slice();
+    match rename_texts(alloc, &view.pool, descs) {
+        Ok(texts) => with_texts(alloc, image, view, descs, &texts),
         Err(RenameError::Full) => large_pool(alloc, image, view),
-        Err(RenameError::Long(_)) => unreachable!(),
+        Err(RenameError::Long(_)) => large_pool(alloc, image, view),
         Err(RenameError::Memory) => Err(AllocError),
     }
 }

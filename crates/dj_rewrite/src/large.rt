@@ -8,7 +8,7 @@ ghost use Rattle.dj_report.specs.Lines.{Gains};
 ghost use Rattle.dj_rewrite.specs.Rule.{member_text};
 ghost use Rattle.dj_rewrite.specs.Steps.{class_texts, IsLargeText, AreLargeTexts, AreTexts};
 
-use crate::answers::MethodAnswer;
+use crate::answers::{MethodAnswer, is_large};
 use dj_class::{ClassView, MemberView};
 use dj_names::Name;
 use dj_pool::Pool;
@@ -39,14 +39,12 @@ fn add_text(
     requires desc { NamesText (λ _. ⊤) pool.now (member_of method.now).desc }
     ensures { OnOk result (Gains (IsLargeText pool.now (member_of method.now, answer.now)) texts.old.items texts.new.items) }
 {
-    match answer {
-        MethodAnswer::Bodiless | MethodAnswer::Rewritten(_) => Ok(()),
-        MethodAnswer::TooLarge => {
-            let text = member_text(alloc, pool, method)?;
-            texts.push(text)?;
-            Ok(())
-        }
+    if !is_large(answer) {
+        return Ok(());
     }
+    let text = member_text(alloc, pool, method)?;
+    texts.push(text)?;
+    Ok(())
 }
 
 // Appends the texts of the methods that are too large.

@@ -2,7 +2,7 @@
 ghost use Rattle.std.specs.Prelude.{◌≡◌, ◌<◌, length};
 ghost use Rattle.std.specs.Ordering.{is_lt};
 ghost use Rattle.dj_rewrite.specs.Sets.{part_cmp};
-ghost use Rattle.dj_rewrite.specs.Steps.{part_of, lesser_of, IsLeastText};
+ghost use Rattle.dj_rewrite.specs.Steps.{part_of, lesser_text, lesser_of, IsLeastText};
 
 use dj_names::Name;
 
@@ -13,6 +13,17 @@ pub(crate) struct Part {
     pub(crate) member: Name,
 }
 
+// The lesser of two texts.
+fn lesser_text<'a>(a: &'a Name, b: &'a Name) -> &'a Name
+    ensures { result.now ≡ lesser_text a.now b.now }
+{
+    if b.as_slice().cmp(a.as_slice()).is_lt() {
+        b
+    } else {
+        a
+    }
+}
+
 /// The least of these texts, of which there are some.
 pub(crate) fn least_text(texts: &[Name]) -> &Name
     requires { 0 < length texts.now }
@@ -20,9 +31,7 @@ pub(crate) fn least_text(texts: &[Name]) -> &Name
 {
     let mut least = &texts[0];
     for text in texts {
-        if text.as_slice().cmp(least.as_slice()).is_lt() {
-            least = text;
-        }
+        least = lesser_text(least, text);
     }
     least
 }

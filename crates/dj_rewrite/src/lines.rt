@@ -61,7 +61,8 @@ pub(crate) fn add_lines(
     requires { IsKnownClass (program_of image.now) (class_of view.now) }
     ensures { OnOk result (Adds (IsTooLargeLineIn (program_of image.now) (class_of view.now)) found.old.items found.new.items) }
 {
-    match rewrite_file(alloc, image, view)? {
+    let answer = rewrite_file(alloc, image, view)?;
+    match answer {
         FileAnswer::Written(_) => Ok(()),
         FileAnswer::TooLarge(members) => add_member_lines(alloc, found, view, &members),
     }

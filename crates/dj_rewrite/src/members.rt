@@ -31,7 +31,7 @@ fn new_field<'a>(
 }
 
 /// The fields, with these descriptors.
-pub(crate) fn new_fields<'a>(
+pub(crate) fn fields_with<'a>(
     alloc: Global,
     pool: &Pool<'_>,
     fields: &[MemberView<'a>],
@@ -82,7 +82,7 @@ fn new_method<'a>(
 }
 
 /// The methods, with these descriptors and their rewritten code.
-pub(crate) fn new_methods<'a>(
+pub(crate) fn methods_with<'a>(
     alloc: Global,
     methods: &[MemberView<'_>],
     answers: &'a [MethodAnswer],

@@ -3,8 +3,9 @@ ghost use Rattle.std.specs.Prelude.{◌≡◌, ◌<◌, ◌∷◌, [], ◌++◌,
 ghost use Rattle.dj_class.specs.trusted.ClassFile.{ClassFile};
 ghost use Rattle.dj_class.specs.trusted.Names.{this_name};
 ghost use Rattle.dj_class.specs.Views.{class_of};
+ghost use Rattle.dj_model.specs.trusted.Program.{Program};
 ghost use Rattle.dj_image.specs.Imaged.{program_of};
-ghost use Rattle.dj_rewrite.specs.Answers.{IsKnownClass};
+ghost use Rattle.dj_rewrite.specs.Answers.{IsKnownClass, WritesFile, AreTooLarge};
 ghost use Rattle.dj_rewrite.specs.Sets.{AnswersSet};
 ghost use Rattle.dj_rewrite.specs.Steps.{IsProgress, IsLeastPart};
 
@@ -15,7 +16,7 @@ use crate::rewritten::{Rewritten, RewrittenFile};
 use dj_class::ClassView;
 use dj_early_rules::class_name;
 use dj_image::Image;
-use dj_names::Name;
+use dj_names::{Bytes, Name};
 use std::alloc::{AllocError, Global};
 
 // What became of the classes so far: the files, and the least of what doesn't fit.
@@ -43,6 +44,40 @@ fn least_part(alloc: Global, view: &ClassView<'_>, members: &[Name]) -> Result<P
     Ok(Part { class, member })
 }
 
+// With the file of one class more.
+fn with_file(
+    alloc: Global,
+    before: Progress,
+    view: &ClassView<'_>,
+    bytes: Bytes,
+) -> Result<Progress, AllocError>
+    ensures { IfOk result (λ now. (program : Program) (done : List ClassFile) → WritesFile program (class_of view.now) bytes.entry → IsProgress program done before.entry → IsProgress program (done ++ class_of view.now ∷ []) now) }
+{
+    let Progress { mut files, least } = before;
+    let name = name_of(alloc, view)?;
+    files.push(RewrittenFile { name, bytes })?;
+    Ok(Progress { files, least })
+}
+
+// With what of one class more doesn't fit.
+fn with_large(
+    alloc: Global,
+    before: Progress,
+    view: &ClassView<'_>,
+    members: &[Name],
+) -> Result<Progress, AllocError>
+    requires { 0 < length members.now }
+    ensures { IfOk result (λ now. (program : Program) (done : List ClassFile) → AreTooLarge program (class_of view.now) members.now → IsProgress program done before.entry → IsProgress program (done ++ class_of view.now ∷ []) now) }
+{
+    let Progress { files, least } = before;
+    let part = least_part(alloc, view, members)?;
+    let least = lesser(least, part);
+    Ok(Progress {
+        files,
+        least: Some(least),
+    })
+}
+
 // Rewrites one class more.
 fn advanced(
     alloc: Global,
@@ -53,20 +88,10 @@ fn advanced(
     requires { IsKnownClass (program_of image.now) (class_of view.now) }
     ensures { IfOk result (λ now. (done : List ClassFile) → IsProgress (program_of image.now) done before.entry → IsProgress (program_of image.now) (done ++ class_of view.now ∷ []) now) }
 {
-    let Progress { mut files, least } = before;
-    match rewrite_file(alloc, image, view)? {
-        FileAnswer::Written(bytes) => {
-            let name = name_of(alloc, view)?;
-            files.push(RewrittenFile { name, bytes })?;
-            Ok(Progress { files, least })
-        }
-        FileAnswer::TooLarge(members) => {
-            let part = least_part(alloc, view, &members)?;
-            Ok(Progress {
-                files,
-                least: Some(lesser(least, part)),
-            })
-        }
+    let answer = rewrite_file(alloc, image, view)?;
+    match answer {
+        FileAnswer::Written(bytes) => with_file(alloc, before, view, bytes),
+        FileAnswer::TooLarge(members) => with_large(alloc, before, view, &members),
     }
 }
 

@@ -1,7 +1,7 @@
 use Rattle.std.proofs.Common.{◌≡◌, map, take}
 use Rattle.dj_class.specs.Members.{member_of}
 use Rattle.dj_rewrite.specs.Members.{fields_with}
-use Rattle.dj_rewrite.proofs.members.new_fields.Given as goal
+use Rattle.dj_rewrite.proofs.members.fields_with.Given as goal
 
 -- the fields so far
 abbrev pub invariant-loop-i : goal.invariant-loop-i

@@ -1,0 +1,11 @@
+use Rattle.std.proofs.Common.{◌<◌, length, arith}
+use Rattle.dj_rewrite.proofs.NewMembers.{fields_more, fields_all}
+use Rattle.dj_rewrite.proofs.members.fields_with.Goals as goal
+
+pub loop-i-preserved : goal.loop-i-preserved
+loop-i-preserved c =
+    let less : c.loop-i.i < length c.args.descs.now = omega arith in
+    let more = fields_more c.args.pool.now c.args.fields.now c.args.descs.now c.loop-i.i c.index-fields-i.result c.loop-i-test.true less c.index-fields-i.is in cc
+
+pub returns : goal.returns
+returns c = let all = fields_all c.args.pool.now c.args.fields.now c.args.descs.now c.loop-i.i c.loop-i-test.false in cc
