@@ -16,7 +16,6 @@ use Rattle.dj_groups.specs.Grouped.{labels_in_groups}
 use Rattle.dj_program.specs.trusted.Codes.{CodeParts, code_in, IsMethodCode}
 use Rattle.dj_program.specs.trusted.Programs.{AreSideBySide}
 use Rattle.dj_program.proofs.Once.{one_code_parts}
-use Rattle.dj_rename.specs.declared.rewritten.Rewritten.{Rewritten}
 use Rattle.dj_rename.specs.Pools.{appended_texts, first_index, renamed_descs, rewritten_pool}
 use Rattle.dj_rewritten.specs.Files.{desc_indexes, new_desc, without_synchronized, rewritten_map, rewritten_field, IsRewrittenCode, IsRewrittenBody, IsRewrittenMethod, IsRewrittenFile}
 use Rattle.dj_rewritten.specs.TooLarge.{first_of_class, DoesNotFit, HasLargePool, IsTooLargeMethod, HasLargeMethod, IsLargeFile, IsTooLargeClass}
@@ -74,13 +73,7 @@ module _ (program : Program) (c : ClassFile) (known : IsKnownClass program c) wh
     go (m ∷ ms) (x ∷ made) [] a b = absurd (omega (arith, b))
     go (m ∷ ms) (x ∷ made) (d ∷ descs) a b = ap suc (go ms made descs (omega (arith, a)) (omega (arith, b)))
 
-  module _ (renamed : Rewritten) (new : IsNewPool c renamed) (made : List MethodAnswer) (each : AreAnswers program c.pool first c.methods made) where
-    abbrev pool : List Constant
-    pool = renamed.pool
-
-    abbrev descs : List ℕ
-    descs = renamed.descs
-
+  module _ (pool : List Constant) (descs : List ℕ) (new : IsNewPool c pool descs) (made : List MethodAnswer) (each : AreAnswers program c.pool first c.methods made) where
     abbrev d : ClassFile
     d = new_file c pool descs made
 

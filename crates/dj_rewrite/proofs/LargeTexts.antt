@@ -1,6 +1,6 @@
 -- What of a class doesn't fit, by the texts that tell it.
-use Rattle.std.proofs.Common.{◌≡◌, ℕ, zero, suc, ◌+◌, ◌<◌, ◌≤◌, ⊤, ◌⊎◌, ◌↔◌, Bool, true, false, List, [], ◌∷◌, ◌++◌, length, map, take, get_or, zip, Option, Some, None, refl, sym, ap, ap₂, subst, ◌∙◌, arith, inl, inr, Contains, IsTrue}
-use Rattle.std.specs.Prelude.{IsSomeAnd}
+use Rattle.std.proofs.Common.{◌≡◌, ℕ, zero, suc, ◌+◌, ◌<◌, ◌≤◌, ◌⊎◌, ◌↔◌, Bool, true, false, List, [], ◌∷◌, ◌++◌, length, map, take, get_or, zip, Option, Some, None, refl, sym, ap, ap₂, subst, ◌∙◌, arith, inl, inr, Contains, IsTrue}
+use Rattle.std.specs.Prelude.{⊤, IsSomeAnd}
 use Rattle.std.proofs.lemmas.List.{take_all}
 use Rattle.std.proofs.lemmas.List.Elements.{Contains-append_left, Contains-push, Contains-push_cases}
 use Rattle.dj_names.specs.trusted.Types.{Name}
@@ -102,7 +102,7 @@ module _ (program : Program) (c : ClassFile) where
   large_from (x ∷ ms) [] told text method has is = absurd told
   large_from (x ∷ ms) (y ∷ made) told text method has is =
       elim (contains_cases (x, y) (zip ms made) method has) [
-        | inl e ↦ let here : IsLargeText c.pool (x, y) text = subst (λ (p : MemberInfo × MethodAnswer). IsLargeText c.pool p text) (sym e) is in (x, contains_first x ms, told.0.0 here.0, here.1)
+        | inl e ↦ let here : IsLargeText c.pool (x, y) text = subst (λ (p : MemberInfo × MethodAnswer). IsLargeText c.pool p text) (sym e) is in (x, contains_first x ms, (told.0.0 here.0, here.1))
         | inr later ↦ let more = large_from ms made told.1 text method later is in (more.0, contains_later x ms more.0 more.1, more.2)
       ]
 
@@ -133,13 +133,13 @@ module _ (program : Program) (c : ClassFile) where
     text_from : (text : Name) → Contains texts text → IsTooLargeIn program c text
     text_from text has = elim ((gains text).0 has) [
       | inl own ↦ inl (class_from class told.class_is text own)
-      | inr method ↦ inr (large_from c.methods made told.methods_are text method.0 method.1 method.2)
+      | inr method ↦ inr (let m = large_from c.methods made told.methods_are text method.0 method.1 method.2 in (m.0, m.1, m.2.0, m.2.1))
     ]
 
     text_to : (text : Name) → IsTooLargeIn program c text → Contains texts text
     text_to text is = elim is [
       | inl own ↦ (gains text).1 (inl (class_to class told.class_is text own.0 own.1))
-      | inr method ↦ (gains text).1 (inr (large_to c.methods made told.methods_are text method.0 method.1 method.2))
+      | inr method ↦ (gains text).1 (inr (large_to c.methods made told.methods_are text method.0 method.1 (method.2, method.3)))
     ]
 
     some : IsTooLargeClass program c ⊎ HasLargeMethod program c → 0 < length texts

@@ -158,7 +158,7 @@ module _ (program : Program) (done : List ClassFile) (c : ClassFile) (texts : Li
 
 module _ (program : Program) (done : List ClassFile) (c : ClassFile) (f : RewrittenFile) (own : IsFileOf program c f) where
   fits : (part : Name × Name) → IsOwnPart program c part → ⊥
-  fits part is = elim is.member [ inl class ↦ own.written.class_fits class.0 | inr method ↦ own.written.methods_fit (method.0, method.1, method.2.0) ]
+  fits part is = elim is.member [ inl class ↦ own.written.class_fits class.0 | inr method ↦ own.written.methods_fit (method.0, method.1, method.2) ]
 
   still_least : (least : Option Part) → IsLeastSoFar program done least → IsLeastSoFar program (done ++ c ∷ []) least
   still_least None none = λ part is. elim (narrowed program done c part is) [ inl old ↦ none part old | inr new ↦ fits part new ]

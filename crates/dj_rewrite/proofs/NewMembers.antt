@@ -64,8 +64,8 @@ method_descs c =
 pub descs_length : (c : ClassFile) → length (renamed_descs c.pool (appended_texts c.pool (desc_indexes c)) (desc_indexes c)) ≡ length c.fields + length c.methods
 descs_length c = length_map (new_of c.pool (desc_indexes c)) (desc_indexes c) ∙ two c.fields c.methods where
   two : (fs ms : List MemberInfo) → length (map desc_of fs ++ map desc_of ms) ≡ length fs + length ms
-  two [] ms = length_map desc_of ms
-  two (f ∷ fs) ms = ap suc (two fs ms)
+  two [] ms = let own = length_map desc_of ms in omega (arith, own)
+  two (f ∷ fs) ms = let more = two fs ms in omega (arith, more)
 
 -- ---- fields
 
@@ -159,13 +159,22 @@ member_at views list i x are lt is = subst (λ (ms : List MemberInfo). member_of
   go (v ∷ vs) zero x lt is = ap member_of is
   go (v ∷ vs) (suc i) x lt is = go vs i x (omega (arith, lt)) is
 
+one_more : (i : ℕ) → suc i ≡ i + 1
+one_more i = omega arith
+
 module _ (pool : List Constant) where
+  fields_next : (fs : List MemberView) (descs : List ℕ) (i : ℕ) (x : MemberView) → i < length fs → i < length descs → x ≡ get_or fs i x
+      → fields_with pool (map member_of (take (suc i) fs)) (take (suc i) descs) ≡ fields_with pool (map member_of (take i fs)) (take i descs) ++ field_with pool (member_of x) (get_or descs i 0) ∷ []
+  fields_next [] descs i x lt less p = absurd (omega (arith, lt))
+  fields_next (f ∷ fs) [] i x lt less p = absurd (omega (arith, less))
+  fields_next (f ∷ fs) (e ∷ descs) zero x lt less p = ap (λ (y : MemberView). field_with pool (member_of y) e ∷ []) (sym p)
+  fields_next (f ∷ fs) (e ∷ descs) (suc i) x lt less p = ap (λ (ms : List MemberInfo). field_with pool (member_of f) e ∷ ms) (fields_next fs descs i x (omega (arith, lt)) (omega (arith, less)) p)
+
   pub fields_more : (fs : List MemberView) (descs : List ℕ) (i : ℕ) (x : MemberView) → i < length fs → i < length descs → x ≡ get_or fs i x
       → fields_with pool (map member_of (take (i + 1) fs)) (take (i + 1) descs) ≡ fields_with pool (map member_of (take i fs)) (take i descs) ++ field_with pool (member_of x) (get_or descs i 0) ∷ []
-  fields_more [] descs i x lt less p = absurd (omega (arith, lt))
-  fields_more (f ∷ fs) [] i x lt less p = absurd (omega (arith, less))
-  fields_more (f ∷ fs) (e ∷ descs) zero x lt less p = ap (λ (y : MemberView). field_with pool (member_of y) e ∷ []) (sym p)
-  fields_more (f ∷ fs) (e ∷ descs) (suc i) x lt less p = ap (λ (ms : List MemberInfo). field_with pool (member_of f) e ∷ ms) (fields_more fs descs i x (omega (arith, lt)) (omega (arith, less)) p)
+  fields_more fs descs i x lt less p =
+      subst (λ (n : ℕ). fields_with pool (map member_of (take n fs)) (take n descs) ≡ fields_with pool (map member_of (take i fs)) (take i descs) ++ field_with pool (member_of x) (get_or descs i 0) ∷ [])
+      (one_more i) (fields_next fs descs i x lt less p)
 
   pub fields_all : (fs : List MemberView) (descs : List ℕ) (i : ℕ) → length fs ≤ i → fields_with pool (map member_of (take i fs)) (take i descs) ≡ fields_with pool (map member_of fs) descs
   fields_all [] descs zero few = refl
@@ -174,15 +183,23 @@ module _ (pool : List Constant) where
   fields_all (f ∷ fs) [] (suc i) few = refl
   fields_all (f ∷ fs) (d ∷ descs) (suc i) few = ap (λ (ms : List MemberInfo). field_with pool (member_of f) d ∷ ms) (fields_all fs descs i (omega (arith, few)))
 
+methods_next : (ms : List MemberView) (made : List MethodAnswer) (descs : List ℕ) (i : ℕ) (x : MemberView) (a : MethodAnswer) → i < length ms → i < length made → i < length descs
+    → x ≡ get_or ms i x → a ≡ get_or made i a
+    → methods_with (map member_of (take (suc i) ms)) (take (suc i) made) (take (suc i) descs) ≡ methods_with (map member_of (take i ms)) (take i made) (take i descs) ++ method_with (member_of x) a (get_or descs i 0) ∷ []
+methods_next [] made descs i x a lt less few p q = absurd (omega (arith, lt))
+methods_next (m ∷ ms) [] descs i x a lt less few p q = absurd (omega (arith, less))
+methods_next (m ∷ ms) (b ∷ made) [] i x a lt less few p q = absurd (omega (arith, few))
+methods_next (m ∷ ms) (b ∷ made) (e ∷ descs) zero x a lt less few p q = ap₂ (λ (y : MemberView) (z : MethodAnswer). method_with (member_of y) z e ∷ []) (sym p) (sym q)
+methods_next (m ∷ ms) (b ∷ made) (e ∷ descs) (suc i) x a lt less few p q =
+    ap (λ (more : List MemberInfo). method_with (member_of m) b e ∷ more) (methods_next ms made descs i x a (omega (arith, lt)) (omega (arith, less)) (omega (arith, few)) p q)
+
 pub methods_more : (ms : List MemberView) (made : List MethodAnswer) (descs : List ℕ) (i : ℕ) (x : MemberView) (a : MethodAnswer) → i < length ms → i < length made → i < length descs
     → x ≡ get_or ms i x → a ≡ get_or made i a
     → methods_with (map member_of (take (i + 1) ms)) (take (i + 1) made) (take (i + 1) descs) ≡ methods_with (map member_of (take i ms)) (take i made) (take i descs) ++ method_with (member_of x) a (get_or descs i 0) ∷ []
-methods_more [] made descs i x a lt less few p q = absurd (omega (arith, lt))
-methods_more (m ∷ ms) [] descs i x a lt less few p q = absurd (omega (arith, less))
-methods_more (m ∷ ms) (b ∷ made) [] i x a lt less few p q = absurd (omega (arith, few))
-methods_more (m ∷ ms) (b ∷ made) (e ∷ descs) zero x a lt less few p q = ap₂ (λ (y : MemberView) (z : MethodAnswer). method_with (member_of y) z e ∷ []) (sym p) (sym q)
-methods_more (m ∷ ms) (b ∷ made) (e ∷ descs) (suc i) x a lt less few p q =
-    ap (λ (more : List MemberInfo). method_with (member_of m) b e ∷ more) (methods_more ms made descs i x a (omega (arith, lt)) (omega (arith, less)) (omega (arith, few)) p q)
+methods_more ms made descs i x a lt less few p q =
+    let before = methods_with (map member_of (take i ms)) (take i made) (take i descs) in
+    subst (λ (n : ℕ). methods_with (map member_of (take n ms)) (take n made) (take n descs) ≡ before ++ method_with (member_of x) a (get_or descs i 0) ∷ [])
+    (one_more i) (methods_next ms made descs i x a lt less few p q)
 
 pub methods_all : (ms : List MemberView) (made : List MethodAnswer) (descs : List ℕ) (i : ℕ) → length ms ≤ i
     → methods_with (map member_of (take i ms)) (take i made) (take i descs) ≡ methods_with (map member_of ms) made descs

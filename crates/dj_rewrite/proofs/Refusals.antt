@@ -9,7 +9,6 @@ use Rattle.dj_pool.specs.Answers.{last_index}
 use Rattle.dj_class.specs.trusted.ClassFile.{ClassFile}
 use Rattle.dj_rename.specs.declared.error.RenameError.{RenameError}
 use Rattle.dj_rename.specs.declared.error.RenameError.TheVariants as errors
-use Rattle.dj_rename.specs.declared.rewritten.Rewritten.{Rewritten}
 use Rattle.dj_rename.specs.Pools.{Need, needs, is_changed, first_places, need_text, appended_texts, renamed_constant, renamed_pool, accounter_constants, first_index, renamed_descs, rewritten_pool, IsLongText, IsFull}
 use Rattle.dj_rename.specs.Refusals.{most_bytes, refusal_at, first_error, refusal_from, refusal, AreAppended}
 use Rattle.dj_rewritten.specs.Files.{desc_indexes}
@@ -57,17 +56,18 @@ told_more pool before need texts o t = go (nat_lt last_index (length pool + leng
 told : (pool : List Constant) (before : List Name) (list : List Need) → Told pool before (first_places before (changed pool list)) (refusal_from pool before list)
 unfolding refusal_from first_places
 told pool before [] = record { full = λ h. absurd cc; long = λ of h all. absurd cc; memory = λ h. absurd cc; fit = λ h. tt }
-told pool before (need ∷ more) = go (is_changed pool need) (told pool before more) where
+told pool before (need ∷ more) = go (is_changed pool need) (told pool before more) (told pool (before ++ need.text ∷ []) more) where
   go : (b : Bool) → Told pool before (first_places before (changed pool more)) (refusal_from pool before more)
+      → Told pool (before ++ need.text ∷ []) (first_places (before ++ need.text ∷ []) (changed pool more)) (refusal_from pool (before ++ need.text ∷ []) more)
       → Told pool before (first_places before (map need_text (if b then need ∷ filter (is_changed pool) more else filter (is_changed pool) more)))
       (if b && not (list_any (same_name need.text) before)
       then first_error (refusal_at (length pool + length before + 1) need) (refusal_from pool (before ++ need.text ∷ []) more) else refusal_from pool before more)
-  go false later = later
-  go true later = known (list_any (same_name need.text) before) where
+  go false later other = later
+  go true later other = known (list_any (same_name need.text) before) where
     known : (c : Bool) → Told pool before (if c then first_places before (changed pool more) else need.text ∷ first_places (before ++ need.text ∷ []) (changed pool more))
         (if true && not c then first_error (refusal_at (length pool + length before + 1) need) (refusal_from pool (before ++ need.text ∷ []) more) else refusal_from pool before more)
     known true = later
-    known false = told_more pool before need (first_places (before ++ need.text ∷ []) (changed pool more)) (refusal_from pool (before ++ need.text ∷ []) more) (told pool (before ++ need.text ∷ []) more)
+    known false = told_more pool before need (first_places (before ++ need.text ∷ []) (changed pool more)) (refusal_from pool (before ++ need.text ∷ []) more) other
 
 -- ---- a class
 
@@ -112,17 +112,19 @@ pool_fits c texts appended valid (inl full) = (let few = valid.count in omega (a
 pool_fits c texts appended valid (inr long) = long ((all_told c.pool (desc_indexes c)).fit appended.fit)
 
 -- the constants that are made
-pub new_pool : (c : ClassFile) (descs : List ℕ) (new : Rewritten) (texts : List Name) → descs ≡ desc_indexes c → AreAppended c.pool (desc_indexes c) texts → new.pool ≡ rewritten_pool c.pool descs → IsPool new.pool
-    → new.descs ≡ renamed_descs c.pool (appended_texts c.pool descs) descs → new.first ≡ first_index c.pool (appended_texts c.pool descs) → IsNewPool c new
-new_pool c descs new texts same appended is valid descs_are first_is =
-    let own : new.pool ≡ rewritten_pool c.pool (desc_indexes c) = is ∙ ap (rewritten_pool c.pool) same in
+pub new_pool : (c : ClassFile) (indexes : List ℕ) (texts : List Name) (pool : List Constant) (descs : List ℕ) → indexes ≡ desc_indexes c → AreAppended c.pool (desc_indexes c) texts → pool ≡ rewritten_pool c.pool indexes
+    → IsPool pool → descs ≡ renamed_descs c.pool (appended_texts c.pool indexes) indexes → IsNewPool c pool descs
+new_pool c indexes texts pool descs same appended is valid descs_are =
+    let own : pool ≡ rewritten_pool c.pool (desc_indexes c) = is ∙ ap (rewritten_pool c.pool) same in
     record {
       is = own;
       valid = valid;
       descs_are = descs_are ∙ ap (λ (ds : List ℕ). renamed_descs c.pool (appended_texts c.pool ds) ds) same;
-      first_is = first_is ∙ ap (λ (ds : List ℕ). first_index c.pool (appended_texts c.pool ds)) same;
       fits = pool_fits c texts appended (subst IsPool own valid);
     }
 
-pub first_there : (c : ClassFile) (new : Rewritten) → IsNewPool c new → new.first + 25 < 2 ^ 16
-first_there c new is = subst (λ (n : ℕ). n + 25 < 2 ^ 16) (sym is.first_is) (first_fits c (subst IsPool is.is is.valid))
+pub new_first : (c : ClassFile) (indexes : List ℕ) (first : ℕ) → indexes ≡ desc_indexes c → first ≡ first_index c.pool (appended_texts c.pool indexes) → first ≡ first_of_class c
+new_first c indexes first same is = is ∙ ap (λ (ds : List ℕ). first_index c.pool (appended_texts c.pool ds)) same
+
+pub first_there : (c : ClassFile) (pool : List Constant) (descs : List ℕ) (first : ℕ) → IsNewPool c pool descs → first ≡ first_of_class c → first + 25 < 2 ^ 16
+first_there c pool descs first is same = subst (λ (n : ℕ). n + 25 < 2 ^ 16) (sym same) (first_fits c (subst IsPool is.is is.valid))

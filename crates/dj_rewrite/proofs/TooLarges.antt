@@ -18,7 +18,7 @@ pub no_lines : (program : Program) (c : ClassFile) (bytes : List ℕ) (found : L
 no_lines program c bytes found written = adds_nothing (IsTooLargeLineIn program c) found fits where
   fits : (v : Violation) → IsTooLargeLineIn program c v → ⊥
   fits v (member, inl class, is) = written.class_fits class.0
-  fits v (member, inr method, is) = written.methods_fit (method.0, method.1, method.2.0)
+  fits v (member, inr method, is) = written.methods_fit (method.0, method.1, method.2)
 
 pub lines_told : (program : Program) (c : ClassFile) (texts : List Name) (old new : List Violation) → AreTooLarge program c texts → Adds (IsLineAmong (λ member v. v ≡ line_of c member) texts) old new
     → Adds (IsTooLargeLineIn program c) old new

@@ -7,10 +7,9 @@ use Rattle.dj_pool.specs.trusted.Pool.{Constant, IsPool}
 use Rattle.dj_class.specs.trusted.ClassFile.{MemberInfo, ClassFile}
 use Rattle.dj_model.specs.trusted.Program.{Program}
 use Rattle.dj_program.specs.trusted.Programs.{AreSideBySide}
-use Rattle.dj_rename.specs.declared.rewritten.Rewritten.{Rewritten}
 use Rattle.dj_rename.specs.Pools.{appended_texts, renamed_descs, rewritten_pool}
 use Rattle.dj_rewritten.specs.Files.{desc_indexes}
-use Rattle.dj_rewritten.specs.TooLarge.{first_of_class, HasLargePool, IsTooLargeMethod, HasLargeMethod, IsTooLargeClass}
+use Rattle.dj_rewritten.specs.TooLarge.{HasLargePool, IsTooLargeMethod, HasLargeMethod, IsTooLargeClass}
 use Rattle.dj_rewrite.specs.declared.answers.MethodAnswer.{MethodAnswer}
 use Rattle.dj_rewrite.specs.declared.answers.MethodAnswer.TheVariants as answers
 use Rattle.dj_rewrite.specs.declared.least.Part.{Part}
@@ -23,11 +22,10 @@ use Rattle.dj_rewrite.specs.Sets.{IsFileOf, part_cmp, IsTooLargePart, IsLeastToo
 -- ---- the parts of a rewritten file
 
 -- the constants fit, and these are they, with the new indexes of the members' descriptors
-pub record IsNewPool (c : ClassFile) (new : Rewritten) : Type 0 where
-  pub is : new.pool ≡ rewritten_pool c.pool (desc_indexes c)
-  pub valid : IsPool new.pool
-  pub descs_are : new.descs ≡ renamed_descs c.pool (appended_texts c.pool (desc_indexes c)) (desc_indexes c)
-  pub first_is : new.first ≡ first_of_class c
+pub record IsNewPool (c : ClassFile) (pool : List Constant) (descs : List ℕ) : Type 0 where
+  pub is : pool ≡ rewritten_pool c.pool (desc_indexes c)
+  pub valid : IsPool pool
+  pub descs_are : descs ≡ renamed_descs c.pool (appended_texts c.pool (desc_indexes c)) (desc_indexes c)
   pub fits : HasLargePool c → ⊥
 
 abbrev pub new_file : ClassFile → List Constant → List ℕ → List MethodAnswer → ClassFile
@@ -85,13 +83,13 @@ abbrev pub lesser_text : Name → Name → Name
 lesser_text a b = if is_lt (slice_cmp nat_cmp b a) then b else a
 
 -- one of the texts, and none of those before the place is less
-pub record IsLeastUpTo (texts : List Name) (place : ℕ) (least : Name) : Type 0 where
-  pub there : Contains texts least
-  pub least : (other : Name) → Contains (take place texts) other → IsFalse (is_gt (slice_cmp nat_cmp least other))
+pub record IsLeastUpTo (texts : List Name) (place : ℕ) (text : Name) : Type 0 where
+  pub there : Contains texts text
+  pub least : (other : Name) → Contains (take place texts) other → IsFalse (is_gt (slice_cmp nat_cmp text other))
 
-pub record IsLeastText (texts : List Name) (least : Name) : Type 0 where
-  pub there : Contains texts least
-  pub least : (other : Name) → Contains texts other → IsFalse (is_gt (slice_cmp nat_cmp least other))
+pub record IsLeastText (texts : List Name) (text : Name) : Type 0 where
+  pub there : Contains texts text
+  pub least : (other : Name) → Contains texts other → IsFalse (is_gt (slice_cmp nat_cmp text other))
 
 pub record IsLeastPart (class : Name) (texts : List Name) (part : Part) : Type 0 where
   pub class_is : part.class ≡ class

@@ -6,7 +6,7 @@ ghost use Rattle.dj_model.specs.trusted.Program.{Program};
 ghost use Rattle.dj_image.specs.Imaged.{program_of};
 ghost use Rattle.dj_rename.specs.Refusals.{AreAppended};
 ghost use Rattle.dj_rewritten.specs.Files.{desc_indexes};
-ghost use Rattle.dj_rewritten.specs.TooLarge.{HasLargePool};
+ghost use Rattle.dj_rewritten.specs.TooLarge.{first_of_class, HasLargePool};
 ghost use Rattle.dj_rewrite.specs.Answers.{AnswersFile, AreAnswers, HasLarge, IsKnownClass};
 ghost use Rattle.dj_rewrite.specs.Steps.{IsNewPool, new_file};
 
@@ -17,7 +17,7 @@ use crate::members::{fields_with, methods_with};
 use dj_class::{Attributes, ClassView};
 use dj_image::Image;
 use dj_names::{Bytes, Name};
-use dj_pool::Indexes;
+use dj_pool::{Indexes, Pool};
 use dj_rename::{RenameError, Rewritten, Texts, rename_texts, rewrite_pool};
 use dj_write::write_class;
 use std::alloc::{AllocError, Global};
@@ -49,16 +49,16 @@ fn copied(alloc: Global, indexes: &Indexes) -> Result<Indexes, AllocError>
 fn new_view<'a>(
     alloc: Global,
     view: &ClassView<'a>,
-    new: Rewritten<'a>,
+    pool: Pool<'a>,
+    descs: &[u16],
     answers: &'a [MethodAnswer],
 ) -> Result<ClassView<'a>, AllocError>
-    requires descs { length new.entry.descs ≡ length (class_of view.now).fields + length (class_of view.now).methods }
+    requires descs { length descs.now ≡ length (class_of view.now).fields + length (class_of view.now).methods }
     requires answers { length answers.now ≡ length (class_of view.now).methods }
-    ensures { IfOk result (λ made. class_of made ≡ new_file (class_of view.now) new.entry.pool new.entry.descs answers.now) }
+    ensures { IfOk result (λ made. class_of made ≡ new_file (class_of view.now) pool.entry descs.now answers.now) }
 {
     let fields = view.fields.as_slice();
     let methods = view.methods.as_slice();
-    let descs = new.descs.as_slice();
     let (of_fields, of_methods) = descs.split_at(fields.len());
     let new_interfaces = copied(alloc, &view.interfaces)?;
     let new_fields = fields_with(alloc, &view.pool, fields, of_fields)?;
@@ -74,7 +74,7 @@ fn new_view<'a>(
         fields: new_fields,
         methods: new_methods,
         attributes: no_attributes,
-        pool: new.pool,
+        pool,
     })
 }
 
@@ -82,14 +82,15 @@ fn new_view<'a>(
 fn new_bytes(
     alloc: Global,
     view: &ClassView<'_>,
-    new: Rewritten<'_>,
+    pool: Pool<'_>,
+    descs: &[u16],
     answers: &[MethodAnswer],
 ) -> Result<Bytes, AllocError>
-    requires descs { length new.entry.descs ≡ length (class_of view.now).fields + length (class_of view.now).methods }
+    requires descs { length descs.now ≡ length (class_of view.now).fields + length (class_of view.now).methods }
     requires answers { length answers.now ≡ length (class_of view.now).methods }
-    ensures { IfOk result (λ bytes. bytes ≡ class_bytes (new_file (class_of view.now) new.entry.pool new.entry.descs answers.now)) }
+    ensures { IfOk result (λ bytes. bytes ≡ class_bytes (new_file (class_of view.now) pool.entry descs.now answers.now)) }
 {
-    let made = new_view(alloc, view, new, answers)?;
+    let made = new_view(alloc, view, pool, descs, answers)?;
     write_class(alloc, &made).or(Err(AllocError))
 }
 
@@ -97,16 +98,17 @@ fn new_bytes(
 fn written(
     alloc: Global,
     view: &ClassView<'_>,
-    new: Rewritten<'_>,
+    pool: Pool<'_>,
+    descs: &[u16],
     answers: &[MethodAnswer],
 ) -> Result<FileAnswer, AllocError>
     requires valid { IsValid (class_of view.now) }
     requires answers { length answers.now ≡ length (class_of view.now).methods }
-    requires pool { IsNewPool (class_of view.now) new.entry }
+    requires pool { IsNewPool (class_of view.now) pool descs.now }
     requires fit { HasLarge answers.now → ⊥ }
-    ensures { (program : Program) → IsKnownClass program (class_of view.now) → AreAnswers program (class_of view.now).pool new.entry.first (class_of view.now).methods answers.now → IfOk result (AnswersFile program (class_of view.now)) }
+    ensures { (program : Program) → IsKnownClass program (class_of view.now) → AreAnswers program (class_of view.now).pool (first_of_class (class_of view.now)) (class_of view.now).methods answers.now → IfOk result (AnswersFile program (class_of view.now)) }
 {
-    let bytes = new_bytes(alloc, view, new, answers)?;
+    let bytes = new_bytes(alloc, view, pool, descs, answers)?;
     let size = bytes.as_slice().len();
     if size > MOST_BYTES {
         let texts = large_texts(alloc, view, true, answers)?;
@@ -123,16 +125,18 @@ fn with_pool(
     new: Rewritten<'_>,
 ) -> Result<FileAnswer, AllocError>
     requires known { IsKnownClass (program_of image.now) (class_of view.now) }
-    requires pool { IsNewPool (class_of view.now) new.entry }
+    requires pool { IsNewPool (class_of view.now) new.pool new.descs }
+    requires first { new.first ≡ first_of_class (class_of view.now) }
     ensures { IfOk result (AnswersFile (program_of image.now) (class_of view.now)) }
 {
-    let answers = answer_methods(alloc, image, view, new.first)?;
+    let Rewritten { pool, descs, first } = new;
+    let answers = answer_methods(alloc, image, view, first)?;
     let made = answers.as_slice();
     if has_large(made) {
         let texts = large_texts(alloc, view, false, made)?;
         return Ok(FileAnswer::TooLarge(texts));
     }
-    written(alloc, view, new, made)
+    written(alloc, view, pool, descs.as_slice(), made)
 }
 
 // A class whose constants are too large: its methods are told all the same. Where the accounter's constants would begin makes no difference to their sizes.

@@ -48,7 +48,7 @@ fn is_before(a: &Part, b: &Part) -> bool
 
 /// The lesser of the two, where there are two.
 pub(crate) fn lesser(before: Option<Part>, part: Part) -> Part
-    ensures { result ≡ lesser_of before.entry part.entry }
+    ensures { result ≡ lesser_of before part }
 {
     let Some(least) = before else {
         return part;

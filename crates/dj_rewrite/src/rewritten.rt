@@ -32,7 +32,7 @@ impl Model for Rewritten {
 impl Rewritten {
     /// The files, put in order.
     pub(crate) fn in_order(mut items: Vec<RewrittenFile>) -> Rewritten
-        ensures moved { IsPermutation items.entry.items result }
+        ensures moved { IsPermutation items.items result }
         ensures in_order { IsSorted file_cmp result }
     {
         items.sort_unstable_by(|a, b| a.name.as_slice().cmp(b.name.as_slice()));

@@ -51,7 +51,7 @@ fn with_file(
     view: &ClassView<'_>,
     bytes: Bytes,
 ) -> Result<Progress, AllocError>
-    ensures { IfOk result (λ now. (program : Program) (done : List ClassFile) → WritesFile program (class_of view.now) bytes.entry → IsProgress program done before.entry → IsProgress program (done ++ class_of view.now ∷ []) now) }
+    ensures { IfOk result (λ now. (program : Program) (done : List ClassFile) → WritesFile program (class_of view.now) bytes → IsProgress program done before → IsProgress program (done ++ class_of view.now ∷ []) now) }
 {
     let Progress { mut files, least } = before;
     let name = name_of(alloc, view)?;
@@ -67,7 +67,7 @@ fn with_large(
     members: &[Name],
 ) -> Result<Progress, AllocError>
     requires { 0 < length members.now }
-    ensures { IfOk result (λ now. (program : Program) (done : List ClassFile) → AreTooLarge program (class_of view.now) members.now → IsProgress program done before.entry → IsProgress program (done ++ class_of view.now ∷ []) now) }
+    ensures { IfOk result (λ now. (program : Program) (done : List ClassFile) → AreTooLarge program (class_of view.now) members.now → IsProgress program done before → IsProgress program (done ++ class_of view.now ∷ []) now) }
 {
     let Progress { files, least } = before;
     let part = least_part(alloc, view, members)?;
@@ -86,7 +86,7 @@ fn advanced(
     view: &ClassView<'_>,
 ) -> Result<Progress, AllocError>
     requires { IsKnownClass (program_of image.now) (class_of view.now) }
-    ensures { IfOk result (λ now. (done : List ClassFile) → IsProgress (program_of image.now) done before.entry → IsProgress (program_of image.now) (done ++ class_of view.now ∷ []) now) }
+    ensures { IfOk result (λ now. (done : List ClassFile) → IsProgress (program_of image.now) done before → IsProgress (program_of image.now) (done ++ class_of view.now ∷ []) now) }
 {
     let answer = rewrite_file(alloc, image, view)?;
     match answer {

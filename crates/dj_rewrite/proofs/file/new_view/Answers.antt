@@ -8,8 +8,7 @@ use Rattle.dj_rewrite.proofs.file.new_view.Goals as goal
 pub split_at-requires : goal.split_at-requires
 split_at-requires c =
     let fields = count_of c.as_slice-fields.result.now c.args.view.now.fields c.as_slice-fields.ensures in
-    let same = ap length c.as_slice-descs.ensures in
-    omega (arith, fields, same)
+    omega (arith, fields)
 
 pub fields_with-requires : goal.fields_with-requires
 fields_with-requires c = omega arith
@@ -21,20 +20,19 @@ pub methods_with-requires-clause-descs : goal.methods_with-requires-clause-descs
 methods_with-requires-clause-descs c =
     let fields = count_of c.as_slice-fields.result.now c.args.view.now.fields c.as_slice-fields.ensures in
     let methods = count_of c.as_slice-methods.result.now c.args.view.now.methods c.as_slice-methods.ensures in
-    let same = ap length c.as_slice-descs.ensures in
-    omega (arith, fields, methods, same)
+    omega (arith, fields, methods)
 
 pub returns : goal.returns
 returns c =
-    let count : c.len.result ≡ length c.args.view.now.fields = c.len.ensures ∙ count_of c.as_slice-fields.result.now c.args.view.now.fields c.as_slice-fields.ensures in
-    let front : c.split_at.result.0.now ≡ take (length c.args.view.now.fields) c.args.new.descs = c.split_at.ensures.front ∙ ap₂ (λ (n : ℕ) (ds : List ℕ). take n ds) count c.as_slice-descs.ensures in
-    let back : c.split_at.result.1.now ≡ drop (length c.args.view.now.fields) c.args.new.descs = c.split_at.ensures.back ∙ ap₂ (λ (n : ℕ) (ds : List ℕ). drop n ds) count c.as_slice-descs.ensures in
+    let count = count_of c.as_slice-fields.result.now c.args.view.now.fields c.as_slice-fields.ensures in
+    let front : c.split_at.result.0.now ≡ take (length c.args.view.now.fields) c.args.descs.now = c.split_at.ensures.front ∙ ap (λ (n : ℕ). take n c.args.descs.now) count in
+    let back : c.split_at.result.1.now ≡ drop (length c.args.view.now.fields) c.args.descs.now = c.split_at.ensures.back ∙ ap (λ (n : ℕ). drop n c.args.descs.now) count in
     let fields = c.in_ok-new_fields.ensures ∙ ap₂ (λ (fs : List MemberInfo) (ds : List ℕ). fields_with c.args.view.now.pool fs ds) c.as_slice-fields.ensures front in
     let methods = c.in_ok-new_methods.ensures ∙ ap₂ (λ (ms : List MemberInfo) (ds : List ℕ). methods_with ms c.args.answers.now ds) c.as_slice-methods.ensures back in
     λ i. record {
       minor = c.args.view.now.minor;
       major = c.args.view.now.major;
-      pool = c.args.new.pool;
+      pool = c.args.pool;
       flags = c.args.view.now.flags;
       this_class = c.args.view.now.this_class;
       super_class = c.args.view.now.super_class;

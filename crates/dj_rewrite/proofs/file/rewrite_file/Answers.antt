@@ -15,17 +15,17 @@ with_texts-requires-clause-descs c = c.as_slice-descs.ensures.value ∙ c.in_ok-
 
 pub with_texts-requires-clause-texts : goal.with_texts-requires-clause-texts
 with_texts-requires-clause-texts c =
-    subst (λ (ds : List ℕ). AreAppended c.args.view.now.pool ds c.in-Ok.texts) (c.as_slice-descs.ensures.value ∙ c.in_ok-indexes.ensures) c.in-Ok.ensures
+    subst (λ (ds : List ℕ). AreAppended c.args.view.now.pool ds c.in-Ok.texts) (c.as_slice-descs.ensures.value ∙ c.in_ok-indexes.ensures) c.in-Ok.ensures.ok
 
 pub large_pool-requires-clause-large : goal.large_pool-requires-clause-large
 large_pool-requires-clause-large c =
-    let told : refusal c.args.view.now.pool c.as_slice-descs.result.now ≡ Some errors.Full = subst (RefusesTexts c.args.view.now.pool c.as_slice-descs.result.now) c.in-Err-Full.field-0-is c.in-Err-Full.ensures in
+    let told : refusal c.args.view.now.pool c.as_slice-descs.result.now ≡ Some errors.Full = subst (RefusesTexts c.args.view.now.pool c.as_slice-descs.result.now) c.in-Err-Full.field-0-is c.in-Err-Full.ensures.err in
     refused_large (class_of c.args.view.now) errors.Full (λ e. absurd cc)
     (subst (λ (ds : List ℕ). refusal c.args.view.now.pool ds ≡ Some errors.Full) (c.as_slice-descs.ensures.value ∙ c.in_ok-indexes.ensures) told)
 
 pub large_pool-requires-in-Err-Long-clause-large : goal.large_pool-requires-in-Err-Long-clause-large
 large_pool-requires-in-Err-Long-clause-large c =
     let told : refusal c.args.view.now.pool c.as_slice-descs.result.now ≡ Some (errors.Long c.in-Err-Long.field-0-0) =
-    subst (RefusesTexts c.args.view.now.pool c.as_slice-descs.result.now) c.in-Err-Long.field-0-is c.in-Err-Long.ensures in
+    subst (RefusesTexts c.args.view.now.pool c.as_slice-descs.result.now) c.in-Err-Long.field-0-is c.in-Err-Long.ensures.err in
     refused_large (class_of c.args.view.now) (errors.Long c.in-Err-Long.field-0-0) (λ e. absurd cc)
     (subst (λ (ds : List ℕ). refusal c.args.view.now.pool ds ≡ Some (errors.Long c.in-Err-Long.field-0-0)) (c.as_slice-descs.ensures.value ∙ c.in_ok-indexes.ensures) told)

@@ -8,5 +8,5 @@ returns-then-not-is_large c = none_added c.args.pool.now (member_of c.args.metho
 
 pub returns : goal.returns
 returns c =
-    text_added c.args.pool.now (member_of c.args.method.now) c.args.answer.now c.args.texts.now.items c.push.new.texts.items c.in_ok-text.text (sym c.is_large.ensures ∙ c.if-not-is_large.false)
+    text_added c.args.pool.now (member_of c.args.method.now) c.args.answer.now c.args.texts.now.items c.push.new.self.items c.in_ok-text.text (sym c.is_large.ensures ∙ c.if-not-is_large.false)
     c.in_ok-text.ensures c.in_ok-push.ensures.items

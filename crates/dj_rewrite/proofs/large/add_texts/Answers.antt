@@ -15,20 +15,20 @@ bounds-answers-i c =
 
 pub add_text-requires-clause-name : goal.add_text-requires-clause-name
 add_text-requires-clause-name c =
-    text_there IsMethodName c.args.view.now.pool (member_of c.index-method-items-i.result).name
-    (at_member (IsMethod c.args.view.now.pool) c.as_slice-method-items.result.now c.args.view.now.methods c.loop-i.i c.index-method-items-i.result c.as_slice-method-items.ensures
-    c.requires.valid.methods c.loop-i-test.true c.index-method-items-i.is).name
+    text_there IsMethodName c.args.view.now.pool (member_of c.method-item.result).name
+    (at_member (IsMethod c.args.view.now.pool) c.as_slice-method-items.result.now c.args.view.now.methods c.loop-i.i c.method-item.result c.as_slice-method-items.ensures
+    c.requires.valid.methods c.loop-i-test.true c.method-item.is).name
 
 pub add_text-requires-clause-desc : goal.add_text-requires-clause-desc
 add_text-requires-clause-desc c =
-    text_there IsMethodDescriptor c.args.view.now.pool (member_of c.index-method-items-i.result).desc
-    (at_member (IsMethod c.args.view.now.pool) c.as_slice-method-items.result.now c.args.view.now.methods c.loop-i.i c.index-method-items-i.result c.as_slice-method-items.ensures
-    c.requires.valid.methods c.loop-i-test.true c.index-method-items-i.is).desc
+    text_there IsMethodDescriptor c.args.view.now.pool (member_of c.method-item.result).desc
+    (at_member (IsMethod c.args.view.now.pool) c.as_slice-method-items.result.now c.args.view.now.methods c.loop-i.i c.method-item.result c.as_slice-method-items.ensures
+    c.requires.valid.methods c.loop-i-test.true c.method-item.is).desc
 
 pub loop-i-preserved : goal.loop-i-preserved
 loop-i-preserved c =
-    texts_more (class_of c.args.view.now) c.args.answers.now c.as_slice-method-items.result.now c.as_slice-method-items.ensures c.requires.answers c.loop-i.i c.index-method-items-i.result c.index-answers-i.result
-    c.args.texts.now.items c.loop-i.texts.items c.add_text.new.texts.items c.loop-i-test.true c.index-method-items-i.is c.index-answers-i.is c.loop-i.invariant c.in_ok-add_text.ensures
+    texts_more (class_of c.args.view.now) c.args.answers.now c.as_slice-method-items.result.now c.as_slice-method-items.ensures c.requires.answers c.loop-i.i c.method-item.result c.index-answers-i.result
+    c.args.texts.now.items c.loop-i.texts.items c.add_text.new.texts.items c.loop-i-test.true c.method-item.is c.index-answers-i.is c.loop-i.invariant c.in_ok-add_text.ensures
 
 pub returns : goal.returns
 returns c =

@@ -14,8 +14,8 @@ returns-in-Written c =
     no_lines (program_of c.args.image.now) (class_of c.args.view.now) c.in-Written.field-0 c.args.found.now.items
     (subst (AnswersFile (program_of c.args.image.now) (class_of c.args.view.now)) c.in-Written.is c.in_ok-answer.ensures)
 
-pub returns-in-TooLarge : goal.returns-in-TooLarge
-returns-in-TooLarge c =
+pub returns : goal.returns
+returns c =
     let program = program_of c.args.image.now in
     let file = class_of c.args.view.now in
     let large = subst (AnswersFile program file) c.in-TooLarge.is c.in_ok-answer.ensures in

@@ -16,8 +16,8 @@ with_large-requires c =
     let large = subst (AnswersFile (program_of c.args.image.now) (class_of c.args.view.now)) c.in-TooLarge.is c.in_ok-answer.ensures in
     subst (λ (members : List Name). 0 < length members) c.deref.ensures.value large.some
 
-pub returns-in-TooLarge : goal.returns-in-TooLarge
-returns-in-TooLarge c =
+pub returns : goal.returns
+returns c =
     let large = subst (AnswersFile (program_of c.args.image.now) (class_of c.args.view.now)) c.in-TooLarge.is c.in_ok-answer.ensures in
     let told : AreTooLarge (program_of c.args.image.now) (class_of c.args.view.now) c.deref.result.now =
     subst (AreTooLarge (program_of c.args.image.now) (class_of c.args.view.now)) c.deref.ensures.value large in

@@ -18,8 +18,8 @@ returns-in-None c =
     (progress_all (program_of c.args.image.now) c.args.views.now c.loop-view.view-index c.loop-view.progress c.loop-view-test.false c.loop-view.invariant)
     c.in-None.is c.in_order.ensures.moved c.in_order.ensures.in_order
 
-pub returns-in-Some : goal.returns-in-Some
-returns-in-Some c =
+pub returns : goal.returns
+returns c =
     set_large (program_of c.args.image.now) (map class_of c.args.views.now) c.loop-view.progress _
     (progress_all (program_of c.args.image.now) c.args.views.now c.loop-view.view-index c.loop-view.progress c.loop-view-test.false c.loop-view.invariant)
     c.in-Some.is
