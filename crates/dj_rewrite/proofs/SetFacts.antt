@@ -3,19 +3,16 @@ use Rattle.std.proofs.Common.{◌≡◌, ℕ, zero, suc, List, [], ◌∷◌, No
 use Rattle.std.specs.declared.cmp.Ordering.TheVariants.{Less, Greater}
 use Rattle.std.proofs.lemmas.List.Sorted.{Contains-permutation, IsPermutation-refl}
 use Rattle.dj_names.specs.trusted.Types.{Name}
-use Rattle.dj_names.specs.trusted.Tests.{units_read}
-use Rattle.dj_names.specs.trusted.UnitReading.{unit_read, two_read, long_read}
 use Rattle.dj_pool.specs.trusted.Pool.{Constant, Utf8, Class}
 use Rattle.dj_class.specs.trusted.ClassFile.{MemberInfo, ClassFile}
 use Rattle.dj_report.proofs.Sorted.{contains_first, contains_later, contains_none}
 use Rattle.dj_report.specs.declared.report.Violation.{Violation}
 use Rattle.dj_model.specs.trusted.Program.{Program}
-use Rattle.dj_program.specs.trusted.Naming.{units_in}
 use Rattle.dj_program.specs.trusted.Programs.{AreSideBySide}
 use Rattle.dj_rewritten.specs.TooLarge.{IsTooLargeClass}
 use Rattle.dj_rewrite.specs.declared.rewritten.RewrittenFile.{RewrittenFile}
 use Rattle.dj_rewrite.specs.Answers.{IsKnownClass, AreTooLarge, WritesFile}
-use Rattle.dj_rewrite.specs.Rule.{member_text, line_of, IsTooLargeLine}
+use Rattle.dj_rewrite.specs.Rule.{member_text, file_path, line_of, IsTooLargeLine}
 use Rattle.dj_rewrite.specs.Sets.{file_cmp, IsFileOf, AreRewritten, part_cmp, IsTooLargePart, IsLeastTooLarge}
 
 -- ---- texts and lines
@@ -44,28 +41,21 @@ named name = record {
 abbrev line_in : List ℕ → List ℕ → Violation
 line_in path member = record { path = path; member = member; number = None; rule = 21 }
 
-line_of_class : line_of (named (codes "p/A")) [] ≡ line_in (codes "p/A.class") []
-unfolding units_in units_read unit_read long_read two_read
+line_of_class : line_of (named (codes "p/A")) [] ≡ line_in (file_path (codes "p/A")) []
 line_of_class = refl
 
-line_of_member : line_of (named (codes "p/A")) (codes "m()V") ≡ line_in (codes "p/A.class") (codes "m()V")
-unfolding units_in units_read unit_read long_read two_read
+line_of_member : line_of (named (codes "p/A")) (codes "m()V") ≡ line_in (file_path (codes "p/A")) (codes "m()V")
 line_of_member = refl
 
--- the three bytes of U+20AC
-euro : line_of (named (226 ∷ 130 ∷ 172 ∷ [])) [] ≡ line_in (226 ∷ 130 ∷ 172 ∷ codes ".class") []
-unfolding units_in units_read unit_read long_read two_read
-euro = refl
-
 large_class : (program : Program) (c : ClassFile) → IsTooLargeClass program c → IsTooLargeLine program (c ∷ []) (line_of c [])
-large_class program c large = (c, contains_first c [], [], inl (large, refl), refl)
+large_class program c large = (c, contains_first c [], ([], inl (large, refl), refl))
 
 no_class : (program : Program) (v : Violation) → IsTooLargeLine program [] v → ⊥
 no_class program v line = contains_none line.0 line.1
 
 -- rule 20 has another number
 other_rule : (program : Program) (files : List ClassFile) → IsTooLargeLine program files (record { path = codes "A.class"; member = []; number = None; rule = 20 }) → ⊥
-other_rule program files (c, there, member, large, is) = absurd (let same : 20 ≡ 21 = cc in omega (arith, same))
+other_rule program files (c, there, (member, large, is)) = absurd (let same : 20 ≡ 21 = cc in omega (arith, same))
 
 -- ---- one class
 

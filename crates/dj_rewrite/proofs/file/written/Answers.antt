@@ -17,7 +17,7 @@ returns-then-size-gt-MOST_BYTES c = λ program known each.
     let made = c.args.answers.now in
     let d = new_file file c.args.pool c.args.descs.now made in
     let is = file_rewritten program file known c.args.pool c.args.descs.now c.requires.pool made each c.requires.fit in
-    let size = ap length c.as_slice.ensures ∙ ap length c.in_ok-bytes.ensures in
+    let size = ap length c.as_slice-size.ensures ∙ ap length c.in_ok-bytes.ensures in
     let past : 67108864 < length (class_bytes d) = omega (arith, size) in
     c.in_ok-texts.ensures program (told_large program file known d (first_of_class file) made c.requires.pool.fits is past each c.requires.fit)
 
@@ -27,6 +27,6 @@ returns c = λ program known each.
     let made = c.args.answers.now in
     let d = new_file file c.args.pool c.args.descs.now made in
     let is = file_rewritten program file known c.args.pool c.args.descs.now c.requires.pool made each c.requires.fit in
-    let size = ap length c.as_slice.ensures ∙ ap length c.in_ok-bytes.ensures in
+    let size = ap length c.as_slice-size.ensures ∙ ap length c.in_ok-bytes.ensures in
     let small : length (class_bytes d) ≤ 67108864 = omega (arith, size) in
     subst (WritesFile program file) (sym c.in_ok-bytes.ensures) (written_file program file known d c.requires.pool.fits (no_large program file known (first_of_class file) made each c.requires.fit) is small)

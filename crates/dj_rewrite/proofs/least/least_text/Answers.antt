@@ -6,7 +6,7 @@ loop-text-init c = least_first c.args.texts.now c.index-texts-0.result c.require
 
 pub loop-text-preserved : goal.loop-text-preserved
 loop-text-preserved c =
-    least_next c.args.texts.now c.loop-text.text-index c.text-item.result c.loop-text.least.now c.lesser_text.result.now c.loop-text-test.true c.text-item.is c.lesser_text.ensures c.loop-text.invariant
+    least_next c.args.texts.now c.loop-text.text-index c.text-item.result c.loop-text.least.now c.lesser_text-least.result.now c.loop-text-test.true c.text-item.is c.lesser_text-least.ensures c.loop-text.invariant
 
 pub returns : goal.returns
 returns c = least_end c.args.texts.now c.loop-text.text-index c.loop-text.least.now c.loop-text-test.false c.loop-text.invariant

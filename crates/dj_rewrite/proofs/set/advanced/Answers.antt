@@ -1,4 +1,4 @@
-use Rattle.std.proofs.Common.{◌<◌, List, length, subst}
+use Rattle.std.proofs.Common.{◌<◌, List, length, sym, subst}
 use Rattle.std.proofs.lemmas.Result.{IfOk-weaker}
 use Rattle.dj_names.specs.trusted.Types.{Name}
 use Rattle.dj_class.specs.Views.{class_of}
@@ -14,11 +14,11 @@ returns-in-Written c =
 pub with_large-requires : goal.with_large-requires
 with_large-requires c =
     let large = subst (AnswersFile (program_of c.args.image.now) (class_of c.args.view.now)) c.in-TooLarge.is c.in_ok-answer.ensures in
-    subst (λ (members : List Name). 0 < length members) c.deref.ensures.value large.some
+    subst (λ (members : List Name). 0 < length members) (sym c.deref.ensures.value) large.some
 
-pub returns : goal.returns
-returns c =
+pub returns-in-TooLarge : goal.returns-in-TooLarge
+returns-in-TooLarge c =
     let large = subst (AnswersFile (program_of c.args.image.now) (class_of c.args.view.now)) c.in-TooLarge.is c.in_ok-answer.ensures in
     let told : AreTooLarge (program_of c.args.image.now) (class_of c.args.view.now) c.deref.result.now =
-    subst (AreTooLarge (program_of c.args.image.now) (class_of c.args.view.now)) c.deref.ensures.value large in
+    subst (AreTooLarge (program_of c.args.image.now) (class_of c.args.view.now)) (sym c.deref.ensures.value) large in
     IfOk-weaker c.with_large.result _ _ (λ now advances done is. advances (program_of c.args.image.now) done told is) c.with_large.ensures
