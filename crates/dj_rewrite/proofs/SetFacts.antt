@@ -1,5 +1,5 @@
 -- Lines of rule 21, what is least, and the order of files, by plain values.
-use Rattle.std.proofs.Common.{◌≡◌, ℕ, zero, suc, List, [], ◌∷◌, None, refl, arith, inl, codes, Contains, IsSorted}
+use Rattle.std.proofs.Common.{◌≡◌, ℕ, zero, suc, List, [], ◌∷◌, None, refl, ap, arith, inl, codes, Contains, IsSorted}
 use Rattle.std.specs.declared.cmp.Ordering.TheVariants.{Less, Greater}
 use Rattle.std.proofs.lemmas.List.Sorted.{Contains-permutation, IsPermutation-refl}
 use Rattle.dj_names.specs.trusted.Types.{Name}
@@ -55,7 +55,7 @@ no_class program v line = contains_none line.0 line.1
 
 -- rule 20 has another number
 other_rule : (program : Program) (files : List ClassFile) → IsTooLargeLine program files (record { path = codes "A.class"; member = []; number = None; rule = 20 }) → ⊥
-other_rule program files (c, there, (member, large, is)) = absurd (let same : 20 ≡ 21 = cc in omega (arith, same))
+other_rule program files (c, there, (member, large, is)) = absurd (omega (arith, ap (λ (v : Violation). v.rule) is))
 
 -- ---- one class
 
