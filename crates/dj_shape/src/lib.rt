@@ -6,4 +6,5 @@ mod paths;
 mod shaped;
 
 pub use dj_shape_rule::ShapeError;
+pub use paths::{class_path, joined};
 pub use shaped::shape;

@@ -1,0 +1,5 @@
+pub mod Answers
+pub mod Members
+pub mod Rule
+pub mod Sets
+pub mod Steps
