@@ -1,5 +1,5 @@
 -- Members of a rewritten class file, and the size of a file.
-use Rattle.std.proofs.Common.{◌≡◌, ℕ, ◌<◌, List, [], ◌∷◌, map, length, refl, ap, arith, codes}
+use Rattle.std.proofs.Common.{◌≡◌, ℕ, List, [], ◌∷◌, length, refl, ap, arith, codes}
 use Rattle.dj_names.specs.trusted.NameReading.{reads_class_name}
 use Rattle.dj_names.specs.trusted.DescReading.{desc_read, method_read, params_read, type_read, dims_read, of_read, class_read, name_read, return_read, field_read}
 use Rattle.dj_pool.specs.trusted.Pool.{Constant, Utf8}
@@ -68,7 +68,7 @@ methods_first e = absurd cc
 
 -- a file of 67,108,865 bytes is too large, where nothing else is; one of a byte less isn't
 large_file : (c d : ClassFile) → (HasLargePool c → ⊥) → (HasLargeMethod [] c → ⊥) → IsRewrittenFile [] c d → length (class_bytes d) ≡ 67108865 → IsLargeFile [] c
-large_file c d pool methods is bytes = record { pool = pool; methods = methods; file = d; rewritten = is; past = rw bytes (omega arith) }
+large_file c d pool methods is bytes = record { pool = pool; methods = methods; file = d; rewritten = is; past = omega (arith, bytes) }
 
 greatest_file : (c : ClassFile) (is : IsLargeFile [] c) → length (class_bytes is.file) ≡ 67108864 → ⊥
 greatest_file c is bytes = absurd (omega (arith, bytes, is.past))

@@ -25,7 +25,7 @@ use Rattle.dj_rewritten.specs.Files.{IsRewrittenCode}
 use Rattle.dj_rewritten.specs.TooLarge.{DoesNotFit}
 use Rattle.dj_rewrite_code.specs.declared.error.CodeError.TheVariants as errors
 use Rattle.dj_rewrite_code.specs.declared.method.CodeBody.{CodeBody}
-use Rattle.dj_rewrite_code.specs.Answers.{CanRewrite, RewritesMethod, HasLargeCode, IsKnownMethod}
+use Rattle.dj_rewrite_code.specs.Answers.{CanRewrite, RewritesMethod, IsKnownMethod}
 use Rattle.dj_rewrite_facts.proofs.StepFacts.{plain, one_return, no_big_object, has_room}
 
 abbrev names : List Constant
@@ -47,7 +47,7 @@ method info = record { flags = 33; name = 1; desc = 2; attributes = record { nam
 abbrev abstract_method : List AttributeInfo → MemberInfo
 abstract_method attributes = record { flags = 1025; name = 1; desc = 2; attributes = attributes }
 
-own_code : (stack : ℕ) → stack < 2 ^ 16 → IsMethodCode names (method (returning stack variables)) (returns stack)
+abbrev own_code : (stack : ℕ) → stack < 2 ^ 16 → IsMethodCode names (method (returning stack variables)) (returns stack)
 unfolding form_of
 own_code stack short = record {
   info = returning stack variables;
@@ -155,11 +155,15 @@ stack_as_it_was has =
     let e : 2 ≡ 4 = ap (λ (a : AttributeInfo). get_or a.body 1 0) b.is ∙ ap (λ (n : ℕ). get_or (u2 n) 1 0) four in
     absurd (omega (arith, e))
 
+abbrev first_name : List AttributeInfo → ℕ
+first_name [] = 0
+first_name (a ∷ more) = a.name
+
 -- the attribute keeps its name
 other_name : RewritesMethod [] names 4 (method (returning 2 variables)) (Ok (Some (record { name = 3; body = code_info_bytes (returning 4 []) }))) → ⊥
 other_name has =
     let e : 3 ≡ has.attribute.name = ap (λ (a : AttributeInfo). a.name) has.body.is in
-    let f : 1 ≡ has.attribute.name = cc in
+    let f : 1 ≡ has.attribute.name = ap first_name has.one in
     absurd (omega (arith, e, f))
 
 code_left_out : RewritesMethod [] names 4 (method (returning 2 variables)) (Ok None) → ⊥

@@ -1,5 +1,5 @@
 -- The constants of rewritten classes: the accounter's, whether they are there, and the order of texts.
-use Rattle.std.proofs.Common.{◌≡◌, ℕ, ◌+◌, ◌≤◌, ◌<◌, List, [], ◌∷◌, ◌++◌, map, length, length-append, Some, None, refl, sym, ap, subst, arith, codes}
+use Rattle.std.proofs.Common.{◌≡◌, ℕ, ◌+◌, ◌≤◌, List, [], ◌∷◌, ◌++◌, map, length, length-append, Some, None, refl, sym, ap, subst, arith, codes}
 use Rattle.std.specs.Prelude.{Ok, Err}
 use Rattle.std.specs.List.{AllByRecursion}
 use Rattle.dj_names.specs.trusted.Types.{Name}
@@ -9,7 +9,7 @@ use Rattle.dj_pool.specs.trusted.Pool.{Constant, Utf8, Class, NameAndType, Metho
 use Rattle.dj_declarations.specs.trusted.Files.{type_in, desc_in}
 use Rattle.dj_rename.specs.declared.error.RenameError.TheVariants as errors
 use Rattle.dj_rename.specs.Names.{renamed_class, renamed_desc}
-use Rattle.dj_rename.specs.Pools.{Need, needs, first_places, appended_texts, renamed_constant, renamed_pool, accounter_constants, first_index, rewritten_pool, IsFull, IsLongText}
+use Rattle.dj_rename.specs.Pools.{Need, needs, first_places, appended_texts, renamed_constant, renamed_pool, accounter_constants, first_index, rewritten_pool, IsLongText}
 use Rattle.dj_rename.specs.Refusals.{refusal_at, AppendsAccounter, RefusesAccounter}
 use Rattle.dj_rename.proofs.PoolLaws.{length_map}
 

@@ -1,17 +1,14 @@
 -- The steps of rewriting a Code attribute.
-use Rattle.std.proofs.Common.{◌≡◌, ℕ, zero, suc, ◌<◌, ◌≤◌, pos, List, [], ◌∷◌, length, slice_get, Some, None, refl, ap, subst, arith, codes, inl, inr}
+use Rattle.std.proofs.Common.{◌≡◌, ℕ, zero, suc, ◌<◌, List, [], ◌∷◌, length, slice_get, Some, refl, ap, subst, arith, codes, inl, inr}
 use Rattle.std.specs.Prelude.{Ok, Err, slice_index_or}
 use Rattle.dj_ops.specs.declared.instruction.Instr.TheVariants as instrs
 use Rattle.dj_ops.specs.trusted.Forms.{form_of}
 use Rattle.dj_labels.specs.declared.labelled.Labelled.{Labelled}
 use Rattle.dj_layout.specs.declared.errors.LayError.{LayError}
 use Rattle.dj_layout.specs.declared.errors.LayError.TheVariants as lay_errors
-use Rattle.dj_layout.specs.declared.laid.Laid.{Laid}
 use Rattle.dj_layout.specs.trusted.Faults.{Reaches}
 use Rattle.dj_layout.specs.Faults.{IsFirstPast, IsFirstFar, Refuses}
 use Rattle.dj_pool.specs.trusted.Pool.{Constant, Utf8}
-use Rattle.dj_class.specs.trusted.ClassFile.{AttributeInfo}
-use Rattle.dj_class.specs.trusted.Code.{CodeInfo}
 use Rattle.dj_groups.specs.Groups.{Allocations, ObjectBytes, Record, Kept, Group, inserted, start}
 use Rattle.dj_groups.specs.Grouped.{labels_in_groups}
 use Rattle.dj_rewritten.specs.TooLarge.{HasBigObject, LacksRoom}
@@ -107,9 +104,11 @@ first_far number h = go number h.first.found where
   go (suc n) e = absurd cc
 
 pub has_room : LacksRoom one_return → ⊥
-has_room (lay_errors.TooLong number, h) = first_past number h
-has_room (lay_errors.Far number, h) = first_far number h
-has_room (lay_errors.Memory, h) = h
+has_room lacks = go lacks.0 lacks.1 where
+  go : (e : LayError) → Refuses one_return e → ⊥
+  go (lay_errors.TooLong number) h = first_past number h
+  go (lay_errors.Far number) h = first_far number h
+  go lay_errors.Memory h = h
 
 short_not_refused : AnswersLaid one_return (Err errors.TooLarge) → ⊥
 short_not_refused lacks = has_room lacks
