@@ -1,9 +1,9 @@
 -- Groups: what is inserted, and in which order, where an instruction is a handler's first and pays too, and where code has several rows.
-use Rattle.std.proofs.Common.{◌≡◌, ℕ, pos, List, [], ◌∷◌, map, None, refl}
+use Rattle.std.proofs.Common.{◌≡◌, ℕ, true, false, pos, List, [], ◌∷◌, map, None, refl, ap, arith}
 use Rattle.dj_ops.specs.declared.instruction.Instr.TheVariants as instrs
+use Rattle.dj_labels.specs.declared.labelled.Protected.{Protected}
 use Rattle.dj_labels.specs.declared.labelled.Labelled.{Labelled}
 use Rattle.dj_model.specs.trusted.Instructions.{Other, Nothing}
-use Rattle.dj_model.specs.trusted.Program.{Range}
 use Rattle.dj_groups.specs.Groups.{Jumps, Invocations, Throws, Catches, Copy, Record, Kept, Group, inserted, charge_of, start, cut}
 use Rattle.dj_groups.specs.Rewritten.{range_pieces}
 use Rattle.dj_groups.specs.Grouped.{labels_in_groups}
@@ -48,12 +48,17 @@ unfolding labels_in_groups start cut
 rows_cut = refl
 
 -- the same rows of the model's code
-rows_cut_too : map (λ (r : Range). (r.start, (r.end, r.handler))) (range_pieces three (record { start = 0; end = 3; handler = 1; catches = None })) ≡ (0, (1, 1)) ∷ (5, (7, 1)) ∷ []
+rows_cut_too : range_pieces three (record { start = 0; end = 3; handler = 1; catches = None })
+    ≡ record { start = 0; end = 1; handler = 1; catches = None } ∷ record { start = 5; end = 7; handler = 1; catches = None } ∷ []
 unfolding start cut
 rows_cut_too = refl
+
+abbrev first_start : List Protected → ℕ
+first_start [] = 9
+first_start (range ∷ ranges) = range.start
 
 last_row_first : (labels_in_groups 10 three two_rows).ranges
     ≡ record { start = 5; end = 6; handler = 1; catch_type = 0 }
     ∷ record { start = 0; end = 1; handler = 1; catch_type = 7 } ∷ record { start = 5; end = 7; handler = 1; catch_type = 7 } ∷ [] → ⊥
 unfolding labels_in_groups start cut
-last_row_first e = absurd cc
+last_row_first e = let same : 0 ≡ 5 = ap first_start e in absurd (omega (arith, same))

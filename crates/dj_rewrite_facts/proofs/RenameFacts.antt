@@ -60,7 +60,7 @@ begins_after : (now : List Constant) → AppendsAccounter [] now (Ok 0) → ⊥
 begins_after now answer = let e : 0 ≡ 1 = answer.0 in absurd (omega (arith, e))
 
 not_appended : (pool : List Constant) (first : ℕ) → AppendsAccounter pool pool (Ok first) → ⊥
-not_appended pool first answer = let e = ap length answer.1.0 in absurd (omega (arith, e, with_them pool first))
+not_appended pool first answer = let e = ap length answer.1 in absurd (omega (arith, e, with_them pool first))
 
 -- ---- why a rewritten pool lacks them
 

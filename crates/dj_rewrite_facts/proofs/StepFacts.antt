@@ -1,5 +1,5 @@
 -- The steps of rewriting a Code attribute.
-use Rattle.std.proofs.Common.{◌≡◌, ℕ, zero, suc, ◌<◌, List, [], ◌∷◌, length, slice_get, Some, refl, ap, subst, arith, codes, inl, inr}
+use Rattle.std.proofs.Common.{◌≡◌, ℕ, zero, suc, false, ◌<◌, List, [], ◌∷◌, length, slice_get, Some, refl, ap, subst, arith, codes, inl, inr}
 use Rattle.std.specs.Prelude.{Ok, Err, slice_index_or}
 use Rattle.dj_ops.specs.declared.instruction.Instr.TheVariants as instrs
 use Rattle.dj_ops.specs.trusted.Forms.{form_of}
