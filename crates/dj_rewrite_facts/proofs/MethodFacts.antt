@@ -178,7 +178,7 @@ no_body_made : (code : CodeBody) → RewritesMethod [] names 4 (abstract_method 
 no_body_made code has = let none : [] ≡ has.attribute ∷ [] = has.one in absurd cc
 
 not_large : RewritesMethod [] names 4 (abstract_method variables) (Err errors.TooLarge) → ⊥
-not_large large = absurd (omega (arith, large.code.own.own.1.0))
+not_large large = absurd (omega (arith, large.code.own.own.1))
 
 -- ---- methods that are too large
 
@@ -202,7 +202,7 @@ abstract_whole (inr (inr (body, (k, less, e), faulty))) = absurd (omega (arith, 
 abstract_known : IsKnownMethod [] names (abstract_method variables)
 abstract_known = record {
   whole = abstract_whole;
-  news = λ parts code. absurd (omega (arith, code.own.own.1.0));
+  news = λ parts code. absurd (omega (arith, code.own.own.1));
   short = (omega arith, tt);
 }
 
@@ -221,7 +221,7 @@ class_names = Utf8 (codes "A") ∷ Class 1 ∷ []
 
 unknown_class : (m : MemberInfo) → IsMethodCode class_names m making → IsKnownMethod [] class_names m → ⊥
 unfolding code_in instruction_of simple type_in reads_class_name
-unknown_class m code known = let there = (known.news making code).0.1.1 in absurd cc
+unknown_class m code known = let there = (known.news making code).0.2 in absurd cc
 
 -- ---- what is known of code
 
