@@ -17,6 +17,7 @@ use Rattle.dj_frames.specs.trusted.Written.{frames_bytes}
 use Rattle.dj_early_rules.specs.trusted.Malformed.{IsFaultyMethod}
 use Rattle.dj_model.specs.trusted.Opcodes.{instruction_of, simple}
 use Rattle.dj_declarations.specs.trusted.Files.{type_in}
+use Rattle.dj_program.specs.trusted.Naming.{named_by}
 use Rattle.dj_program.specs.trusted.Codes.{CodeParts, code_in, IsMethodCode}
 use Rattle.dj_program.proofs.Once.{one_parts}
 use Rattle.dj_groups.specs.Groups.{Group, groups_of, start}
@@ -136,6 +137,7 @@ abbrev body_of : CodeInfo → CodeBody
 body_of info = record { name = 1; body = code_info_bytes info }
 
 rewritten : RewritesMethod [] names 4 (method (returning 2 variables)) (Ok (Some (body_of (returning 4 []))))
+unfolding own_code
 rewritten = record {
   attribute = record { name = 1; body = code_info_bytes (returning 2 variables) };
   one = refl;
@@ -220,7 +222,7 @@ abbrev class_names : List Constant
 class_names = Utf8 (codes "A") ∷ Class 1 ∷ []
 
 unknown_class : (m : MemberInfo) → IsMethodCode class_names m making → IsKnownMethod [] class_names m → ⊥
-unfolding code_in instruction_of simple type_in reads_class_name
+unfolding code_in instruction_of simple named_by type_in reads_class_name
 unknown_class m code known = let there = (known.news making code).0.2 in absurd cc
 
 -- ---- what is known of code
