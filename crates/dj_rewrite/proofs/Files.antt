@@ -1,8 +1,8 @@
 -- The whole file.
-use Rattle.std.proofs.Common.{◌≡◌, ◌≢◌, ℕ, zero, suc, ◌+◌, ◌<◌, ◌≤◌, ◌^◌, ◌⊎◌, ◌↔◌, Bool, true, false, List, [], ◌∷◌, ◌++◌, map, filter, take, drop, length, refl, sym, ap, ap₂, subst, ◌∙◌, arith, inl, inr, codes, IsTrue}
+use Rattle.std.proofs.Common.{◌≡◌, ◌≢◌, ℕ, zero, suc, ◌+◌, ◌<◌, ◌≤◌, ◌⊎◌, true, false, List, [], ◌∷◌, ◌++◌, map, filter, drop, length, refl, sym, ap, ap₂, subst, ◌∙◌, arith, inl, inr, codes, IsTrue}
 use Rattle.std.specs.Prelude.{Contains}
 use Rattle.std.specs.List.{AllByRecursion}
-use Rattle.dj_pool.specs.trusted.Pool.{Constant, IsPool}
+use Rattle.dj_pool.specs.trusted.Pool.{Constant}
 use Rattle.dj_class.specs.trusted.ClassFile.{AttributeInfo, MemberInfo, ClassFile, NamesClass, IsValid, IsField, IsMethod, class_bytes}
 use Rattle.dj_class.specs.trusted.Code.{CodeInfo, IsCode, code_info_bytes}
 use Rattle.dj_class.proofs.CodeLaws.{one_code}
@@ -13,18 +13,18 @@ use Rattle.dj_early_rules.specs.trusted.Code.{IsCodeOf}
 use Rattle.dj_early_rules.specs.trusted.Malformed.{IsFaultyMethod}
 use Rattle.dj_model.specs.trusted.Program.{Program}
 use Rattle.dj_groups.specs.Grouped.{labels_in_groups}
-use Rattle.dj_program.specs.trusted.Codes.{CodeParts, code_in, IsMethodCode}
+use Rattle.dj_program.specs.trusted.Codes.{CodeParts, IsMethodCode}
 use Rattle.dj_program.specs.trusted.Programs.{AreSideBySide}
 use Rattle.dj_program.proofs.Once.{one_code_parts}
-use Rattle.dj_rename.specs.Pools.{appended_texts, first_index, renamed_descs, rewritten_pool}
+use Rattle.dj_rename.specs.Pools.{rewritten_pool}
 use Rattle.dj_rewritten.specs.Files.{desc_indexes, new_desc, without_synchronized, rewritten_map, rewritten_field, IsRewrittenCode, IsRewrittenBody, IsRewrittenMethod, IsRewrittenFile}
-use Rattle.dj_rewritten.specs.TooLarge.{first_of_class, DoesNotFit, HasLargePool, IsTooLargeMethod, HasLargeMethod, IsLargeFile, IsTooLargeClass}
+use Rattle.dj_rewritten.specs.TooLarge.{first_of_class, HasLargePool, IsTooLargeMethod, HasLargeMethod, IsTooLargeClass}
 use Rattle.dj_rewritten.proofs.Bodies.{bodies_filtered}
-use Rattle.dj_rewrite_code.specs.Answers.{groups_by, IsKnownMethod, HasRewrittenBody, HasLargeCode}
+use Rattle.dj_rewrite_code.specs.Answers.{groups_by, IsKnownMethod}
 use Rattle.dj_rewrite.specs.declared.answers.MethodAnswer.{MethodAnswer}
 use Rattle.dj_rewrite.specs.declared.answers.MethodAnswer.TheVariants as answers
 use Rattle.dj_rewrite.specs.Answers.{desc_of, IsKnownClass, AnswersMethod, AreAnswers, HasLarge, WritesFile}
-use Rattle.dj_rewrite.specs.Members.{fields_with, methods_with}
+use Rattle.dj_rewrite.specs.Members.{methods_with}
 use Rattle.dj_rewrite.specs.Steps.{IsNewPool, new_file, TellsMethod, TellsFile}
 use Rattle.dj_rewrite.proofs.NewMembers.{length_map, new_of, fields_are, methods_are, method_descs, as_many_answers}
 use Rattle.dj_rewrite.proofs.Validity.{class_there, classes_there, fields_valid, methods_valid}

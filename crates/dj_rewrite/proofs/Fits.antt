@@ -1,5 +1,5 @@
 -- What fits doesn't depend on where the accounter's constants begin.
-use Rattle.std.proofs.Common.{◌≡◌, ℕ, zero, suc, ◌+◌, ◌<◌, ◌≤◌, ◌⊎◌, ℤ, List, [], ◌∷◌, map, take, length, zip, Some, slice_get, refl, sym, ap, subst, ◌∙◌, arith, inl, inr}
+use Rattle.std.proofs.Common.{◌≡◌, ℕ, zero, suc, ◌+◌, ◌<◌, ◌≤◌, ℤ, List, [], ◌∷◌, map, take, length, zip, Some, slice_get, refl, sym, ap, subst, ◌∙◌, arith, inl, inr}
 use Rattle.std.specs.List.{AllByRecursion}
 use Rattle.std.proofs.lemmas.List.{take_all, length-map}
 use Rattle.std.proofs.lemmas.Option.{none-some, same_Some}
@@ -7,7 +7,7 @@ use Rattle.dj_ops.specs.declared.instruction.Instr.{Instr}
 use Rattle.dj_ops.specs.trusted.Instructions.{length_at}
 use Rattle.dj_labels.specs.declared.labelled.Labelled.{Labelled}
 use Rattle.dj_labels.specs.trusted.Targets.{with_targets}
-use Rattle.dj_labels.specs.trusted.Labels.{addressed, address_of}
+use Rattle.dj_labels.specs.trusted.Labels.{address_of}
 use Rattle.dj_labels.specs.Faults.{IsFirstWithout}
 use Rattle.dj_layout.specs.declared.errors.LayError.{LayError}
 use Rattle.dj_layout.specs.declared.errors.LayError.TheVariants as errors
@@ -16,9 +16,9 @@ use Rattle.dj_layout.specs.trusted.Layouts.{placed, most_bytes}
 use Rattle.dj_layout.specs.trusted.Faults.{Reaches}
 use Rattle.dj_layout.specs.Faults.{IsFirstPast, IsFirstFar, Refuses}
 use Rattle.dj_groups.specs.Groups.{Group, start}
-use Rattle.dj_groups.specs.Grouped.{inserted_instr, own_instr, labels_in_groups}
+use Rattle.dj_groups.specs.Grouped.{own_instr, labels_in_groups}
 use Rattle.dj_program.specs.trusted.Codes.{CodeParts}
-use Rattle.dj_rewritten.specs.TooLarge.{LacksRoom, DoesNotFit}
+use Rattle.dj_rewritten.specs.TooLarge.{DoesNotFit}
 use Rattle.dj_rewritten.proofs.Indexes.{AreAlike, regrouped_alike, same_starts, same_ends, same_reach}
 
 -- ---- lists

@@ -1,5 +1,5 @@
 -- The least of what doesn't fit, and what is known of the classes so far.
-use Rattle.std.proofs.Common.{◌≡◌, ℕ, ◌+◌, ◌<◌, ◌≤◌, ◌⊎◌, Bool, true, false, List, [], ◌∷◌, ◌++◌, map, take, length, get_or, Option, Some, None, refl, sym, ap, subst, ◌∙◌, arith, inl, inr, Contains, IsPermutation, IsSorted, if◌then◌else◌}
+use Rattle.std.proofs.Common.{◌≡◌, ℕ, ◌+◌, ◌<◌, ◌≤◌, ◌⊎◌, Bool, true, false, List, [], ◌∷◌, ◌++◌, map, take, length, get_or, Option, Some, None, refl, sym, ap, subst, ◌∙◌, inl, inr, Contains, IsPermutation, IsSorted, if◌then◌else◌}
 use Rattle.std.specs.declared.cmp.Ordering.{Ordering}
 use Rattle.std.specs.declared.cmp.Ordering.TheVariants.{Less, Equal, Greater}
 use Rattle.std.specs.Ordering.{nat_cmp, is_gt, is_lt, ordering_then, ordering_reverse}
@@ -20,7 +20,7 @@ use Rattle.dj_program.specs.trusted.Programs.{AreSideBySide}
 use Rattle.dj_rewrite.specs.declared.least.Part.{Part}
 use Rattle.dj_rewrite.specs.declared.rewritten.RewrittenFile.{RewrittenFile}
 use Rattle.dj_rewrite.specs.declared.set.Progress.{Progress}
-use Rattle.dj_rewrite.specs.Answers.{WritesFile, AreTooLarge}
+use Rattle.dj_rewrite.specs.Answers.{AreTooLarge}
 use Rattle.dj_rewrite.specs.Rule.{IsTooLargeIn}
 use Rattle.dj_rewrite.specs.Sets.{file_cmp, IsFileOf, AreRewritten, part_cmp, IsTooLargePart, IsLeastTooLarge}
 use Rattle.dj_rewrite.specs.Steps.{part_of, lesser_text, IsLeastUpTo, IsLeastText, IsLeastPart, lesser_of, IsLeastSoFar, IsProgress}

@@ -1,18 +1,16 @@
 -- The members of a rewritten class are the rewritten members.
-use Rattle.std.proofs.Common.{◌≡◌, ℕ, zero, suc, ◌+◌, ◌<◌, ◌≤◌, Bool, true, false, List, [], ◌∷◌, ◌++◌, map, filter, take, drop, length, get_or, refl, sym, ap, ap₂, subst, ◌∙◌, arith, codes, if◌then◌else◌}
-use Rattle.std.specs.Prelude.{Contains}
+use Rattle.std.proofs.Common.{◌≡◌, ℕ, zero, suc, ◌+◌, ◌<◌, ◌≤◌, true, false, List, [], ◌∷◌, ◌++◌, map, take, drop, length, get_or, refl, sym, ap, ap₂, subst, ◌∙◌, arith}
 use Rattle.std.specs.List.{AllByRecursion, list_any}
 use Rattle.std.proofs.lemmas.List.{map-append, take_more}
 use Rattle.dj_pool.specs.trusted.Pool.{Constant}
 use Rattle.dj_class.specs.declared.class.MemberView.{MemberView}
 use Rattle.dj_class.specs.Members.{member_of}
 use Rattle.dj_class.specs.trusted.ClassFile.{AttributeInfo, MemberInfo, ClassFile}
-use Rattle.dj_early_rules.specs.trusted.Attributes.{is_named}
 use Rattle.dj_model.specs.trusted.Program.{Program}
 use Rattle.dj_program.specs.trusted.Programs.{AreSideBySide}
 use Rattle.dj_rename.specs.Pools.{desc_need, new_index, appended_texts, first_index, renamed_descs}
 use Rattle.dj_rewritten.specs.Files.{desc_indexes, new_desc, rewritten_field, IsRewrittenBody, IsRewrittenMethod}
-use Rattle.dj_rewrite_code.specs.Answers.{attribute_in, HasRewrittenBody}
+use Rattle.dj_rewrite_code.specs.Answers.{attribute_in}
 use Rattle.dj_rewrite.specs.declared.answers.MethodAnswer.{MethodAnswer}
 use Rattle.dj_rewrite.specs.declared.answers.MethodAnswer.TheVariants as answers
 use Rattle.dj_rewrite.specs.Answers.{desc_of, AnswersMethod, AreAnswers, HasLarge}

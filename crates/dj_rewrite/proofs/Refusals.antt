@@ -1,15 +1,14 @@
 -- Why a class's constants don't fit, as renaming tells it.
-use Rattle.std.proofs.Common.{◌≡◌, ℕ, zero, suc, ◌+◌, ◌<◌, ◌≤◌, ◌^◌, ◌⊎◌, Bool, true, false, not, ◌&&◌, List, [], ◌∷◌, ◌++◌, map, filter, length, length-append, Option, Some, None, nat_lt, refl, sym, ap, subst, ◌∙◌, arith, inl, inr, if◌then◌else◌}
+use Rattle.std.proofs.Common.{◌≡◌, ℕ, suc, ◌+◌, ◌<◌, ◌≤◌, ◌^◌, Bool, true, false, not, ◌&&◌, List, [], ◌∷◌, ◌++◌, map, filter, length, length-append, Option, Some, None, nat_lt, refl, sym, ap, subst, ◌∙◌, arith, inl, inr, if◌then◌else◌}
 use Rattle.std.specs.List.{list_any, AllByRecursion}
 use Rattle.std.proofs.lemmas.Bool.{ltb-true, ltb-false}
-use Rattle.std.proofs.lemmas.Option.{none-some}
 use Rattle.dj_names.specs.trusted.Types.{Name, same_name}
 use Rattle.dj_pool.specs.trusted.Pool.{Constant, Utf8, IsPool}
 use Rattle.dj_pool.specs.Answers.{last_index}
 use Rattle.dj_class.specs.trusted.ClassFile.{ClassFile}
 use Rattle.dj_rename.specs.declared.error.RenameError.{RenameError}
 use Rattle.dj_rename.specs.declared.error.RenameError.TheVariants as errors
-use Rattle.dj_rename.specs.Pools.{Need, needs, is_changed, first_places, need_text, appended_texts, renamed_constant, renamed_pool, accounter_constants, first_index, renamed_descs, rewritten_pool, IsLongText, IsFull}
+use Rattle.dj_rename.specs.Pools.{Need, needs, is_changed, first_places, need_text, appended_texts, renamed_constant, renamed_pool, accounter_constants, first_index, renamed_descs, rewritten_pool}
 use Rattle.dj_rename.specs.Refusals.{most_bytes, refusal_at, first_error, refusal_from, refusal, AreAppended}
 use Rattle.dj_rewritten.specs.Files.{desc_indexes}
 use Rattle.dj_rewritten.specs.TooLarge.{first_of_class, HasLargePool}

@@ -3,7 +3,7 @@ use Rattle.std.proofs.Common.{◌≡◌, ℕ, zero, suc, List, [], ◌∷◌, No
 use Rattle.std.specs.declared.cmp.Ordering.TheVariants.{Less, Greater}
 use Rattle.std.proofs.lemmas.List.Sorted.{Contains-permutation, IsPermutation-refl}
 use Rattle.dj_names.specs.trusted.Types.{Name}
-use Rattle.dj_pool.specs.trusted.Pool.{Constant, Utf8, Class}
+use Rattle.dj_pool.specs.trusted.Pool.{Utf8, Class}
 use Rattle.dj_class.specs.trusted.ClassFile.{MemberInfo, ClassFile}
 use Rattle.dj_report.proofs.Sorted.{contains_first, contains_later, contains_none}
 use Rattle.dj_report.specs.declared.report.Violation.{Violation}

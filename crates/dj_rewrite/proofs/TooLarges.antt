@@ -12,7 +12,7 @@ use Rattle.dj_report.specs.Lines.{Adds, IsLineAmong}
 use Rattle.dj_report.proofs.Adding.{adds_same, adds_nothing, among_map, exactly_found}
 use Rattle.dj_model.specs.trusted.Program.{Program}
 use Rattle.dj_rewrite.specs.Answers.{WritesFile, AreTooLarge}
-use Rattle.dj_rewrite.specs.Rule.{line_of, IsTooLargeIn, IsTooLargeLineIn, IsTooLargeLine}
+use Rattle.dj_rewrite.specs.Rule.{line_of, IsTooLargeLineIn, IsTooLargeLine}
 
 pub no_lines : (program : Program) (c : ClassFile) (bytes : List ℕ) (found : List Violation) → WritesFile program c bytes → Adds (IsTooLargeLineIn program c) found found
 no_lines program c bytes found written = adds_nothing (IsTooLargeLineIn program c) found fits where

@@ -1,5 +1,5 @@
 -- A rewritten file is a valid class file.
-use Rattle.std.proofs.Common.{◌≡◌, ℕ, zero, suc, ◌+◌, ◌<◌, ◌≤◌, ◌^◌, ◌⊎◌, Bool, true, false, List, [], ◌∷◌, ◌++◌, map, filter, length, Option, Some, None, refl, sym, ap, subst, ◌∙◌, arith, inl, inr, codes, if◌then◌else◌}
+use Rattle.std.proofs.Common.{◌≡◌, ℕ, zero, suc, ◌+◌, ◌<◌, ◌≤◌, ◌^◌, Bool, true, false, List, [], ◌∷◌, ◌++◌, map, filter, length, Option, Some, refl, sym, ap, subst, ◌∙◌, arith, codes, if◌then◌else◌}
 use Rattle.std.specs.Prelude.{⊤, All, Contains, IsSomeAnd}
 use Rattle.std.specs.Option.{option_map}
 use Rattle.std.specs.Int.Bits.{bit_and}
@@ -12,22 +12,20 @@ use Rattle.dj_names.specs.Types.{in_sandbox}
 use Rattle.dj_names.specs.trusted.Names.{IsUnqualifiedName, IsMethodName, IsClassName}
 use Rattle.dj_names.specs.trusted.Descriptors.{IsFieldDescriptor, IsMethodDescriptor}
 use Rattle.dj_pool.specs.trusted.Pool.{Constant, constant_at, text_at, class_name_at, NamesText, IsLinked, IsPool}
-use Rattle.dj_class.specs.trusted.ClassFile.{AttributeInfo, MemberInfo, ClassFile, NamesClass, IsAttribute, AreAttributes, IsMember, IsField, IsMethod, IsValid}
+use Rattle.dj_class.specs.trusted.ClassFile.{AttributeInfo, MemberInfo, ClassFile, NamesClass, IsAttribute, AreAttributes, IsField, IsMethod, IsValid}
 use Rattle.dj_early_rules.specs.trusted.Attributes.{is_named}
 use Rattle.dj_model.specs.trusted.Program.{Program}
-use Rattle.dj_program.specs.trusted.Programs.{AreSideBySide}
 use Rattle.dj_rename.specs.Names.{renamed_desc}
-use Rattle.dj_rename.specs.Pools.{desc_need, appended_texts, first_index, rewritten_pool}
+use Rattle.dj_rename.specs.Pools.{desc_need, rewritten_pool}
 use Rattle.dj_rename.specs.Refusals.{IsDescriptor, IsDescIndex}
 use Rattle.dj_rename.proofs.NameLaws.{sandbox_name}
 use Rattle.dj_rename.proofs.PoolLaws.{text_kept, need_met, in_name}
-use Rattle.dj_rewritten.specs.Files.{desc_indexes, without_synchronized, new_desc, rewritten_field}
+use Rattle.dj_rewritten.specs.Files.{desc_indexes, new_desc, rewritten_field}
 use Rattle.dj_rewritten.proofs.Kept.{there}
 use Rattle.dj_rewritten.proofs.Heads.{class_read}
 use Rattle.dj_rewritten.proofs.Valid.{field_renamed, method_renamed}
 use Rattle.dj_rewritten.proofs.Fields.{IsKnown}
 use Rattle.dj_rewritten.proofs.ReadBack.{linked, field_known, method_known}
-use Rattle.dj_rewrite_code.specs.Answers.{attribute_in, HasRewrittenBody}
 use Rattle.dj_rewrite.specs.declared.answers.MethodAnswer.{MethodAnswer}
 use Rattle.dj_rewrite.specs.declared.answers.MethodAnswer.TheVariants as answers
 use Rattle.dj_rewrite.specs.Answers.{desc_of, AnswersMethod, AreAnswers}

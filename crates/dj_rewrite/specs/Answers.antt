@@ -1,5 +1,5 @@
 -- What becomes of a class file that is rewritten.
-use Rattle.std.specs.Prelude.{◌≡◌, ◌↔◌, ℕ, ◌<◌, List, [], ◌∷◌, filter, length, codes, Contains}
+use Rattle.std.specs.Prelude.{◌≡◌, ◌↔◌, ℕ, ◌<◌, List, [], filter, length, codes, Contains}
 use Rattle.std.specs.List.{AllByRecursion}
 use Rattle.dj_names.specs.trusted.Types.{Name}
 use Rattle.dj_pool.specs.trusted.Pool.{Constant}

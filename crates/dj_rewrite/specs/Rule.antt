@@ -1,5 +1,5 @@
 -- Rule 21, TOO_LARGE: what of a rewritten class doesn't fit a class file.
-use Rattle.std.specs.Prelude.{◌≡◌, ℕ, ◌⊎◌, List, [], ◌++◌, codes, Contains, None}
+use Rattle.std.specs.Prelude.{◌≡◌, ◌⊎◌, List, [], ◌++◌, codes, Contains, None}
 use Rattle.std.specs.Char.Utf16.{utf16_lossy_chars}
 use Rattle.std.specs.Str.{encode_utf8_all}
 use Rattle.dj_names.specs.trusted.Types.{Name}

@@ -1,6 +1,5 @@
 use Rattle.std.proofs.Common.{◌≡◌, ℕ, List, take, drop, length, ap, ap₂, sym, ◌∙◌, arith}
-use Rattle.dj_class.specs.trusted.ClassFile.{MemberInfo, ClassFile}
-use Rattle.dj_class.specs.Views.{class_of}
+use Rattle.dj_class.specs.trusted.ClassFile.{MemberInfo}
 use Rattle.dj_rewrite.specs.Members.{fields_with, methods_with}
 use Rattle.dj_rewrite.proofs.NewMembers.{count_of}
 use Rattle.dj_rewrite.proofs.file.new_view.Goals as goal

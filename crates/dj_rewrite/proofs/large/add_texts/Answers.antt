@@ -1,4 +1,4 @@
-use Rattle.std.proofs.Common.{◌≡◌, length, ap, arith}
+use Rattle.std.proofs.Common.{length, ap, arith}
 use Rattle.dj_names.specs.trusted.Names.{IsMethodName}
 use Rattle.dj_names.specs.trusted.Descriptors.{IsMethodDescriptor}
 use Rattle.dj_class.specs.Members.{member_of}

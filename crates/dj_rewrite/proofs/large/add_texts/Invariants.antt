@@ -1,5 +1,4 @@
-use Rattle.std.proofs.Common.{map, take, zip}
-use Rattle.dj_class.specs.Members.{member_of}
+use Rattle.std.proofs.Common.{take, zip}
 use Rattle.dj_report.specs.Lines.{Gains}
 use Rattle.dj_report.proofs.Adding.{IsAmong}
 use Rattle.dj_rewrite.specs.Steps.{IsLargeText}

@@ -1,4 +1,4 @@
-use Rattle.std.proofs.Common.{◌≡◌, List, ℕ, sym, subst, ◌∙◌, None}
+use Rattle.std.proofs.Common.{◌≡◌, sym, subst, ◌∙◌, None}
 use Rattle.dj_names.specs.trusted.Types.{Name}
 use Rattle.dj_names.specs.trusted.ModifiedUtf8.{IsModifiedUtf8}
 use Rattle.dj_class.specs.Views.{class_of}

@@ -1,4 +1,4 @@
-use Rattle.std.proofs.Common.{◌<◌, ℕ, List, [], ◌∷◌, ◌++◌, length, ap₂, sym, ◌∙◌, arith}
+use Rattle.std.proofs.Common.{◌<◌, List, [], ◌∷◌, ◌++◌, length, ap₂, sym, ◌∙◌, arith}
 use Rattle.dj_class.specs.trusted.ClassFile.{MemberInfo}
 use Rattle.dj_rewrite.proofs.NewMembers.{methods_more, methods_all}
 use Rattle.dj_rewrite.proofs.members.methods_with.Goals as goal

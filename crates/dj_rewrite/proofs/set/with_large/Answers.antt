@@ -1,4 +1,4 @@
-use Rattle.std.proofs.Common.{◌≡◌, Some, ap}
+use Rattle.std.proofs.Common.{Some, ap}
 use Rattle.dj_class.specs.Views.{class_of}
 use Rattle.dj_rewrite.specs.declared.least.Part.{Part}
 use Rattle.dj_rewrite.specs.declared.set.Progress.{Progress}
