@@ -142,8 +142,8 @@ module _ (program : Program) (done : List ClassFile) (c : ClassFile) (texts : Li
       such = own_part program done c (part_of part) own_such;
       least = λ other is. elim (narrowed program done c other is) [
         | inl old ↦ upto part_cmp_total (part_of part) (part_of least) other
-          (turned (part_cmp (part_of least) (part_of part)) (part_cmp (part_of part) (part_of least)) (part_cmp_total.antisymm (part_of part) (part_of least)) e)
-          (before.least other old)
+            (turned (part_cmp (part_of least) (part_of part)) (part_cmp (part_of part) (part_of least)) (part_cmp_total.antisymm (part_of part) (part_of least)) e)
+            (before.least other old)
         | inr new ↦ own_least other new
       ];
     }
